@@ -1,0 +1,140 @@
+-- The places of a tree list and of its flat form correspond. Assumes nothing.
+use Prim.Native.Nat.{ℕ, zero, suc, _+_, _*_, _/_, _%_, _≤_, _<_, _^_}
+use native.Mathlib.Omega.{arith}
+use mathlib.Core.Path.{_≡_, refl, sym, ap, _∙_, subst}
+use mathlib.Core.Bool.{Bool, true, false, cond, not}
+use mathlib.Core.List.{List, [], _∷_, _++_, append-assoc}
+use lib.Dec.{T, ltb, leb, eqb, eqb→eq, eqb-refl, ltb→lt, lt→ltb}
+use lib.ListN.{length, drop, take, length-append, length-drop}
+use lib.Seq.{drop-drop, drop-append-seam, take-append-seam}
+use Rattle.files.specs.Code.{Code, done, neutral, return, call, unless-false, make-cont, bits}
+use Rattle.files.specs.Entries.{Entry}
+use Rattle.files.specs.Grammar.{isClosed}
+use Rattle.files.specs.Flat.{flat}
+use Rattle.machines.specs.Fetched.{Fetched, plain, returns, calls, branches, saves, jumps, bad, plainly, resolve, openCount, first, look}
+use Rattle.agree.specs.Suits.{is-true, is-false, Ok}
+
+eqb-same : (n : ℕ) → eqb n n ≡ true
+eqb-same n = is-true _ (eqb-refl n)
+
+eqb-past : (s p : ℕ) → s < p → eqb p s ≡ false
+eqb-past s p h = is-false _ λ t. let e : p ≡ s = eqb→eq p s t in omega arith
+
+ltb-yes : (p n : ℕ) → p < n → ltb p n ≡ true
+ltb-yes p n h = is-true _ (lt→ltb p n h)
+
+ltb-no : (p n : ℕ) → n ≤ p → ltb p n ≡ false
+ltb-no p n h = is-false _ λ t. let e : p < n = ltb→lt p n t in omega arith
+
+pub some-bits : (c : Code) → 5 ≤ bits c
+unfolding bits
+some-bits done = omega arith
+some-bits (neutral op ns r) = omega arith
+some-bits (return r) = omega arith
+some-bits (call n r) = omega arith
+some-bits (unless-false x y r) = omega arith
+some-bits (make-cont n x r) = omega arith
+
+module _ (W : List ℕ) where
+  -- xs stands at q
+  pub record At (q : ℕ) (xs : List ℕ) : Type 0 where
+    pub rest : List ℕ
+    pub is : drop q W ≡ xs ++ rest
+
+  pub at-skip : {q q′ : ℕ} (xs ys : List ℕ) → At q (xs ++ ys) → q + length xs ≡ q′ → At q′ ys
+  at-skip {q} {q′} xs ys a h =
+      record { rest = a .rest; is = rw (← h, ← (drop-drop (length xs) q W), a .is, append-assoc) (drop-append-seam xs (ys ++ a .rest)) }
+
+  pub at-take : {q : ℕ} (xs ys : List ℕ) → At q (xs ++ ys) → At q xs
+  at-take xs ys a = record { rest = ys ++ a .rest; is = a .is ∙ append-assoc xs ys (a .rest) }
+
+  -- what begins with a byte stands within the code
+  pub at-within : {q x : ℕ} (xs : List ℕ) → At q (x ∷ xs) → q + suc (length xs) ≤ length W
+  at-within {q} {x} xs a = omega (arith, length-drop q W, ap length (a .is), length-append (x ∷ xs) (a .rest))
+
+module _ (es : List Entry) where
+  at-head : (s : ℕ) (c : Code) (F : Fetched) → look es s c F s ≡ first es s c F
+  unfolding look first
+  at-head s done F = rw (eqb-same s)
+  at-head s (neutral op ns r) F = rw (eqb-same s)
+  at-head s (return r) F = rw (eqb-same s)
+  at-head s (call n r) F = rw (eqb-same s)
+  at-head s (unless-false x y r) F = rw (eqb-same s)
+  at-head s (make-cont n x r) F = rw (eqb-same s)
+
+  module _ (top : ℕ → Fetched) where
+    -- within the list c at s what `top` finds is what stands in c
+    pub record Sub (s : ℕ) (c : Code) (F : Fetched) : Type 0 where
+      pub within : (p : ℕ) → s ≤ p → p < s + bits c → top p ≡ look es s c F p
+      pub bound : s + bits c ≤ 2 ^ 24
+
+    pub sub-head : {s : ℕ} {c : Code} {F : Fetched} → Sub s c F → top s ≡ first es s c F
+    sub-head {s} {c} {F} u = u .within s (omega arith) (omega (arith, some-bits c)) ∙ at-head s c F
+
+    pub sub-neutral : {s op : ℕ} {ns : List ℕ} {r : Code} {F : Fetched} → Sub s (neutral op ns r) F → Sub (s + (5 + 8 * length ns)) r F
+    unfolding look bits
+    sub-neutral {s} {op} {ns} {r} {F} u =
+        record { within = λ p h l. u .within p (omega arith) (omega arith) ∙ rw (eqb-past s p (omega arith)); bound = omega (arith, u .bound) }
+
+    module _ {s : ℕ} {x y r : Code} {F : Fetched} (u : Sub s (unless-false x y r) F) where
+      pub sub-first : Sub (s + 5) x (first es (s + 5 + bits x + bits y) r F)
+      unfolding look bits
+      sub-first =
+          record {
+            within = λ p h l. u .within p (omega arith) (omega arith) ∙ rw (eqb-past s p (omega arith), ltb-yes p (s + 5 + bits x) l);
+            bound = omega (arith, u .bound);
+          }
+
+      pub sub-second : Sub (s + 5 + bits x) y (first es (s + 5 + bits x + bits y) r F)
+      unfolding look bits
+      sub-second =
+          record {
+            within = λ p h l. u .within p (omega arith) (omega arith)
+                ∙ rw (eqb-past s p (omega arith), ltb-no p (s + 5 + bits x) h, ltb-yes p (s + 5 + bits x + bits y) l);
+            bound = omega (arith, u .bound);
+          }
+
+      pub sub-rest : Sub (s + 5 + bits x + bits y) r F
+      unfolding look bits
+      sub-rest =
+          record {
+            within = λ p h l. u .within p (omega arith) (omega arith)
+                ∙ rw (eqb-past s p (omega arith), ltb-no p (s + 5 + bits x) (omega arith), ltb-no p (s + 5 + bits x + bits y) h);
+            bound = omega (arith, u .bound);
+          }
+
+    module _ {s n : ℕ} {x r : Code} {F : Fetched} (u : Sub s (make-cont n x r) F) where
+      pub sub-saved : Sub (s + 13) x F
+      unfolding look bits
+      sub-saved =
+          record {
+            within = λ p h l. u .within p (omega arith) (omega arith) ∙ rw (eqb-past s p (omega arith), ltb-yes p (s + 13 + bits x) l);
+            bound = omega (arith, u .bound);
+          }
+
+      pub sub-next : Sub (s + 13 + bits x) r bad
+      unfolding look bits
+      sub-next =
+          record {
+            within = λ p h l. u .within p (omega arith) (omega arith) ∙ rw (eqb-past s p (omega arith), ltb-no p (s + 13 + bits x) h);
+            bound = omega (arith, u .bound);
+          }
+
+    -- lin: what the linear code W says at a place
+    module _ (W : List ℕ) (lin : ℕ → Fetched) where
+      mutual
+        -- the linear code at q does what F says, and j jumps are pending before the list's end is left
+        pub data Spot : Fetched → ℕ → ℕ → Type 0 where
+          here : {k : Bool} {s : ℕ} {c : Code} {F G : Fetched} {q e j : ℕ} → G ≡ first es s c F → Ok k c → Sub s c F
+              → At W q (flat c) → q + length (flat c) ≡ e → Close k F e j → Spot G q j
+          leap : {F : Fetched} {q q′ j : ℕ} → lin q ≡ jumps q′ → Spot F q′ j → Spot F q (suc j)
+
+        -- after a closed list comes nothing, after an open one what F says
+        pub data Close : Bool → Fetched → ℕ → ℕ → Type 0 where
+          ends : {F : Fetched} {e : ℕ} → Close true F e 0
+          flows : {F : Fetched} {e j : ℕ} → Spot F e j → Close false F e j
+
+      -- a list that stands at s in the tree and at q in the linear code
+      pub stands : {k : Bool} {s : ℕ} {c : Code} {F : Fetched} {q e j : ℕ} → Ok k c → Sub s c F → At W q (flat c) → q + length (flat c) ≡ e
+          → Close k F e j → Spot (top s) q j
+      stands o u a h z = here (sub-head u) o u a h z

@@ -1,0 +1,9 @@
+-- The specs of the crate agree.
+pub mod Lockstep
+pub mod Suits
+pub mod Kept
+pub mod Layout
+pub mod Places
+pub mod Files
+pub mod Demand3
+pub mod Proved

@@ -1,0 +1,203 @@
+-- Demand 3, proved: Forward and Backward of Demand3.antt. Assumes nothing.
+use Prim.Native.Nat.{ℕ, zero, suc, _+_, _*_, _-_, _≤_, _<_, _^_}
+use native.Mathlib.Omega.{arith}
+use mathlib.Core.Path.{_≡_, refl, sym, ap, _∙_, subst}
+use mathlib.Core.Bool.{Bool, true, false, cond}
+use mathlib.Core.List.{List, [], _∷_, map}
+use mathlib.Core.Option.{Option, none, some}
+use lib.Dec.{eqb, leb}
+use lib.ListN.{length, getD, replicate, length-replicate, length-map, List·getD-map}
+use lib.Seq.{ext-getD}
+use borrow.Author.Tests.{le-leb, eq-eqb, leb-true, leb-false}
+use Rattle.cells.specs.Cells.{tagOf, frameCell, frameCount, frameTemplate, frameEnv, framePlace}
+use Rattle.cells.specs.Laws.{frame-back}
+use Rattle.cells.specs.declared.Value.{Value}
+use Rattle.files.specs.Reading.{Got, got, refused}
+use Rattle.files.specs.Tree.{Template}
+use Rattle.files.specs.Linear.{Linear, linearFile, linearRead}
+use Rattle.files.specs.Accepted.{treeChecked, flatChecked}
+use Rattle.flatten.specs.Flatten.{flattened, intoBytes}
+use Rattle.readback.specs.Templates.{linears}
+use Rattle.readback.specs.TreeFacts.{refused-got, then-led}
+use Rattle.readback.specs.ReadBack.{flat-checked, flattened-reads}
+use Rattle.rules.specs.Rules.{Data}
+use Rattle.rules.specs.Frames.{FramesR, noneF, moreF, FrameFits, Same}
+use Rattle.machines.specs.Fetched.{noTemplate, noLinear}
+use Rattle.machines.specs.Machine.{treeProgram, linearProgram, State, noCounts, Ending, halted, wrongly, spent, Ended, run}
+use Rattle.machines.specs.Runs.{Memory, Ran, ran, started, fitGlobals, startState, endOf, memoryOf, reported, programRun, onTree, onLinear, treeRun, linearRun}
+use Rattle.machines.specs.declared.End.{End}
+use Rattle.machines.specs.declared.End.the-variants.{Halted, Wrong, OutOfBudget}
+use Rattle.agree.specs.Lockstep.{Agree, Rel, EndR, Alike-ends, forward, backward}
+use Rattle.agree.specs.Kept.{same-but-places}
+use Rattle.agree.specs.Places.{Twins, Pair, pair, programs-agree}
+use Rattle.agree.specs.Files.{file-twins}
+use Rattle.agree.specs.Demand3.{aside, returned, left, linearCounts, treeCounts, EndAlike, Flattens, Startable, Ends, Forward, Backward}
+
+-- ---- frames that are the same but for their code places
+aside-frame : (n t e p : ℕ) → FrameFits n t e p → aside (frameCell n t e p) ≡ frameCell n t e 0
+unfolding aside
+aside-frame n t e p k =
+    let b = frame-back n t e p (k .n-fits) (k .t-fits) (k .e-fits) (k .p-fits) in
+    rw (eq-eqb (tagOf (frameCell n t e p)) 10 (b .4), b .0, b .1, b .2) refl
+
+by-lt : {P : Type 0} (a b : ℕ) → (a < b → P) → (b ≤ a → P) → P
+by-lt {P} a b f g = pick (leb b a) refl
+  where
+    pick : (t : Bool) → leb b a ≡ t → P
+    pick true e = g (leb-true b a e)
+    pick false e = f (leb-false b a e)
+
+halts : (e : Ending) (c : ℕ) (v : Value) → endOf e c ≡ Halted v → e ≡ halted
+unfolding endOf
+halts halted c v h = refl
+halts (wrongly n) c v h = cc
+halts spent c v h = cc
+
+spends : (e : Ending) (c : ℕ) → e ≡ spent → endOf e c ≡ OutOfBudget
+unfolding endOf
+spends e c h = rw h refl
+
+module _ (ts : List Template) (ls : List Linear) (twins : (t : ℕ) → Twins (getD ts t noTemplate) (getD ls t noLinear)) where
+  abbrev R : ℕ → ℕ → ℕ → ℕ → ℕ → Type 0
+  R = Pair ts ls twins
+
+  one-template : {t p t′ q j : ℕ} → R t p t′ q j → t ≡ t′
+  one-template (pair h z) = refl
+
+  frames-aside : {f g : List ℕ} {fr J : ℕ} → FramesR R f g fr J → (i : ℕ) → i < fr → aside (getD f i 0) ≡ aside (getD g i 0)
+  frames-aside noneF i h = absurd (omega arith)
+  frames-aside {f} {g} (moreF {base = base} {n = n} {t = t} {t′ = t′} {e = e} {p = p} {q = q} fs same x y k l r u m) i h =
+      by-lt i base
+      (λ a. frames-aside fs i a)
+      (λ a. by-lt i (base + n)
+      (λ b. let z : i ≡ base + (i - base) = omega arith in ap aside (rw z (same (i - base) (omega arith))))
+      (λ b. let z : i ≡ base + n = omega arith in
+      rw (z, x, y) (aside-frame n t e p k ∙ ap (λ t. frameCell n t e 0) (one-template r) ∙ sym (aside-frame n t′ e q l))))
+
+  frames-alike : {d d′ : Data} {J : ℕ} → Same R d d′ J → map aside (d .frames) ≡ map aside (d′ .frames)
+  unfolding aside
+  frames-alike {d} {d′} s =
+      ext-getD 0 (map aside (d .frames)) (map aside (d′ .frames))
+      (length-map (d .frames) aside ∙ s .size ∙ sym (length-map (d′ .frames) aside ∙ s .size′))
+      (λ i h. List·getD-map aside (d .frames) i 0 ∙ at i ∙ sym (List·getD-map aside (d′ .frames) i 0))
+    where
+      at : (i : ℕ) → aside (getD (d .frames) i 0) ≡ aside (getD (d′ .frames) i 0)
+      at i = by-lt i (d .fr) (λ a. frames-aside (s .frames-ok) i a) (λ a. ap aside (s .above i a))
+
+  abbrev A : Agree R (same-but-places R) 1 ⊥ (treeProgram ts) (linearProgram ls)
+  A = programs-agree ts ls twins
+
+  reported-alike : (x y : Ended) → Alike-ends R (same-but-places R) 1 ⊥ (treeProgram ts) (linearProgram ls) A x y
+      → EndAlike (reported x) (reported y) (y .counts .jumps) (x .counts .firsts)
+  unfolding reported memoryOf same-but-places
+  reported-alike x y r =
+      let e = r .related in
+      let s = e .data-ok in
+      let c = e .counts in
+      let o = c .own (λ z. z) in
+      record {
+        same-end = rw (r .same-ending, s .regs-same) refl;
+        same-globals = ap (λ m. m .globals) (s .mem-same);
+        same-stack = ap (λ m. m .stack) (s .mem-same);
+        same-store = ap (λ m. m .store) (s .mem-same);
+        same-frames = frames-alike s;
+        same-stack-used = ap (λ r. r .sp) (s .regs-same);
+        same-store-used = ap (λ r. r .st) (s .regs-same);
+        same-frames-used = s .fr-same;
+        steps = omega arith;
+        pending = e .pending + e .waiting;
+        tally = omega arith;
+        none-pending = λ v h. let q = e .quiet (halts (x .ending) (x .state .now .regs .v) v h) in omega arith;
+        bound = omega arith;
+      }
+
+  -- both start alike, with nothing pending
+  begin : (g : List ℕ) → Rel R (same-but-places R) 1 ⊥ (treeProgram ts) (linearProgram ls) A noCounts noCounts
+      (startState g (getD ts 0 noTemplate .start)) (startState g 0) 0 0
+  unfolding startState same-but-places
+  begin g = record {
+    data-ok = record {
+      regs-same = refl;
+      mem-same = refl;
+      fr-same = refl;
+      frames-ok = noneF;
+      above = λ i h. refl;
+      env-fits = omega arith;
+      size = length-replicate {A = ℕ} 2048 0;
+      size′ = length-replicate {A = ℕ} 2048 0;
+    };
+    place-ok = A .meets (A .starts {t = 0} {t′ = 0} (refl, omega arith));
+    counts = record { clock = refl; tally = refl; own = λ n. refl };
+  }
+
+-- ---- from the files' bytes
+flattens-read : (s w : List ℕ) (n q : ℕ) → flattened s n ≡ got w q → (ts : List Template) × (flatChecked s ≡ got ts q) × (w ≡ linearFile ts)
+unfolding flattened
+flattens-read s w n q e =
+    then-led (flatChecked s) _ e (λ ts r first on. let x = into (leb (length (linearFile ts)) n) on in (ts, first ∙ ap (λ z. got ts z) (x .0), x .1))
+  where
+    into : {v : List ℕ} {r : ℕ} (b : Bool) → cond b (got v r) (refused 9 (length v)) ≡ got w q → (r ≡ q) × (w ≡ v)
+    into true e = (cc, cc)
+    into false e = refused-got e
+
+module _ (m : Memory) (st : Startable m) (b : ℕ) where
+  tree-is : (s : List ℕ) {ts : List Template} {q : ℕ} → treeChecked s ≡ got ts q → b ≤ 1000000 → treeRun s b m ≡ reported (programRun (treeProgram ts) b (m .globals))
+  unfolding treeRun started fitGlobals onTree
+  tree-is s e h = rw (st .lengths, le-leb b 1000000 h, st .globals, e) refl
+
+  linear-is : (w : List ℕ) {ls : List Linear} {q : ℕ} → linearRead w ≡ got ls q → b ≤ 2000000 → linearRun w b m ≡ reported (programRun (linearProgram ls) b (m .globals))
+  unfolding linearRun started fitGlobals onLinear
+  linear-is w e h = rw (st .lengths, le-leb b 2000000 h, st .globals, e) refl
+
+module _ (s w : List ℕ) (ts : List Template) (q : ℕ) (checked : flatChecked s ≡ got ts q) (is : w ≡ linearFile ts) (m : Memory) (st : Startable m) where
+  tree-read : treeChecked s ≡ got ts q
+  tree-read = flat-checked s ts q checked
+
+  linear-read : linearRead w ≡ got (linears 1 ts) (8 * length (linearFile ts))
+  linear-read = ap linearRead is ∙ flattened-reads s ts q checked
+
+  abbrev treeEnd : ℕ → Ended
+  treeEnd b = programRun (treeProgram ts) b (m .globals)
+
+  abbrev linearEnd : ℕ → Ended
+  linearEnd b = programRun (linearProgram (linears 1 ts)) b (m .globals)
+
+  -- the ends of the two machines, as ends of the two programs
+  end-alike : (b b′ : ℕ) → b ≤ 1000000 → b′ ≤ 2000000 → EndAlike (reported (treeEnd b)) (reported (linearEnd b′)) (linearEnd b′ .counts .jumps) (treeEnd b .counts .firsts)
+      → EndAlike (treeRun s b m) (linearRun w b′ m) (linearCounts b′ (m .globals) (linearRead w) .jumps) (treeCounts b (m .globals) (treeChecked s) .firsts)
+  unfolding linearCounts treeCounts
+  end-alike b b′ h h′ x = rw (tree-is m st b s tree-read h, linear-is m st b′ w linear-read h′, linear-read, tree-read) x
+
+  forward-here : (b : ℕ) → b ≤ 1000000 → Ends (treeRun s b m)
+      → EndAlike (treeRun s b m) (linearRun w (2 * b) m) (linearCounts (2 * b) (m .globals) (linearRead w) .jumps) (treeCounts b (m .globals) (treeChecked s) .firsts)
+  unfolding programRun reported
+  forward-here b h e =
+      let t = file-twins s ts q checked in
+      let e′ : Ends (reported (treeEnd b)) = rw (tree-is m st b s tree-read h) at e in
+      end-alike b (2 * b) h (omega arith)
+      (reported-alike ts (linears 1 ts) t (treeEnd b) (linearEnd (2 * b))
+      (forward (Pair ts (linears 1 ts) t) (same-but-places (Pair ts (linears 1 ts) t)) 1 ⊥ (treeProgram ts) (linearProgram (linears 1 ts)) (programs-agree ts (linears 1 ts) t)
+      (begin ts (linears 1 ts) t (m .globals)) b
+      (λ z. e′ (spends (treeEnd b .ending) (treeEnd b .state .now .regs .v) z))))
+
+  backward-here : (b : ℕ) → b ≤ 1000000 → Ends (linearRun w b m)
+      → EndAlike (treeRun s b m) (linearRun w b m) (linearCounts b (m .globals) (linearRead w) .jumps) (treeCounts b (m .globals) (treeChecked s) .firsts)
+  unfolding programRun reported
+  backward-here b h e =
+      let t = file-twins s ts q checked in
+      let e′ : Ends (reported (linearEnd b)) = rw (linear-is m st b w linear-read (omega arith)) at e in
+      end-alike b b h (omega arith)
+      (reported-alike ts (linears 1 ts) t (treeEnd b) (linearEnd b)
+      (backward (Pair ts (linears 1 ts) t) (same-but-places (Pair ts (linears 1 ts) t)) 1 ⊥ (treeProgram ts) (linearProgram (linears 1 ts)) (programs-agree ts (linears 1 ts) t)
+      (begin ts (linears 1 ts) t (m .globals)) b
+      (λ z. e′ (spends (linearEnd b .ending) (linearEnd b .state .now .regs .v) z))))
+
+pub demand-3-forward : Forward
+demand-3-forward s w n b m f st h e =
+    let r = flattens-read s w n (f .0) (f .1) in
+    forward-here s w (r .0) (f .0) (r .1) (r .2) m st b h e
+
+pub demand-3-backward : Backward
+demand-3-backward s w n b m f st h e =
+    let r = flattens-read s w n (f .0) (f .1) in
+    backward-here s w (r .0) (f .0) (r .1) (r .2) m st b h e

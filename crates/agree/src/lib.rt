@@ -1,0 +1,1 @@
+// Demand 3: the two machines agree. Theorems alone, in specs/.

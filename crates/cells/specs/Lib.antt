@@ -1,0 +1,3 @@
+-- The specs of the crate cells.
+pub mod Cells
+pub mod Laws

@@ -1,0 +1,227 @@
+// Cells and code places (document 01, 'Cells'): each cell is made here and taken apart here.
+ghost use mathlib.Core.Path.{_≡_};
+ghost use Prim.Native.Nat.{_%_};
+ghost use Rattle.cells.specs.Cells.{tagOf, intCell, intOf, closureCell, closureOf, closureTemplate, closureEnv};
+ghost use Rattle.cells.specs.Cells.{pairCell, pairFirst, pairSecond, layerCell, layerParent, layerCount};
+ghost use Rattle.cells.specs.Cells.{frameCell, frameCount, frameTemplate, frameEnv, framePlace, startingGlobal, valueOf};
+
+// A code place in a tree file: a bit number from the file's start.
+pub struct BitPlace(pub usize);
+
+// A code place in a linear file: a byte number within its template's code.
+pub struct BytePlace(pub usize);
+
+// What a closure cell holds.
+pub struct Closure {
+    pub template: u64,
+    pub env: u64,
+    pub location: u64,
+}
+
+// The value of a cell. An integer is its 32 bits in two's complement.
+pub enum Value {
+    False,
+    True,
+    Null,
+    Unspecified,
+    Integer(u32),
+    Procedure(Closure),
+    Pair(u64, u64),
+    // A cell that is no value: not in use, undefined, a layer or a frame.
+    NoValue,
+}
+
+// The cells that are constants. 0 is a cell that is not in use.
+pub const FALSE: u64 = 0x1000_0000_0000_0000;
+
+pub const TRUE: u64 = 0x2000_0000_0000_0000;
+
+pub const NULL: u64 = 0x3000_0000_0000_0000;
+
+pub const UNSPECIFIED: u64 = 0x4000_0000_0000_0000;
+
+pub const UNDEFINED: u64 = 0x5000_0000_0000_0000;
+
+// The tag of a cell, its highest 4 bits.
+pub fn tag_of(c: u64) -> u64
+    ensures { λ r. ⌜ r ≡ tagOf c ⌝ }
+{
+    c / 0x1000_0000_0000_0000
+}
+
+// ---- 6: an integer
+
+pub fn int_cell(x: u32) -> u64
+    ensures { λ r. ⌜ r ≡ intCell x ⌝ }
+{
+    0x6000_0000_0000_0000 + (x as u64) * 0x1000_0000
+}
+
+pub fn int_of(c: u64) -> u32
+    ensures { λ r. ⌜ r ≡ intOf c ⌝ }
+{
+    (c / 0x1000_0000 % 0x1_0000_0000) as u32
+}
+
+// ---- 7: a closure
+
+pub fn closure_cell(t: u8, e: u16, l: u16) -> u64
+    ensures { λ r. ⌜ r ≡ closureCell t e l ⌝ }
+{
+    0x7000_0000_0000_0000
+        + (t as u64) * 0x10_0000_0000_0000
+        + (e as u64) * 0x10_0000_0000
+        + (l as u64) * 0x10_0000
+}
+
+pub fn closure_of(c: u64) -> Closure
+    ensures { λ r. ⌜ r ≡ closureOf c ⌝ }
+{
+    Closure {
+        template: c / 0x10_0000_0000_0000 % 0x100,
+        env: c / 0x10_0000_0000 % 0x1_0000,
+        location: c / 0x10_0000 % 0x1_0000,
+    }
+}
+
+pub fn closure_template(c: u64) -> u8
+    ensures { λ r. ⌜ r ≡ closureTemplate c ⌝ }
+{
+    (c / 0x10_0000_0000_0000 % 0x100) as u8
+}
+
+pub fn closure_env(c: u64) -> u16
+    ensures { λ r. ⌜ r ≡ closureEnv c ⌝ }
+{
+    (c / 0x10_0000_0000 % 0x1_0000) as u16
+}
+
+// ---- 8: a pair
+
+pub fn pair_cell(a: u16, b: u16) -> u64
+    ensures { λ r. ⌜ r ≡ pairCell a b ⌝ }
+{
+    0x8000_0000_0000_0000 + (a as u64) * 0x1000_0000_0000 + (b as u64) * 0x1000_0000
+}
+
+pub fn pair_first(c: u64) -> u16
+    ensures { λ r. ⌜ r ≡ pairFirst c ⌝ }
+{
+    (c / 0x1000_0000_0000 % 0x1_0000) as u16
+}
+
+pub fn pair_second(c: u64) -> u16
+    ensures { λ r. ⌜ r ≡ pairSecond c ⌝ }
+{
+    (c / 0x1000_0000 % 0x1_0000) as u16
+}
+
+// ---- 9: a layer
+
+pub fn layer_cell(e: u16, n: u8) -> u64
+    ensures { λ r. ⌜ r ≡ layerCell e n ⌝ }
+{
+    0x9000_0000_0000_0000 + (e as u64) * 0x1000_0000_0000 + (n as u64) * 0x10_0000_0000
+}
+
+pub fn layer_parent(c: u64) -> u16
+    ensures { λ r. ⌜ r ≡ layerParent c ⌝ }
+{
+    (c / 0x1000_0000_0000 % 0x1_0000) as u16
+}
+
+pub fn layer_count(c: u64) -> u8
+    ensures { λ r. ⌜ r ≡ layerCount c ⌝ }
+{
+    (c / 0x10_0000_0000 % 0x100) as u8
+}
+
+// ---- 10: a frame. Its code place is a bit place or a byte place, and only the functions from here to `linear_place` unwrap either.
+
+// The place's lowest 24 bits are kept.
+fn frame_cell(n: u8, t: u8, e: u16, p: usize) -> u64
+    ensures { λ r. ⌜ r ≡ frameCell n t e (p % 0x1000000) ⌝ }
+{
+    0xA000_0000_0000_0000
+        + (n as u64) * 0x10_0000_0000_0000
+        + (t as u64) * 0x1000_0000_0000
+        + (e as u64) * 0x1000_0000
+        + ((p % 0x100_0000) as u64) * 0x10
+}
+
+fn frame_place(c: u64) -> usize
+    ensures { λ r. ⌜ r ≡ framePlace c ⌝ }
+{
+    (c / 0x10 % 0x100_0000) as usize
+}
+
+pub fn tree_frame(n: u8, t: u8, e: u16, p: BitPlace) -> u64
+    ensures { λ r. ⌜ r ≡ frameCell n t e (p .0 % 0x1000000) ⌝ }
+{
+    frame_cell(n, t, e, p.0)
+}
+
+pub fn linear_frame(n: u8, t: u8, e: u16, p: BytePlace) -> u64
+    ensures { λ r. ⌜ r ≡ frameCell n t e (p .0 % 0x1000000) ⌝ }
+{
+    frame_cell(n, t, e, p.0)
+}
+
+pub fn tree_place(c: u64) -> BitPlace
+    ensures { λ r. ⌜ r .0 ≡ framePlace c ⌝ }
+{
+    BitPlace(frame_place(c))
+}
+
+pub fn linear_place(c: u64) -> BytePlace
+    ensures { λ r. ⌜ r .0 ≡ framePlace c ⌝ }
+{
+    BytePlace(frame_place(c))
+}
+
+pub fn frame_count(c: u64) -> u8
+    ensures { λ r. ⌜ r ≡ frameCount c ⌝ }
+{
+    (c / 0x10_0000_0000_0000 % 0x100) as u8
+}
+
+pub fn frame_template(c: u64) -> u8
+    ensures { λ r. ⌜ r ≡ frameTemplate c ⌝ }
+{
+    (c / 0x1000_0000_0000 % 0x100) as u8
+}
+
+pub fn frame_env(c: u64) -> u16
+    ensures { λ r. ⌜ r ≡ frameEnv c ⌝ }
+{
+    (c / 0x1000_0000 % 0x1_0000) as u16
+}
+
+// ---- by the tag
+
+// 22: whether a cell may stand in a global at the start.
+pub fn starting_global(c: u64) -> bool
+    ensures { λ r. ⌜ r ≡ startingGlobal c ⌝ }
+{
+    let t = tag_of(c);
+    match t {
+        1..=5 => c == t * 0x1000_0000_0000_0000,
+        6 => c == int_cell(int_of(c)),
+        _ => false,
+    }
+}
+
+pub fn value_of(c: u64) -> Value
+    ensures { λ r. ⌜ r ≡ valueOf c ⌝ }
+{
+    match tag_of(c) {
+        1 => Value::False,
+        2 => Value::True,
+        3 => Value::Null,
+        4 => Value::Unspecified,
+        6 => Value::Integer(int_of(c)),
+        7 => Value::Procedure(closure_of(c)),
+        8 => Value::Pair(pair_first(c) as u64, pair_second(c) as u64),
+        _ => Value::NoValue,
+    }
+}

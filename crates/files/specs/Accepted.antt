@@ -1,0 +1,25 @@
+-- Which tree files are accepted (document 01, 'File refusals'): 1 to 5 in reading order, then 6 over all templates, then 7, then 8.
+use Prim.Native.Nat.{ℕ}
+use mathlib.Core.Bool.{Bool}
+use mathlib.Core.List.{List}
+use mathlib.Core.Option.{Option, none, some}
+use Rattle.files.specs.Reading.{Got, got, refused}
+use Rattle.files.specs.Entries.{then}
+use Rattle.files.specs.Tree.{Template, treeRead}
+use Rattle.files.specs.Grammar.{lowest, closedTemplate, indexedTemplate}
+use Rattle.files.specs.Flat.{offsetTemplate}
+
+-- refused n with the lowest template that stands in the way, if there is one
+unfoldable pub orLowest : {A : Type 0} → ℕ → Option ℕ → Got A → Got A
+orLowest n (some t) g = refused n t
+orLowest n none g = g
+
+-- 1 to 7: what the tree machine refuses
+unfoldable pub treeChecked : List ℕ → Got (List Template)
+treeChecked s =
+    then (treeRead s)
+    (λ ts q. orLowest 6 (lowest closedTemplate 0 ts) (orLowest 7 (lowest indexedTemplate 0 ts) (got ts q)))
+
+-- 1 to 8: what the flattener refuses before it looks at the output
+unfoldable pub flatChecked : List ℕ → Got (List Template)
+flatChecked s = then (treeChecked s) (λ ts q. orLowest 8 (lowest offsetTemplate 0 ts) (got ts q))

@@ -1,0 +1,100 @@
+-- What reading gives: entries as document 01 has them, so many of them, and the place past their bits. Assumes nothing.
+use Prim.Native.Nat.{ℕ, zero, suc, _+_, _*_, _^_, _≤_, _<_}
+use native.Mathlib.Omega.{arith}
+use mathlib.Core.Path.{_≡_, refl, sym, ap, _∙_}
+use mathlib.Core.Bool.{Bool, true, false, cond, _&&_}
+use mathlib.Core.List.{List, [], _∷_, _++_}
+use borrow.Author.Tests.{ltb-true, eqb-false, ne-eqb}
+use lib.ListN.{length, length-append}
+use lib.Dec.{ltb, eqb}
+use Rattle.fields.specs.Field.{fieldAt, fieldRead}
+use Rattle.fields.specs.Laws.{read-cases, field-small}
+use Rattle.files.specs.Reading.{Got, got, refused}
+use Rattle.files.specs.Entries.{Entry, constant, global, template, then, fieldGot, field, valid, constantAt, kindAt, entryAt, entriesAt}
+use Rattle.files.specs.Linear.{bitsOf, entryBits, entriesBits}
+
+-- ---- the statements
+-- an entry of template own of T
+abbrev pub EntryOk : ℕ → ℕ → Entry → Type 0
+EntryOk own T (constant t x) = (t < 5) × (x < 2 ^ 32) × ((t ≡ 4 → ⊥) → x ≡ 0)
+EntryOk own T (global g) = g < 256
+EntryOk own T (template t) = (own < t) × (t < T) × (T ≤ 64)
+
+abbrev pub EntriesOk : ℕ → ℕ → List Entry → Type 0
+EntriesOk own T [] = Unit
+EntriesOk own T (e ∷ es) = EntryOk own T e × EntriesOk own T es
+
+-- ---- a field
+-- what holds of every refusal, and of what follows the field where it does not run past the end, holds
+pub then-field : {B : Type 0} (P : Got B → Type 0) (s : List ℕ) (p w : ℕ) (f : ℕ → ℕ → Got B) → P (refused 2 p) → (p + w ≤ 8 * length s → P (f (fieldAt s p w) (p + w))) → P (then (field s p w) f)
+unfolding then field fieldGot
+then-field P s p w f ends fits = read-cases s p w (λ x. P (then (fieldGot p x) f)) ends fits
+
+-- ---- one entry at p
+module _ (s : List ℕ) (own T p : ℕ) (few : T ≤ 64) where
+  -- what is known of the entry that is read
+  abbrev pub EntryGood : Got Entry → Type 0
+  EntryGood (got e q) = EntryOk own T e × (q ≡ p + length (entryBits e)) × (q ≤ 8 * length s)
+  EntryGood (refused n x) = Unit
+
+  integer-good : (q : ℕ) → q ≡ p + 5 → EntryGood (then (field s q 32) (λ x r. got (constant 4 x) r))
+  unfolding entryBits
+  integer-good q e = then-field EntryGood s q 32 _ tt (λ h. ((omega arith, field-small s q 32, λ k. absurd (k refl)), omega arith, h))
+
+  plain-good : (x t q : ℕ) → (t ≡ 4 → ⊥) → q ≡ p + 5 → q ≤ 8 * length s → (b : Bool) → ltb t 4 ≡ b → EntryGood (valid x b (got (constant t 0) q))
+  unfolding entryBits
+  plain-good x t q k e h true i = ((omega (arith, ltb-true t 4 i), omega arith, λ k. refl), rw (ne-eqb t 4 k) (omega arith), h)
+  plain-good x t q k e h false i = tt
+
+  constant-good : (x t q : ℕ) → q ≡ p + 5 → q ≤ 8 * length s → (b : Bool) → eqb t 4 ≡ b → EntryGood (cond b (then (field s q 32) (λ x r. got (constant 4 x) r)) (valid x (ltb t 4) (got (constant t 0) q)))
+  constant-good x t q e h true i = integer-good q e
+  constant-good x t q e h false i = plain-good x t q (eqb-false t 4 i) e h (ltb t 4) refl
+
+  template-good : (x t q : ℕ) → q ≡ p + 10 → q ≤ 8 * length s → (a b : Bool) → ltb own t ≡ a → ltb t T ≡ b → EntryGood (valid x (a && b) (got (template t) q))
+  unfolding entryBits
+  template-good x t q e h true true i j = ((ltb-true own t i, ltb-true t T j, few), e, h)
+  template-good x t q e h true false i j = tt
+  template-good x t q e h false b i j = tt
+
+  kind-good : (q k : ℕ) → q ≡ p + 2 → EntryGood (kindAt s own T p q k)
+  unfolding kindAt constantAt entryBits
+  kind-good q zero e = tt
+  kind-good q (suc zero) e = then-field EntryGood s q 3 _ tt (λ h. constant-good q (fieldAt s q 3) (q + 3) (omega arith) h (eqb (fieldAt s q 3) 4) refl)
+  kind-good q (suc (suc zero)) e = then-field EntryGood s q 8 _ tt (λ h. (field-small s q 8, omega arith, h))
+  kind-good q (suc (suc (suc k))) e = then-field EntryGood s q 8 _ tt (λ h. template-good q (fieldAt s q 8) (q + 8) (omega arith) h (ltb own (fieldAt s q 8)) (ltb (fieldAt s q 8) T) refl refl)
+
+  pub entry-good : EntryGood (entryAt s own T p)
+  unfolding entryAt
+  entry-good = then-field EntryGood s p 2 _ tt (λ h. kind-good (p + 2) (fieldAt s p 2) refl)
+
+-- ---- n entries from p on
+-- what is known of the entries that are read
+pub record EntriesGood (s : List ℕ) (own T n p : ℕ) (es : List Entry) (q : ℕ) : Type 0 where
+  pub ok : EntriesOk own T es
+  pub count : length es ≡ n
+  pub past : q ≡ p + length (entriesBits es)
+  pub within : p ≤ 8 * length s → q ≤ 8 * length s
+
+module _ (s : List ℕ) (own T : ℕ) (few : T ≤ 64) where
+  abbrev Good : ℕ → ℕ → Got (List Entry) → Type 0
+  Good n p (got es q) = EntriesGood s own T n p es q
+  Good n p (refused m x) = Unit
+
+  more-good : (n p q : ℕ) (e : Entry) (g : Got (List Entry)) → EntryGood s own T p few (got e q) → Good n q g → Good (suc n) p (then g (λ es r. got (e ∷ es) r))
+  unfolding then entriesBits
+  more-good n p q e (got es r) h i = record { ok = (h .0, i .ok); count = ap suc (i .count); past = omega (arith, length-append (entryBits e) (entriesBits es)); within = λ k. i .within (h .2) }
+  more-good n p q e (refused m x) h i = tt
+
+  first-good : (n p : ℕ) (g : Got Entry) → EntryGood s own T p few g → ((q : ℕ) → Good n q (entriesAt s own T n q)) → Good (suc n) p (then g (λ e q. then (entriesAt s own T n q) (λ es r. got (e ∷ es) r)))
+  unfolding then
+  first-good n p (got e q) h f = more-good n p q e (entriesAt s own T n q) h (f q)
+  first-good n p (refused m x) h f = tt
+
+  entries-good : (n p : ℕ) → Good n p (entriesAt s own T n p)
+  unfolding entriesAt entriesBits
+  entries-good zero p = record { ok = tt; count = refl; past = omega arith; within = λ k. k }
+  entries-good (suc n) p = first-good n p (entryAt s own T p) (entry-good s own T p few) (entries-good n)
+
+  -- THE LAW: what entries are read, and where they end
+  pub entries-read : (n p : ℕ) {es : List Entry} {q : ℕ} → entriesAt s own T n p ≡ got es q → EntriesGood s own T n p es q
+  entries-read n p e = rw e at (entries-good n p)

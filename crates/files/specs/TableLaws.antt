@@ -1,0 +1,127 @@
+-- What stands in a slot of a run's table. Assumes nothing.
+use Prim.Native.Nat.{ℕ, zero, suc, _+_, _*_, _-_, _≤_, _<_}
+use native.Mathlib.Nat.{add-zero}
+use native.Mathlib.Omega.{arith}
+use mathlib.Core.Path.{_≡_, refl, sym, ap, _∙_}
+use mathlib.Core.List.{List, [], _∷_, _++_, map, append-assoc}
+use mathlib.Core.Option.{Option, none, some}
+use lib.ListN.{length, getD, replicate, length-append, length-replicate, length-map, List·getD-append}
+use lib.Seq.{getD-append-add}
+use Rattle.files.specs.Entries.{Entry}
+use Rattle.files.specs.Tree.{Template}
+use Rattle.files.specs.Linear.{Linear}
+use Rattle.files.specs.Grammar.{entryOf}
+use Rattle.files.specs.Table.{slotOf, padTo, rowOf, treeRows, linearRows, treeTable, linearTable}
+
+-- ---- a row
+pub zeros-at : (k i : ℕ) → _≡_ {A = ℕ} (getD (replicate k 0) i 0) 0
+zeros-at zero i = refl
+zeros-at (suc k) zero = refl
+zeros-at (suc k) (suc i) = zeros-at k i
+
+pub row-length : (x : ℕ) (es : List Entry) → length es < 256 → length (rowOf x es) ≡ 256
+unfolding rowOf
+row-length x es h = rw (length-append (x ∷ map slotOf es) (replicate (256 - length (x ∷ map slotOf es)) 0), length-replicate, length-map es slotOf) (omega arith)
+
+-- slot 0
+pub row-start : (x : ℕ) (es : List Entry) → getD (rowOf x es) 0 0 ≡ x
+unfolding rowOf
+row-start x es = refl
+
+-- the slot of entry n, 0 where there is none
+abbrev pub slotOr : Option Entry → ℕ
+slotOr (some e) = slotOf e
+slotOr none = 0
+
+slots-entry : (k : ℕ) (es : List Entry) (n : ℕ) → getD (map slotOf es ++ replicate k 0) n 0 ≡ slotOr (entryOf es (suc n))
+unfolding entryOf
+slots-entry k [] n = zeros-at k n
+slots-entry k (e ∷ es) zero = refl
+slots-entry k (e ∷ es) (suc n) = slots-entry k es n
+
+pub row-entry : (x : ℕ) (es : List Entry) (n : ℕ) → (n ≡ 0 → ⊥) → getD (rowOf x es) n 0 ≡ slotOr (entryOf es n)
+unfolding rowOf
+row-entry x es zero h = absurd (h refl)
+row-entry x es (suc n) h = slots-entry (256 - length (x ∷ map slotOf es)) es n
+
+-- ---- rows, of templates with a start and entries
+-- no template has more entries than a row has slots for
+abbrev pub Few : {A : Type 0} → (A → List Entry) → List A → Type 0
+Few entries [] = Unit
+Few entries (t ∷ ts) = (length (entries t) < 256) × Few entries ts
+
+module _ {A : Type 0} (start : A → ℕ) (entries : A → List Entry) where
+  unfoldable pub rowsOf : List A → List ℕ
+  rowsOf [] = []
+  rowsOf (t ∷ ts) = rowOf (start t) (entries t) ++ rowsOf ts
+
+  pub rows-length : (ts : List A) → Few entries ts → length (rowsOf ts) ≡ 256 * length ts
+  unfolding rowsOf
+  rows-length [] h = refl
+  rows-length (t ∷ ts) h = length-append (rowOf (start t) (entries t)) (rowsOf ts) ∙ (let i = rows-length ts (h .1) in let j = row-length (start t) (entries t) (h .0) in omega arith)
+
+  row-slot : (ts : List A) (d : A) (k t n : ℕ) → Few entries ts → t < length ts → n < 256 → getD (rowsOf ts ++ replicate k 0) (256 * t + n) 0 ≡ getD (rowOf (start (getD ts t d)) (entries (getD ts t d))) n 0
+  unfolding rowsOf
+  row-slot [] d k t n h l m = absurd (omega arith)
+  row-slot (x ∷ ts) d k zero n h l m =
+      let e : 256 * 0 + n ≡ n = omega arith in
+      let i : n < length (rowOf (start x) (entries x)) = omega (arith, row-length (start x) (entries x) (h .0)) in
+      rw (append-assoc (rowOf (start x) (entries x)) (rowsOf ts) (replicate k 0), e) (List·getD-append (rowOf (start x) (entries x)) (rowsOf ts ++ replicate k 0) 0 n i)
+  row-slot (x ∷ ts) d k (suc t) n h l m =
+      let e : 256 * suc t + n ≡ length (rowOf (start x) (entries x)) + (256 * t + n) = omega (arith, row-length (start x) (entries x) (h .0)) in
+      rw (append-assoc (rowOf (start x) (entries x)) (rowsOf ts) (replicate k 0), e, getD-append-add (rowOf (start x) (entries x)) (rowsOf ts ++ replicate k 0) (256 * t + n) 0) (row-slot ts d k t n (h .1) (omega arith) m)
+
+  slot-beyond : (ts : List A) (k t n : ℕ) → Few entries ts → length ts ≤ t → _≡_ {A = ℕ} (getD (rowsOf ts ++ replicate k 0) (256 * t + n) 0) 0
+  slot-beyond ts k t n h l =
+      let e : 256 * t + n ≡ length (rowsOf ts) + (256 * t + n - length (rowsOf ts)) = omega (arith, rows-length ts h) in
+      rw (e, getD-append-add (rowsOf ts) (replicate k 0) (256 * t + n - length (rowsOf ts)) 0) (zeros-at k (256 * t + n - length (rowsOf ts)))
+
+  -- THE LAW of a table: slot n of row t is slot n of the row of template t
+  pub table-slot : (ts : List A) (d : A) (t n : ℕ) → Few entries ts → t < length ts → n < 256 → getD (padTo 16384 (rowsOf ts)) (256 * t + n) 0 ≡ getD (rowOf (start (getD ts t d)) (entries (getD ts t d))) n 0
+  table-slot ts d = row-slot ts d (16384 - length (rowsOf ts))
+
+  -- beyond the last template every slot is 0
+  pub table-beyond : (ts : List A) (t n : ℕ) → Few entries ts → length ts ≤ t → _≡_ {A = ℕ} (getD (padTo 16384 (rowsOf ts)) (256 * t + n) 0) 0
+  table-beyond ts = slot-beyond ts (16384 - length (rowsOf ts))
+
+-- ---- the table of a tree file
+abbrev pub treeStart : Template → ℕ
+treeStart t = t .start
+
+abbrev pub treeEntries : Template → List Entry
+treeEntries t = t .entries
+
+tree-rows : (ts : List Template) → treeRows ts ≡ rowsOf treeStart treeEntries ts
+unfolding treeRows rowsOf
+tree-rows [] = refl
+tree-rows (t ∷ ts) = ap (λ (l : List ℕ). rowOf (t .start) (t .entries) ++ l) (tree-rows ts)
+
+module _ (ts : List Template) (few : Few treeEntries ts) (t n : ℕ) where
+  pub tree-slot : (d : Template) → t < length ts → n < 256 → getD (treeTable ts) (256 * t + n) 0 ≡ getD (rowOf (getD ts t d .start) (getD ts t d .entries)) n 0
+  unfolding treeTable
+  tree-slot d l m = rw (tree-rows ts) (table-slot treeStart treeEntries ts d t n few l m)
+
+  pub tree-beyond : length ts ≤ t → _≡_ {A = ℕ} (getD (treeTable ts) (256 * t + n) 0) 0
+  unfolding treeTable
+  tree-beyond l = rw (tree-rows ts) (table-beyond treeStart treeEntries ts t n few l)
+
+-- ---- the table of a linear file
+abbrev pub linearStart : Linear → ℕ
+linearStart t = t .start + 0x100000000 * length (t .code)
+
+abbrev pub linearEntries : Linear → List Entry
+linearEntries t = t .entries
+
+pub linear-rows : (ts : List Linear) → linearRows ts ≡ rowsOf linearStart linearEntries ts
+unfolding linearRows rowsOf
+linear-rows [] = refl
+linear-rows (t ∷ ts) = ap (λ (l : List ℕ). rowOf (linearStart t) (t .entries) ++ l) (linear-rows ts)
+
+module _ (ts : List Linear) (few : Few linearEntries ts) (t n : ℕ) where
+  pub linear-slot : (d : Linear) → t < length ts → n < 256 → getD (linearTable ts) (256 * t + n) 0 ≡ getD (rowOf (linearStart (getD ts t d)) (getD ts t d .entries)) n 0
+  unfolding linearTable
+  linear-slot d l m = rw (linear-rows ts) (table-slot linearStart linearEntries ts d t n few l m)
+
+  pub linear-beyond : length ts ≤ t → _≡_ {A = ℕ} (getD (linearTable ts) (256 * t + n) 0) 0
+  unfolding linearTable
+  linear-beyond l = rw (linear-rows ts) (table-beyond linearStart linearEntries ts t n few l)

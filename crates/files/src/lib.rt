@@ -1,0 +1,1 @@
+// Tree files and linear files (document 01, 'Two files').

@@ -1,0 +1,2 @@
+-- The specs of the crate flatten.
+pub mod Flatten

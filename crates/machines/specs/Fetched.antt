@@ -1,0 +1,154 @@
+-- What stands at a code place of a tree list and of linear code (document 01, 'Rules' and 'Codes').
+use Prim.Native.Nat.{ℕ, zero, suc, _+_, _*_}
+use mathlib.Core.Bool.{Bool, true, false, cond, not}
+use mathlib.Core.List.{List, [], _∷_}
+use mathlib.Core.Option.{Option, none, some}
+use lib.Dec.{ltb, leb, eqb}
+use lib.ListN.{length, getD, take, drop}
+use Rattle.files.specs.Codes.{isNeutral, operands}
+use Rattle.files.specs.Code.{Code, done, neutral, return, call, unless-false, make-cont, bits}
+use Rattle.files.specs.Entries.{Entry, constant, global, template}
+use Rattle.files.specs.Grammar.{isClosed, entryOf}
+use Rattle.files.specs.Tree.{Template}
+use Rattle.files.specs.Linear.{Linear}
+use Rattle.files.specs.Table.{constantCell}
+use Rattle.rules.specs.declared.Plain.{Plain}
+use Rattle.rules.specs.declared.Plain.the-variants.{Literal, Closure, Global, SetGlobal, Local, SetLocal, Push, Unspecified, MakeEnv, CheckArgs, Cons, Car, Cdr, Eqv, Add}
+
+-- the places in it are where to go on
+pub data Fetched : Type 0 where
+  plain : Plain → ℕ → Fetched
+  returns : Fetched
+  calls : ℕ → Fetched
+  -- 1 where it is an open conditional of a tree, the first arm, the second arm
+  branches : ℕ → ℕ → ℕ → Fetched
+  -- n, the saved place, the rest
+  saves : ℕ → ℕ → ℕ → Fetched
+  jumps : ℕ → Fetched
+  -- 16
+  bad : Fetched
+
+-- ---- a neutral code with its operands, by the template's entries; none where its entry is unfit
+unfoldable pub asLiteral : Option Entry → Option Plain
+asLiteral none = none
+asLiteral (some (constant t x)) = some (Literal (constantCell t x))
+asLiteral (some (global g)) = none
+asLiteral (some (template t)) = none
+
+unfoldable pub asClosure : Option Entry → Option Plain
+asClosure none = none
+asClosure (some (constant t x)) = none
+asClosure (some (global g)) = none
+asClosure (some (template t)) = some (Closure t)
+
+unfoldable pub asGlobal : (ℕ → Plain) → Option Entry → Option Plain
+asGlobal f none = none
+asGlobal f (some (constant t x)) = none
+asGlobal f (some (global g)) = some (f g)
+asGlobal f (some (template t)) = none
+
+unfoldable pub resolve : List Entry → ℕ → List ℕ → Option Plain
+unfolding asLiteral asClosure asGlobal
+resolve es op ns =
+    cond (eqb op 6) (asLiteral (entryOf es (getD ns 0 0)))
+    (cond (eqb op 7) (asClosure (entryOf es (getD ns 0 0)))
+    (cond (eqb op 8) (asGlobal Global (entryOf es (getD ns 0 0)))
+    (cond (eqb op 9) (asGlobal SetGlobal (entryOf es (getD ns 0 0)))
+    (cond (eqb op 10) (some (Local (getD ns 0 0) (getD ns 1 0)))
+    (cond (eqb op 11) (some (SetLocal (getD ns 0 0) (getD ns 1 0)))
+    (cond (eqb op 12) (some Push)
+    (cond (eqb op 13) (some (MakeEnv (getD ns 0 0)))
+    (cond (eqb op 15) (some Unspecified)
+    (cond (eqb op 16) (some (CheckArgs (getD ns 0 0)))
+    (cond (eqb op 18) (some Cons)
+    (cond (eqb op 19) (some Car)
+    (cond (eqb op 20) (some Cdr)
+    (cond (eqb op 21) (some Eqv)
+    (cond (eqb op 22) (some Add) none))))))))))))))
+
+unfoldable pub plainly : Option Plain → ℕ → Fetched
+plainly (some i) p = plain i p
+plainly none p = bad
+
+-- 1 for an open conditional: its arms are not closed
+unfoldable pub openCount : Bool → ℕ
+openCount true = 0
+openCount false = 1
+
+module _ (es : List Entry) where
+  -- ---- a tree: s is the list's first bit, and F what comes after the list, already found: after an arm what follows its conditional, after
+  -- a saved list what follows the list that holds its make-cont. Reaching a list's end is no step.
+  -- what stands at the head of a list
+  unfoldable pub first : ℕ → Code → Fetched → Fetched
+  unfolding openCount plainly resolve
+  first s done F = F
+  first s (neutral op ns r) F = plainly (resolve es op ns) (s + (5 + 8 * length ns))
+  first s (return r) F = returns
+  first s (call n r) F = calls n
+  first s (unless-false x y r) F = branches (openCount (isClosed x)) (s + 5) (s + 5 + bits x)
+  first s (make-cont n x r) F = saves n (s + 13) (s + 13 + bits x)
+
+  -- what stands at place p of a list
+  unfoldable pub look : ℕ → Code → Fetched → ℕ → Fetched
+  unfolding first openCount plainly resolve
+  look s done F p = cond (eqb p s) F bad
+  look s (neutral op ns r) F p = cond (eqb p s) (plainly (resolve es op ns) (s + (5 + 8 * length ns))) (look (s + (5 + 8 * length ns)) r F p)
+  look s (return r) F p = cond (eqb p s) returns (look (s + 5) r F p)
+  look s (call n r) F p = cond (eqb p s) (calls n) (look (s + 13) r F p)
+  look s (unless-false x y r) F p =
+      cond (eqb p s) (branches (openCount (isClosed x)) (s + 5) (s + 5 + bits x))
+      (cond (ltb p (s + 5 + bits x)) (look (s + 5) x (first (s + 5 + bits x + bits y) r F) p)
+      (cond (ltb p (s + 5 + bits x + bits y)) (look (s + 5 + bits x) y (first (s + 5 + bits x + bits y) r F) p)
+      (look (s + 5 + bits x + bits y) r F p)))
+  look s (make-cont n x r) F p =
+      cond (eqb p s) (saves n (s + 13) (s + 13 + bits x))
+      (cond (ltb p (s + 13 + bits x)) (look (s + 13) x F p) (look (s + 13 + bits x) r bad p))
+
+  -- ---- linear code w that stands at q; an instruction that is cut is bad
+  unfoldable pub callIn : List ℕ → Fetched
+  callIn [] = bad
+  callIn (n ∷ w) = calls n
+
+  unfoldable pub branchIn : ℕ → List ℕ → Fetched
+  branchIn q [] = bad
+  branchIn q (h ∷ []) = bad
+  branchIn q (h ∷ l ∷ w) = branches 0 (q + 3) (q + 3 + (256 * h + l))
+
+  unfoldable pub contIn : ℕ → List ℕ → Fetched
+  contIn q [] = bad
+  contIn q (h ∷ []) = bad
+  contIn q (h ∷ l ∷ []) = bad
+  contIn q (h ∷ l ∷ n ∷ w) = saves n (q + 4 + (256 * h + l)) (q + 4)
+
+  unfoldable pub jumpIn : ℕ → List ℕ → Fetched
+  jumpIn q [] = bad
+  jumpIn q (h ∷ []) = bad
+  jumpIn q (h ∷ l ∷ w) = jumps (q + 3 + (256 * h + l))
+
+  unfoldable pub neutralIn : ℕ → ℕ → List ℕ → Fetched
+  unfolding plainly resolve
+  neutralIn q op w = cond (leb (operands op) (length w)) (plainly (resolve es op (take (operands op) w)) (q + (1 + operands op))) bad
+
+  unfoldable pub decode : ℕ → List ℕ → Fetched
+  unfolding neutralIn callIn branchIn contIn jumpIn
+  decode q [] = bad
+  decode q (op ∷ w) =
+      cond (isNeutral op) (neutralIn q op w)
+      (cond (eqb op 1) returns
+      (cond (eqb op 2) (callIn w)
+      (cond (eqb op 3) (branchIn q w)
+      (cond (eqb op 4) (contIn q w)
+      (cond (eqb op 5) (jumpIn q w) bad)))))
+
+-- ---- a template by its number; no closure names one that is not there, and what would stand there is a return
+abbrev pub noTemplate : Template
+noTemplate = record { entries = []; start = 0; code = return done }
+
+abbrev pub noLinear : Linear
+noLinear = record { entries = []; start = 0; code = 1 ∷ [] }
+
+unfoldable pub treeAt : List Template → ℕ → ℕ → Fetched
+treeAt ts t p = look (getD ts t noTemplate .entries) (getD ts t noTemplate .start) (getD ts t noTemplate .code) bad p
+
+unfoldable pub linearAt : List Linear → ℕ → ℕ → Fetched
+linearAt ts t q = decode (getD ts t noLinear .entries) q (drop q (getD ts t noLinear .code))

@@ -1,0 +1,112 @@
+-- A whole run (document 01, 'Cells' and 'Rules'): what is refused at the start, and what a run returns and leaves.
+use Prim.Native.Nat.{ℕ, suc, _+_}
+use mathlib.Core.Bool.{Bool, true, false, cond, _&&_}
+use mathlib.Core.List.{List, [], _∷_}
+use mathlib.Core.Option.{Option, none, some}
+use lib.Dec.{leb, eqb}
+use lib.ListN.{length, replicate}
+use Rattle.cells.specs.Cells.{startingGlobal, unspecifiedCell, valueOf}
+use Rattle.files.specs.Reading.{Got, got, refused}
+use Rattle.files.specs.Tree.{Template}
+use Rattle.files.specs.Linear.{Linear, linearRead}
+use Rattle.files.specs.Accepted.{treeChecked}
+use Rattle.rules.specs.State.{mem, regs}
+use Rattle.rules.specs.Rules.{Data}
+use Rattle.machines.specs.Machine.{Program, treeProgram, linearProgram, State, at, noCounts, Ending, halted, wrongly, spent, Ended, run}
+use Rattle.machines.specs.declared.End.{End}
+use Rattle.machines.specs.declared.End.the-variants.{Halted, Wrong, OutOfBudget, Refused}
+use Rattle.machines.specs.declared.Run.{Run}
+
+-- what is lent to a run
+pub record Memory : Type 0 where
+  pub globals : List ℕ
+  pub stack : List ℕ
+  pub store : List ℕ
+  pub frames : List ℕ
+
+abbrev pub memory : List ℕ → List ℕ → List ℕ → List ℕ → Memory
+memory g s t f = record { globals = g; stack = s; store = t; frames = f }
+
+-- what a run returns, and the memory that it leaves
+pub data Ran : Type 0 where
+  ran : Run → Memory → Ran
+
+-- a refused run has its number and place, zero steps and counts, and leaves everything as it was
+unfoldable pub refusedRun : ℕ → ℕ → Memory → Ran
+refusedRun n p m = ran (record { end = Refused n p; steps = 0; stack = 0; store = 0; frames = 0 }) m
+
+-- ---- 20, 21, 22
+unfoldable pub rightLengths : Memory → Bool
+rightLengths m = eqb (length (m .globals)) 256 && (eqb (length (m .stack)) 256 && (eqb (length (m .store)) 2048 && eqb (length (m .frames)) 2048))
+
+-- the lowest global, counted from n on, that is not one to start with
+unfoldable pub lowestUnfit : ℕ → List ℕ → Option ℕ
+lowestUnfit n [] = none
+lowestUnfit n (c ∷ cs) = cond (startingGlobal c) (lowestUnfit (n + 1) cs) (some n)
+
+-- the run, or refused 22
+unfoldable pub fitGlobals : Option ℕ → Memory → Ran → Ran
+fitGlobals (some g) m r = refusedRun 22 g m
+fitGlobals none m r = r
+
+unfoldable pub started : ℕ → ℕ → Memory → Ran → Ran
+unfolding rightLengths lowestUnfit fitGlobals
+started most b m r =
+    cond (rightLengths m)
+    (cond (leb b most) (fitGlobals (lowestUnfit 0 (m .globals)) m r) (refusedRun 21 0 m))
+    (refusedRun 20 0 m)
+
+-- ---- the run of a program
+-- template 0, v not-specified, nothing on the stack, environment 0, no frames; stack, store and frames zero
+unfoldable pub startState : List ℕ → ℕ → State
+startState g p =
+    at (record { regs = regs unspecifiedCell 0 0 0; mem = mem g (replicate 256 0) (replicate 2048 0); frames = replicate 2048 0; fr = 0 }) 0 p
+
+unfoldable pub endOf : Ending → ℕ → End
+endOf halted v = Halted (valueOf v)
+endOf (wrongly n) v = Wrong n
+endOf spent v = OutOfBudget
+
+unfoldable pub memoryOf : Data → Memory
+memoryOf d = memory (d .mem .globals) (d .mem .stack) (d .mem .store) (d .frames)
+
+unfoldable pub reported : Ended → Ran
+unfolding endOf memoryOf
+reported e =
+    ran
+    (record {
+      end = endOf (e .ending) (e .state .now .regs .v);
+      steps = e .counts .steps;
+      stack = e .state .now .regs .sp;
+      store = e .state .now .regs .st;
+      frames = e .state .now .fr;
+    })
+    (memoryOf (e .state .now))
+
+-- a program's run from the globals g with b steps at most
+unfoldable pub programRun : Program → ℕ → List ℕ → Ended
+programRun P b g = run P b noCounts (startState g (P .start 0))
+
+-- ---- the two machines
+unfoldable pub onTree : ℕ → Memory → Got (List Template) → Ran
+onTree b m (got ts q) = reported (programRun (treeProgram ts) b (m .globals))
+onTree b m (refused n p) = refusedRun n p m
+
+unfoldable pub onLinear : ℕ → Memory → Got (List Linear) → Ran
+onLinear b m (got ts q) = reported (programRun (linearProgram ts) b (m .globals))
+onLinear b m (refused n p) = refusedRun n p m
+
+unfoldable pub treeRun : List ℕ → ℕ → Memory → Ran
+unfolding onTree started
+treeRun s b m = started 1000000 b m (onTree b m (treeChecked s))
+
+unfoldable pub linearRun : List ℕ → ℕ → Memory → Ran
+unfolding onLinear started
+linearRun s b m = started 2000000 b m (onLinear b m (linearRead s))
+
+-- ---- document 01's number for each end
+unfoldable pub numberOf : End → ℕ
+numberOf (Halted v) = 0
+numberOf (Wrong n) = n
+numberOf OutOfBudget = 19
+numberOf (Refused n p) = n

@@ -1,0 +1,159 @@
+-- What is known of the templates of a tree file that is read: their linear file is short enough to be read. Assumes nothing.
+use Prim.Native.Nat.{ℕ, zero, suc, _+_, _*_, _^_, _≤_, _<_}
+use native.Mathlib.Omega.{arith}
+use mathlib.Core.Path.{_≡_, refl, sym, ap, _∙_}
+use mathlib.Core.Bool.{Bool, true, false, cond, _&&_}
+use mathlib.Core.List.{List, [], _∷_}
+use borrow.Author.Tests.{leb-true}
+use lib.ListN.{length, length-append}
+use lib.Dec.{leb, eqb}
+use Rattle.fields.specs.Field.{bitAt, fieldAt}
+use Rattle.fields.specs.Laws.{read-cases, field-small}
+use Rattle.files.specs.Code.{Code, bits}
+use Rattle.files.specs.Reading.{Got, got, refused, listAt}
+use Rattle.files.specs.ReadingLaws.{list-bits, list-valid, flat-bits-end}
+use Rattle.files.specs.Valid.{Valid}
+use Rattle.files.specs.Entries.{Entry, then, fieldGot, field, valid, entriesAt, toByte, zeroBits, nothingMore}
+use Rattle.files.specs.EntriesLaws.{EntriesGood, entries-read}
+use Rattle.files.specs.Tree.{Template, templateAt, templatesAt, paddedEnd, treeRead}
+use Rattle.files.specs.Linear.{entriesBits, templateBytes, templatesBytes, linearFile}
+use Rattle.readback.specs.Bits.{length-bytesOf}
+use Rattle.readback.specs.Templates.{Each, Writable}
+
+-- ---- what led to what was read
+pub refused-got : {A : Type 0} {B : Type 0} {n p q : ℕ} {a : A} → _≡_ {A = Got A} (refused n p) (got a q) → B
+refused-got e = let z : _≡_ {A = ℕ} 0 1 = cc in absurd (omega arith)
+
+-- what was read first, and how it went on
+pub then-led : {A B C : Type 0} (g : Got A) (f : A → ℕ → Got B) {b : B} {q : ℕ} → then g f ≡ got b q → ((a : A) (p : ℕ) → g ≡ got a p → f a p ≡ got b q → C) → C
+unfolding then
+then-led (got a p) f e k = k a p refl e
+then-led (refused n p) f e k = refused-got e
+
+-- a test that a refusal hangs on was passed
+cond-led : {A : Type 0} (b : Bool) (g : Got A) (n p : ℕ) {a : A} {q : ℕ} → cond b g (refused n p) ≡ got a q → (b ≡ true) × (g ≡ got a q)
+cond-led true g n p e = (refl, e)
+cond-led false g n p e = refused-got e
+
+and-both : (a b : Bool) → a && b ≡ true → (a ≡ true) × (b ≡ true)
+and-both true b e = (refl, e)
+and-both false b e = (e, absurd (let z : _≡_ {A = ℕ} 0 1 = cc in omega arith))
+
+valid-led : {A : Type 0} (p : ℕ) (b : Bool) (g : Got A) {a : A} {q : ℕ} → valid p b g ≡ got a q → (b ≡ true) × (g ≡ got a q)
+valid-led p true g e = (refl, e)
+valid-led p false g e = refused-got e
+
+module _ (s : List ℕ) where
+  field-led : (p w : ℕ) {v q : ℕ} → field s p w ≡ got v q → (v < 2 ^ w) × (q ≡ p + w) × (q ≤ 8 * length s)
+  unfolding field fieldGot
+  field-led p w {v} {q} = read-cases s p w (λ x. fieldGot p x ≡ got v q → (v < 2 ^ w) × (q ≡ p + w) × (q ≤ 8 * length s)) (λ e. refused-got e)
+      (λ h e. let e₁ : fieldAt s p w ≡ v = cc in let e₂ : p + w ≡ q = cc in (rw e₁ at (field-small s p w), sym e₂, rw e₂ at h))
+
+  zeros-led : {A : Type 0} (n p : ℕ) (a : A) {b : A} {q : ℕ} → zeroBits s n p a ≡ got b q → a ≡ b
+  unfolding zeroBits
+  zeros-led zero p a e = cc
+  zeros-led (suc n) p a e = zeros-led n (p + 1) a (cond-led (eqb (bitAt s p) 0) (zeroBits s n (p + 1) a) 5 p e .1)
+
+  padded-led : {A : Type 0} (a : A) (p : ℕ) {b : A} {q : ℕ} → paddedEnd s a p ≡ got b q → a ≡ b
+  unfolding paddedEnd nothingMore
+  padded-led a p {b} {q} e =
+      then-led (zeroBits s (toByte p) p a) _ e
+      (λ c r first on. let f : got c r ≡ got b q = cond-led (eqb r (8 * length s)) (got c r) 5 r on .1 in zeros-led (toByte p) p a first ∙ (cc))
+
+-- ---- one template
+-- what is known of template own of T
+pub record TemplateFacts (T own : ℕ) (t : Template) : Type 0 where
+  pub writable : Writable T own t
+  -- in bits, of a file of at most 65,536 bytes
+  pub within : t .start + bits (t .code) ≤ 8 * 65536
+  pub valid-code : Valid (t .code)
+
+-- how many bits a template takes in a tree file
+abbrev templateBits : Template → ℕ
+templateBits t = 8 + length (entriesBits (t .entries)) + bits (t .code)
+
+-- at most two bytes for five bits
+template-short : (t : Template) → 5 * length (templateBytes t) ≤ 2 * templateBits t
+unfolding templateBytes
+template-short t = simp length-append (omega (arith, length-bytesOf (entriesBits (t .entries)), flat-bits-end (t .code)))
+
+-- what is known of the templates ts, of numbers own on, read from p to q of the file s
+record TemplatesFacts (s : List ℕ) (T own p : ℕ) (ts : List Template) (q : ℕ) : Type 0 where
+  pub each : Each (TemplateFacts T) own ts
+  pub short : 5 * length (templatesBytes ts) + 2 * p ≤ 2 * q
+  pub inside : q ≤ 8 * length s
+
+module _ (s : List ℕ) (small : length s ≤ 65536) (T : ℕ) (few : T ≤ 64) where
+  -- from the facts of the parts of a template: E, its entries, its list
+  parts : (own p n p₁ : ℕ) (es : List Entry) (p₂ : ℕ) (c : Code) (p₃ : ℕ) {t : Template} {q : ℕ}
+      → (n < 2 ^ 8) × (p₁ ≡ p + 8) × (p₁ ≤ 8 * length s)
+      → EntriesGood s own T n p₁ es p₂
+      → (p₃ ≡ p₂ + bits c) × (p₃ ≤ 8 * length s)
+      → Valid c
+      → got (record { entries = es; start = p₂; code = c }) p₃ ≡ got t q
+      → TemplateFacts T own t × (q ≡ p + templateBits t) × (q ≤ 8 * length s)
+  parts own p n p₁ es p₂ c p₃ {t} {q} f g l v e =
+      let e₁ : record { entries = es; start = p₂; code = c } ≡ t = cc in
+      let e₂ : p₃ ≡ q = cc in
+      rw (← e₁, ← e₂)
+      (record { writable = record { entries-ok = g .ok; few = omega arith; short = omega (arith, flat-bits-end c) }; within = omega arith; valid-code = v }, omega arith, l .1)
+
+  template-facts : (own p : ℕ) {t : Template} {q : ℕ} → templateAt s own T p ≡ got t q → TemplateFacts T own t × (q ≡ p + templateBits t) × (q ≤ 8 * length s)
+  unfolding templateAt
+  template-facts own p e =
+      then-led (field s p 8) _ e
+      (λ n p₁ e₁ on₁.
+      then-led (entriesAt s own T n p₁) _ on₁
+      (λ es p₂ e₂ on₂.
+      then-led (listAt s 15 p₂) _ on₂
+      (λ c p₃ e₃ on₃. parts own p n p₁ es p₂ c p₃ (field-led s p 8 e₁) (entries-read s own T few n p₁ e₂) (list-bits s 15 p₂ c p₃ e₃) (list-valid s 15 p₂ c p₃ e₃) on₃)))
+
+  templates-facts : (n own p : ℕ) {ts : List Template} {q : ℕ} → p ≤ 8 * length s → templatesAt s T own n p ≡ got ts q → (length ts ≡ n) × TemplatesFacts s T own p ts q
+  unfolding templatesAt templatesBytes
+  templates-facts zero own p {ts} {q} h e =
+      let e₁ : [] ≡ ts = cc in
+      let e₂ : p ≡ q = cc in
+      rw (← e₁, ← e₂) (refl, record { each = tt; short = omega arith; inside = h })
+  templates-facts (suc n) own p {ts} {q} h e =
+      then-led (templateAt s own T p) _ e
+      (λ t r first on.
+      let f = template-facts own p first in
+      then-led (templatesAt s T (own + 1) n r) _ on
+      (λ us r′ rest end.
+      let g = templates-facts n (own + 1) r (f .2) rest in
+      let e₁ : (t ∷ us) ≡ ts = cc in
+      let e₂ : r′ ≡ q = cc in
+      rw (← e₁, ← e₂)
+      (ap suc (g .0), record { each = (f .0, g .1 .each); short = simp length-append (omega (arith, template-short t)); inside = g .1 .inside })))
+
+-- ---- the file
+-- what is known of the templates of a tree file
+pub record TreeFacts (ts : List Template) : Type 0 where
+  pub at-least-one : 1 ≤ length ts
+  pub at-most-64 : length ts ≤ 64
+  pub each : Each (TemplateFacts (length ts)) 0 ts
+  pub fits : length (linearFile ts) < 262144
+
+pub tree-facts : (s : List ℕ) (ts : List Template) (q : ℕ) → treeRead s ≡ got ts q → TreeFacts ts
+unfolding treeRead linearFile
+tree-facts s ts q e =
+    let c = cond-led (leb (length s) 65536) _ 1 0 e in
+    let small : length s ≤ 65536 = leb-true (length s) 65536 (c .0) in
+    then-led (field s 0 8) _ (c .1)
+    (λ T p first on.
+    let v = valid-led 0 (leb 1 T && leb T 64) _ on in
+    let a = and-both (leb 1 T) (leb T 64) (v .0) in
+    let f = field-led s 0 8 first in
+    then-led (templatesAt s T 0 T p) _ (v .1)
+    (λ us r read padded.
+    let e₁ : us ≡ ts = padded-led s us r padded in
+    let g = templates-facts s small T (leb-true T 64 (a .1)) T 0 p (f .2) read in
+    let n : length us ≡ T = g .0 in
+    let facts : TemplatesFacts s T 0 p us r = g .1 in
+    rw (← e₁)
+    (record {
+      at-least-one = omega (arith, leb-true 1 T (a .0));
+      at-most-64 = omega (arith, leb-true T 64 (a .1));
+      each = rw n (facts .each);
+      fits = omega arith;
+    })))

@@ -1,0 +1,1 @@
+// Linear files read back what was written (document 01, 'Two files'): laws only, in specs/.

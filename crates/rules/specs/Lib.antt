@@ -1,0 +1,11 @@
+-- The specs of the crate rules.
+pub mod State
+pub mod Total
+pub mod Rules
+pub mod Related
+pub mod Frames
+pub mod Effects
+pub mod Clean
+pub mod Sound
+pub mod SoundRules
+pub mod Rows

@@ -1,0 +1,5 @@
+-- The specs of the crate sound.
+pub mod Programs
+pub mod Runs
+pub mod Files
+pub mod Machines

@@ -1,0 +1,117 @@
+-- The two machines: after an accepted start, at every end stack, store and frame cells not in use are zero (document 01, 'Cells'), and an answer
+-- is a value. Assumes nothing.
+use Prim.Native.Nat.{ℕ, _≤_}
+use mathlib.Core.Path.{_≡_, refl}
+use mathlib.Core.Bool.{Bool, true, false, cond}
+use mathlib.Core.List.{List}
+use mathlib.Core.Option.{Option, none, some}
+use borrow.Author.Tests.{eqb-true}
+use lib.Dec.{leb, eqb}
+use lib.ListN.{length}
+use Rattle.cells.specs.Cells.{valueOf}
+use Rattle.cells.specs.declared.Value.the-variants.{NoValue}
+use Rattle.files.specs.Reading.{Got, got, refused}
+use Rattle.files.specs.AllGot.{AllGot}
+use Rattle.files.specs.Tree.{Template}
+use Rattle.files.specs.Linear.{Linear, linearRead}
+use Rattle.files.specs.Accepted.{treeChecked}
+use Rattle.files.specs.Valid.{Bytes}
+use Rattle.rules.specs.Clean.{ZeroFrom}
+use Rattle.machines.specs.Machine.{Program, treeProgram, linearProgram, noCounts, Ending, halted, wrongly, spent, run}
+use Rattle.machines.specs.Runs.{Memory, Ran, ran, refusedRun, rightLengths, lowestUnfit, fitGlobals, started, startState, endOf, memoryOf, reported, programRun}
+use Rattle.machines.specs.Runs.{onTree, onLinear, treeRun, linearRun}
+use Rattle.machines.specs.declared.End.{End}
+use Rattle.machines.specs.declared.End.the-variants.{Halted, Wrong, OutOfBudget, Refused}
+use Rattle.machines.specs.declared.Run.{Run}
+use Rattle.sound.specs.Programs.{ProgramOk}
+use Rattle.sound.specs.Runs.{Kept, FitGlobals, fit-globals, kept-run, value-run, both}
+use Rattle.sound.specs.Files.{tree-ok, linear-ok}
+
+-- ---- the statements
+-- a memory of the right lengths, zero from the used counts on, which are within it
+pub record CleanMemory (r : Run) (m : Memory) : Type 0 where
+  pub globals-length : length (m .globals) ≡ 256
+  pub stack-length : length (m .stack) ≡ 256
+  pub store-length : length (m .store) ≡ 2048
+  pub frames-length : length (m .frames) ≡ 2048
+  pub stack-count : r .stack ≤ 256
+  pub store-count : r .store ≤ 2048
+  pub frames-count : r .frames ≤ 2048
+  pub stack-zero : ZeroFrom (m .stack) (r .stack)
+  pub store-zero : ZeroFrom (m .store) (r .store)
+  pub frames-zero : ZeroFrom (m .frames) (r .frames)
+
+abbrev pub EndOk : End → Type 0 → Type 0
+EndOk (Halted v) M = M × (v ≡ NoValue → ⊥)
+EndOk (Wrong n) M = M
+EndOk OutOfBudget M = M
+EndOk (Refused n p) M = Unit {0}
+
+-- what is said of a run that is not refused
+abbrev pub RanOk : Ran → Type 0
+RanOk (ran r m) = EndOk (r .end) (CleanMemory r m)
+
+-- ---- a program's run
+refused-ok : (n p : ℕ) (m : Memory) → RanOk (refusedRun n p m)
+unfolding refusedRun
+refused-ok n p m = tt
+
+end-ok : (e : Ending) (v : ℕ) (M : Type 0) → M → (valueOf v ≡ NoValue → ⊥) → EndOk (endOf e v) M
+unfolding endOf
+end-ok halted v M m h = (m, h)
+end-ok (wrongly n) v M m h = m
+end-ok spent v M m h = m
+
+program-ok : (P : Program) → ProgramOk P → (b : ℕ) (g : List ℕ) → FitGlobals g → RanOk (reported (programRun P b g))
+unfolding reported programRun memoryOf
+program-ok P fit b g h =
+    let e = run P b noCounts (startState g (P .start 0)) in
+    let k : Kept (e .state) = kept-run P fit g h b (P .start 0) in
+    end-ok (e .ending) (e .state .now .regs .v) _
+    (record {
+      globals-length = k .sized .globals-length;
+      stack-length = k .sized .stack-length;
+      store-length = k .sized .store-length;
+      frames-length = k .sized .frames-length;
+      stack-count = k .bound .sp-bound;
+      store-count = k .bound .st-bound;
+      frames-count = k .bound .fr-bound;
+      stack-zero = k .clean .clean-stack;
+      store-zero = k .clean .clean-store;
+      frames-zero = k .clean .clean-frames;
+    })
+    (value-run P fit g h b (P .start 0) .1)
+
+-- ---- the start
+started-ok : (most b : ℕ) (m : Memory) (r : Ran) → (FitGlobals (m .globals) → RanOk r) → RanOk (started most b m r)
+unfolding started fitGlobals rightLengths
+started-ok most b m r h = lengths (rightLengths m) refl
+  where
+    globals : length (m .globals) ≡ 256 → (o : Option ℕ) → lowestUnfit 0 (m .globals) ≡ o → RanOk (fitGlobals o m r)
+    globals l (some g) e = refused-ok 22 g m
+    globals l none e = h (fit-globals (m .globals) l e)
+
+    budget : length (m .globals) ≡ 256 → (c : Bool) → RanOk (cond c (fitGlobals (lowestUnfit 0 (m .globals)) m r) (refusedRun 21 0 m))
+    budget l true = globals l (lowestUnfit 0 (m .globals)) refl
+    budget l false = refused-ok 21 0 m
+
+    lengths : (c : Bool) → rightLengths m ≡ c → RanOk (cond c (cond (leb b most) (fitGlobals (lowestUnfit 0 (m .globals)) m r) (refusedRun 21 0 m)) (refusedRun 20 0 m))
+    lengths true e = budget (eqb-true (length (m .globals)) 256 (both (eqb (length (m .globals)) 256) _ e .0)) (leb b most)
+    lengths false e = refused-ok 20 0 m
+
+-- ---- THE LAWS: whatever the file, the budget and the memory lent
+pub tree-run-ok : (s : List ℕ) (b : ℕ) (m : Memory) → RanOk (treeRun s b m)
+unfolding treeRun onTree
+tree-run-ok s b m = started-ok 1000000 b m _ (λ g. read g (treeChecked s) (tree-ok s))
+  where
+    read : FitGlobals (m .globals) → (x : Got (List Template)) → AllGot (λ ts. ProgramOk (treeProgram ts)) x → RanOk (onTree b m x)
+    read g (got ts q) h = program-ok (treeProgram ts) h b (m .globals) g
+    read g (refused n p) h = refused-ok n p m
+
+pub linear-run-ok : (s : List ℕ) → Bytes s → (b : ℕ) (m : Memory) → RanOk (linearRun s b m)
+unfolding linearRun onLinear
+linear-run-ok s bytes b m = started-ok 2000000 b m _ (λ g. read g (linearRead s) (linear-ok s bytes))
+  where
+    read : FitGlobals (m .globals) → (x : Got (List Linear)) → AllGot (λ ts. ProgramOk (linearProgram ts)) x → RanOk (onLinear b m x)
+    read g (got ts q) h = program-ok (linearProgram ts) h b (m .globals) g
+    read g (refused n p) h = refused-ok n p m

@@ -1,0 +1,69 @@
+/* The exporter's library for C: link target/staticlib/libexporter.a, which `rt staticlib exporter` makes (x86-64 Linux).
+   Document 01 has the files, cells, rules and numbers. A slice is a pointer and then a length in elements: the pointer is
+   aligned and not null, also where the length is 0, and no two slices of a call overlap. Nothing is kept between calls. */
+#ifndef EXPORTER_H
+#define EXPORTER_H
+
+#include <stddef.h>
+#include <stdint.h>
+
+#ifdef __cplusplus
+extern "C" {
+#endif
+
+enum {
+    EXPORTER_GLOBALS = 256, EXPORTER_STACK = 256, EXPORTER_STORE = 2048, EXPORTER_FRAMES = 2048, /* cells, exactly */
+    EXPORTER_TREE_FILE = 65536, EXPORTER_LINEAR_FILE = 262144,     /* longest files, in bytes */
+    EXPORTER_TREE_BUDGET = 1000000, EXPORTER_LINEAR_BUDGET = 2000000 /* largest budgets, in steps */
+};
+
+/* The slots of a result. */
+enum { EXPORTER_REFUSAL, EXPORTER_LENGTH_OR_PLACE, EXPORTER_FLATTEN_SLOTS };
+enum {
+    EXPORTER_END, EXPORTER_NUMBER, EXPORTER_PLACE, EXPORTER_ANSWER, EXPORTER_STEPS,
+    EXPORTER_ON_STACK, EXPORTER_IN_STORE, EXPORTER_IN_FRAMES, EXPORTER_RUN_SLOTS
+};
+
+/* How a run ended. */
+enum { EXPORTER_HALTED, EXPORTER_WRONG, EXPORTER_OUT_OF_BUDGET, EXPORTER_REFUSED };
+
+/* Flattens a tree file.
+   result[0]: 0 accepted, else the refusal's number, 1 to 9.
+   result[1]: accepted: the linear file's length in bytes; refused: the place.
+   Accepted: the first result[1] bytes of out are the linear file, the others are as they were. Refused: all of out is.
+   result_len is 2 or more; slots after the first 2 stay. Where it is less, nothing at all is done. */
+void exporter_flatten(const uint8_t *file, size_t file_len,
+                      uint8_t *out, size_t out_len,
+                      uint64_t *result, size_t result_len);
+
+/* Runs a tree file.
+   globals: read at the start (tags 1 to 6 only) and left as the run leaves them. stack, store, frames: what they held does
+   not matter; after an accepted start the cells not in use are zero.
+   result[0]: how it ended: 0 halted, 1 wrong, 2 out of budget, 3 refused.
+   result[1]: halted 0; wrong the number, 10 to 18; out of budget 19; refused the number, 1 to 7 or 20 to 22.
+   result[2]: refused: the place; else 0.
+   result[3]: halted: the answer's cell; else 0.
+   result[4]: steps; refused 0.
+   result[5], result[6], result[7]: stack, store and frame cells used; refused 0.
+   Refused: the four memories are as they were.
+   result_len is 8 or more; slots after the first 8 stay. Where it is less, nothing at all is done. */
+void exporter_run_tree(const uint8_t *file, size_t file_len, uint64_t budget,
+                       uint64_t *globals, size_t globals_len,
+                       uint64_t *stack, size_t stack_len,
+                       uint64_t *store, size_t store_len,
+                       uint64_t *frames, size_t frames_len,
+                       uint64_t *result, size_t result_len);
+
+/* Runs a linear file, in the same way; refused is 1, 2, 3, 5 or 20 to 22. */
+void exporter_run_linear(const uint8_t *file, size_t file_len, uint64_t budget,
+                         uint64_t *globals, size_t globals_len,
+                         uint64_t *stack, size_t stack_len,
+                         uint64_t *store, size_t store_len,
+                         uint64_t *frames, size_t frames_len,
+                         uint64_t *result, size_t result_len);
+
+#ifdef __cplusplus
+}
+#endif
+
+#endif

@@ -1,0 +1,361 @@
+/* differential COUNT SEED [tally]: runs generated files through the library and the plain implementation, each with buffers
+   of its own, and compares results and all that the buffers hold; then checks demand 3 on each accepted sheet. File i has the
+   seed SEED + i, so that `differential 1 SEED` does a single file again. */
+#include "../plain/library.h"
+#include "generate.h"
+
+#include <inttypes.h>
+#include <stdio.h>
+#include <stdlib.h>
+#include <string.h>
+
+enum { GLOBALS = 256, STACK = 256, STORE = 2048, FRAMES = 2048, MARGIN = 8, RESULT = 8 };
+enum { TREE_BUDGET = 1000000, LINEAR_BUDGET = 2000000 };
+enum { HALTED, WRONG, OUT_OF_BUDGET, REFUSED };
+
+/* All that is lent to a run. Margins show writes beyond a slice. */
+typedef struct {
+    uint64_t globals[GLOBALS + MARGIN], stack[STACK + MARGIN], store[STORE + MARGIN], frames[FRAMES + MARGIN];
+    uint64_t result[RESULT + MARGIN];
+} Memory;
+
+typedef struct {
+    size_t globals, stack, store, frames, result;
+} Lengths;
+
+static const Lengths right_lengths = { GLOBALS, STACK, STORE, FRAMES, RESULT };
+
+static uint64_t seed, differences;
+static uint64_t flatten_tally[10], tree_tally[4][32], linear_tally[4][32];
+
+/* Reports */
+
+static void dump(const char *name, const uint8_t *bytes, size_t len)
+{
+    printf("%s, %zu bytes:", name, len);
+    for (size_t i = 0; i < len && i < 2000; i++)
+        printf("%s%02X", i % 32 == 0 ? "\n  " : " ", bytes[i]);
+    printf("%s\n", len > 2000 ? " .." : "");
+}
+
+/* Answers whether to tell more about it. */
+static bool differs(const char *what)
+{
+    if (++differences > 10)
+        return false;
+    printf("DIFFERENCE in %s: seed %" PRIu64 " (again: tests/differential/run 1 %" PRIu64 ")\n", what, seed, seed);
+    return true;
+}
+
+static void tell_results(const char *name, const uint64_t *result, size_t count)
+{
+    printf("  %s:", name);
+    for (size_t i = 0; i < count; i++)
+        printf(" %" PRIx64, result[i]);
+    printf("\n");
+}
+
+static void tell_cells(const char *name, const uint64_t *library, const uint64_t *plain, size_t count)
+{
+    for (size_t i = 0; i < count; i++)
+        if (library[i] != plain[i]) {
+            printf("  %s %zu: library %016" PRIx64 ", plain %016" PRIx64 "\n", name, i, library[i], plain[i]);
+            return;
+        }
+}
+
+static void tell_memories(const Memory *library, const Memory *plain)
+{
+    tell_results("library", library->result, RESULT);
+    tell_results("plain  ", plain->result, RESULT);
+    tell_cells("globals", library->globals, plain->globals, GLOBALS + MARGIN);
+    tell_cells("stack", library->stack, plain->stack, STACK + MARGIN);
+    tell_cells("store", library->store, plain->store, STORE + MARGIN);
+    tell_cells("frames", library->frames, plain->frames, FRAMES + MARGIN);
+    tell_cells("result", library->result, plain->result, RESULT + MARGIN);
+}
+
+/* Files are lent to be read only. */
+
+static File before;
+
+static void remember(const File *file)
+{
+    before.len = file->len;
+    memcpy(before.bytes, file->bytes, file->len);
+}
+
+static void compare_file(const File *file)
+{
+    if (memcmp(before.bytes, file->bytes, before.len) != 0 && differs("the file itself"))
+        dump("file before", before.bytes, before.len);
+}
+
+/* Flattening */
+
+static uint8_t library_out[4 * FILE_ROOM], plain_out[4 * FILE_ROOM];
+
+/* Answers the linear file's length, or 0 where it was refused. The linear file is then at the front of library_out. */
+static size_t flatten_both(Random *random, const File *file, size_t out_len, size_t result_len, uint64_t plain_result[4])
+{
+    uint64_t library_result[4];
+    size_t room = out_len + 16;
+    memset(library_out, (int)below(random, 256), room);
+    memcpy(plain_out, library_out, room);
+    for (unsigned i = 0; i < 4; i++)
+        library_result[i] = plain_result[i] = draw(random);
+    remember(file);
+    exporter_flatten(file->bytes, file->len, library_out, out_len, library_result, result_len);
+    compare_file(file);
+    plain_flatten(file->bytes, file->len, plain_out, out_len, plain_result, result_len);
+    if ((memcmp(library_result, plain_result, sizeof library_result) != 0 || memcmp(library_out, plain_out, room) != 0)
+        && differs("flatten")) {
+        printf("  out_len %zu, result_len %zu\n", out_len, result_len);
+        tell_results("library", library_result, 4);
+        tell_results("plain  ", plain_result, 4);
+        dump("sheet", file->bytes, file->len);
+    }
+    if (result_len < 2)
+        return 0;
+    flatten_tally[plain_result[0]]++;
+    return plain_result[0] == 0 ? plain_result[1] : 0;
+}
+
+/* Every linear file is shorter than 4 bytes for one of its sheet and some. */
+static size_t ample(const File *file)
+{
+    return file->len > 65536 ? 64 : 4 * file->len + 64;
+}
+
+static void compare_flattening(Random *random, const File *file, File *linear)
+{
+    uint64_t result[4];
+    size_t needed = flatten_both(random, file, ample(file), 2, result);
+    linear->len = needed;
+    memcpy(linear->bytes, library_out, needed);
+    if (needed > 0) {
+        flatten_both(random, file, needed, 4, result);
+        flatten_both(random, file, needed - 1, 2, result);
+        flatten_both(random, file, draw(random) % needed, 2, result);
+    } else if (result[0] == 8) {
+        flatten_both(random, file, 0, 2, result);
+    }
+    if (chance(random, 5))
+        flatten_both(random, file, ample(file), below(random, 2), result);
+}
+
+/* Runs */
+
+static void fill(Random *random, Memory *memory, const uint64_t *globals)
+{
+    uint64_t dirt = chance(random, 50) ? 0 : draw(random);
+    uint64_t *cells = (uint64_t *)memory;
+    for (size_t i = 0; i < sizeof *memory / sizeof cells[0]; i++)
+        cells[i] = dirt * (i + 1);
+    memcpy(memory->globals, globals, GLOBALS * sizeof globals[0]);
+}
+
+static void run(Run *machine, const File *file, uint64_t budget, Memory *m, const Lengths *lengths)
+{
+    machine(file->bytes, file->len, budget, m->globals, lengths->globals, m->stack, lengths->stack, m->store, lengths->store,
+            m->frames, lengths->frames, m->result, lengths->result);
+}
+
+/* Leaves what the library made of it in memory. */
+static void run_both(const char *what, const File *file, uint64_t budget, Memory *memory, const Lengths *lengths, bool tree)
+{
+    static Memory plain;
+    plain = *memory;
+    remember(file);
+    run(tree ? exporter_run_tree : exporter_run_linear, file, budget, memory, lengths);
+    compare_file(file);
+    run(tree ? plain_run_tree : plain_run_linear, file, budget, &plain, lengths);
+    if (memcmp(memory, &plain, sizeof plain) != 0 && differs(what)) {
+        printf("  budget %" PRIu64 ", lengths %zu %zu %zu %zu %zu\n", budget, lengths->globals, lengths->stack, lengths->store,
+               lengths->frames, lengths->result);
+        tell_memories(memory, &plain);
+        dump(tree ? "sheet" : "linear file", file->bytes, file->len);
+    }
+    if (lengths->result >= RESULT)
+        (tree ? tree_tally : linear_tally)[plain.result[0]][plain.result[1]]++;
+}
+
+static void spoil_length(Random *random, size_t *length)
+{
+    static const int by[] = { -1, 1, MARGIN };
+    *length = chance(random, 20) ? 0 : *length + (size_t)(ptrdiff_t)by[below(random, 3)];
+}
+
+/* Starts that are refused, by one reason or by several at once. */
+static void compare_bad_start(Random *random, const File *file, const uint64_t *globals, bool tree)
+{
+    static Memory memory;
+    Lengths lengths = right_lengths;
+    uint64_t budget = generate_budget(random, 1000);
+    unsigned reasons = 1 + below(random, 15);
+    fill(random, &memory, globals);
+    if (reasons & 1) {
+        size_t *which[] = { &lengths.globals, &lengths.stack, &lengths.store, &lengths.frames };
+        spoil_length(random, which[below(random, 4)]);
+    }
+    if (reasons & 2)
+        budget = chance(random, 50) ? (tree ? TREE_BUDGET : LINEAR_BUDGET) + UINT64_C(1) : draw(random) | UINT64_C(1) << 63;
+    if (reasons & 4)
+        for (unsigned n = 1 + below(random, 3); n > 0; n--)
+            memory.globals[chance(random, 20) ? GLOBALS - 1 : below(random, GLOBALS)] = bad_global(random);
+    if (reasons & 8)
+        lengths.result = below(random, RESULT);
+    run_both(tree ? "tree, bad start" : "linear, bad start", file, budget, &memory, &lengths, tree);
+}
+
+/* Demand 3 */
+
+static bool ended(const Memory *m)
+{
+    return m->result[0] == HALTED || m->result[0] == WRONG;
+}
+
+static uint64_t without_place(uint64_t cell)
+{
+    return cell >> 60 == 10 ? cell & ~(UINT64_C(0xffffff) << 4) : cell;
+}
+
+static bool memories_agree(const Memory *tree, const Memory *linear)
+{
+    for (unsigned i = 0; i < FRAMES; i++)
+        if (without_place(tree->frames[i]) != without_place(linear->frames[i]))
+            return false;
+    return memcmp(tree->globals, linear->globals, sizeof tree->globals) == 0
+        && memcmp(tree->stack, linear->stack, sizeof tree->stack) == 0
+        && memcmp(tree->store, linear->store, sizeof tree->store) == 0;
+}
+
+/* Both ended: do they agree as demand 3 has it? */
+static bool ends_agree(const Memory *tree, const Memory *linear, uint64_t firsts, uint64_t jumps)
+{
+    const uint64_t *t = tree->result, *l = linear->result;
+    return t[0] == l[0] && t[1] == l[1] && t[3] == l[3] && l[4] == t[4] + jumps
+        && jumps <= firsts && firsts <= t[4] && (t[0] != HALTED || jumps == firsts)
+        && t[5] == l[5] && t[6] == l[6] && t[7] == l[7] && memories_agree(tree, linear);
+}
+
+/* Would the tree machine have come to this end of the linear machine within its budget? */
+static bool within(const Memory *linear, uint64_t jumps, uint64_t budget)
+{
+    uint64_t steps = linear->result[4] - jumps;
+    return linear->result[0] == HALTED ? steps <= budget : steps < budget;
+}
+
+static void tell_demand(const char *what, const Memory *tree, const Memory *linear, uint64_t firsts, uint64_t jumps,
+                        const File *sheet, uint64_t budget)
+{
+    if (!differs(what))
+        return;
+    printf("  budget %" PRIu64 ", first arms %" PRIu64 ", jumps %" PRIu64 "\n", budget, firsts, jumps);
+    printf("  (below, library stands for the tree machine and plain for the linear)\n");
+    tell_memories(tree, linear);
+    dump("sheet", sheet->bytes, sheet->len);
+}
+
+static void compare_machines(Random *random, const File *sheet, const File *flat, const uint64_t *globals, uint64_t budget)
+{
+    static Memory start, tree, linear;
+    fill(random, &start, globals);
+    tree = linear = start;
+    run_both("tree", sheet, budget, &tree, &right_lengths, true);
+    uint64_t firsts = plain_firsts;
+    if (flat->len == 0)
+        return;
+    run_both("linear", flat, 2 * budget, &linear, &right_lengths, false);
+    uint64_t jumps = plain_jumps;
+    if (tree.result[0] == REFUSED || linear.result[0] == REFUSED)
+        tell_demand("demand 3: a flattened sheet is refused", &tree, &linear, 0, 0, sheet, budget);
+    else if (ended(&tree) && !(ended(&linear) && ends_agree(&tree, &linear, firsts, jumps)))
+        tell_demand("demand 3: the tree machine ended", &tree, &linear, firsts, jumps, sheet, budget);
+    else if (!ended(&tree) && ended(&linear) && within(&linear, jumps, budget))
+        tell_demand("demand 3: the linear machine alone ended", &tree, &linear, firsts, jumps, sheet, budget);
+    if (ended(&tree) || !ended(&linear))
+        return;
+
+    /* The other way round: what the linear machine ended, the tree machine ends with the same budget. */
+    uint64_t larger = 2 * budget < TREE_BUDGET ? 2 * budget : TREE_BUDGET;
+    tree = start;
+    run_both("tree", sheet, larger, &tree, &right_lengths, true);
+    firsts = plain_firsts;
+    if (within(&linear, jumps, larger) && !(ended(&tree) && ends_agree(&tree, &linear, firsts, jumps)))
+        tell_demand("demand 3: the linear machine ended", &tree, &linear, firsts, jumps, sheet, larger);
+}
+
+/* Files */
+
+static void compare_linear(Random *random, const File *file, const uint64_t *globals)
+{
+    static Memory memory;
+    fill(random, &memory, globals);
+    run_both("linear", file, generate_budget(random, LINEAR_BUDGET), &memory, &right_lengths, false);
+    if (chance(random, 10))
+        compare_bad_start(random, file, globals, false);
+}
+
+static void compare_sheet(Random *random)
+{
+    static File sheet, flat;
+    uint64_t globals[GLOBALS];
+    generate_tree(random, &sheet);
+    generate_globals(random, globals);
+    compare_flattening(random, &sheet, &flat);
+    compare_machines(random, &sheet, &flat, globals, generate_budget(random, TREE_BUDGET));
+    if (chance(random, 20))
+        compare_bad_start(random, &sheet, globals, true);
+    if (flat.len > 0 && chance(random, 60)) {
+        damage(random, &flat);
+        compare_linear(random, &flat, globals);
+    }
+}
+
+static void compare_own_linear(Random *random)
+{
+    static File linear;
+    uint64_t globals[GLOBALS], result[4];
+    generate_linear(random, &linear);
+    generate_globals(random, globals);
+    compare_linear(random, &linear, globals);
+    if (chance(random, 5))
+        flatten_both(random, &linear, ample(&linear), 2, result);
+}
+
+static void print_tally(const char *machine, uint64_t tally[4][32])
+{
+    static const char *const ends[] = { "halted", "wrong", "out of budget", "refused" };
+    for (unsigned end = 0; end < 4; end++) {
+        printf("%s %s:", machine, ends[end]);
+        for (unsigned n = 0; n < 32; n++)
+            if (tally[end][n] > 0)
+                printf(" %u x%" PRIu64, n, tally[end][n]);
+        printf("\n");
+    }
+}
+
+int main(int argc, char **argv)
+{
+    uint64_t count = argc > 1 ? strtoull(argv[1], NULL, 10) : 20000;
+    uint64_t first = argc > 2 ? strtoull(argv[2], NULL, 10) : 1;
+    for (uint64_t i = 0; i < count; i++) {
+        seed = first + i;
+        Random random = { .state = seed * UINT64_C(0x2545f4914f6cdd1d) };
+        if (chance(&random, 75))
+            compare_sheet(&random);
+        else
+            compare_own_linear(&random);
+    }
+    if (argc > 3) {
+        printf("flatten:");
+        for (unsigned n = 0; n < 10; n++)
+            printf(" %u x%" PRIu64, n, flatten_tally[n]);
+        printf("\n");
+        print_tally("tree", tree_tally);
+        print_tally("linear", linear_tally);
+    }
+    printf("differential: %" PRIu64 " files, %" PRIu64 " differences\n", count, differences);
+    return differences == 0 ? 0 : 1;
+}

@@ -1,0 +1,34 @@
+/* Sheets, linear files and starts from a seed: the same seed always gives the same. */
+#ifndef GENERATE_H
+#define GENERATE_H
+
+#include <stdbool.h>
+#include <stddef.h>
+#include <stdint.h>
+
+#include "../plain/sheet.h"
+
+enum { FILE_ROOM = 262144 + 4096 };
+
+typedef struct {
+    uint64_t state;
+} Random;
+
+typedef struct {
+    uint8_t bytes[FILE_ROOM];
+    size_t len;
+} File;
+
+uint64_t draw(Random *random);
+unsigned below(Random *random, unsigned limit); /* 0 to limit - 1 */
+bool chance(Random *random, unsigned percent);
+
+void generate_tree(Random *random, File *file);   /* most are valid, some are damaged, some are not even meant to be */
+void generate_linear(Random *random, File *file); /* code that no sheet flattens to */
+void damage(Random *random, File *file);
+
+void generate_globals(Random *random, uint64_t *globals); /* 256, each fit for a start */
+uint64_t bad_global(Random *random);
+uint64_t generate_budget(Random *random, uint64_t largest);
+
+#endif

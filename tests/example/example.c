@@ -1,0 +1,69 @@
+/* The library from C: flattens a sheet from standard input (sheet P2 of document 01 where there is none), runs it on both
+   machines and tells what happened. */
+#include "../../include/exporter.h"
+
+#include <inttypes.h>
+#include <stdio.h>
+#include <string.h>
+
+static const uint8_t p2[] = {
+    0x01, 0x02, 0x60, 0x00, 0x00, 0x00, 0x3B, 0x00, 0x00, 0x00, 0x01,
+    0x4C, 0x02, 0xC1, 0x98, 0x08, 0x06, 0x01, 0x03, 0x2C, 0x10, 0x00
+};
+
+typedef struct {
+    uint64_t globals[EXPORTER_GLOBALS], stack[EXPORTER_STACK], store[EXPORTER_STORE], frames[EXPORTER_FRAMES];
+} Memory;
+
+static void tell_run(const char *machine, const uint64_t *result)
+{
+    printf("%s: ", machine);
+    switch (result[EXPORTER_END]) {
+    case EXPORTER_HALTED: printf("halted with the cell %016" PRIx64, result[EXPORTER_ANSWER]); break;
+    case EXPORTER_WRONG: printf("went wrong by %" PRIu64, result[EXPORTER_NUMBER]); break;
+    case EXPORTER_OUT_OF_BUDGET: printf("ran out of its budget"); break;
+    default: printf("refused by %" PRIu64 " at %" PRIu64 "\n", result[EXPORTER_NUMBER], result[EXPORTER_PLACE]); return;
+    }
+    printf(" after %" PRIu64 " steps; %" PRIu64 " stack, %" PRIu64 " store and %" PRIu64 " frame cells in use\n",
+           result[EXPORTER_STEPS], result[EXPORTER_ON_STACK], result[EXPORTER_IN_STORE], result[EXPORTER_IN_FRAMES]);
+}
+
+static void set_globals_undefined(Memory *m)
+{
+    for (unsigned g = 0; g < EXPORTER_GLOBALS; g++)
+        m->globals[g] = UINT64_C(5) << 60;
+}
+
+int main(void)
+{
+    static uint8_t sheet[EXPORTER_TREE_FILE + 1], linear[EXPORTER_LINEAR_FILE];
+    static Memory m;
+    uint64_t flattened[EXPORTER_FLATTEN_SLOTS], result[EXPORTER_RUN_SLOTS];
+    size_t length = fread(sheet, 1, sizeof sheet, stdin);
+    if (length == 0) {
+        memcpy(sheet, p2, sizeof p2);
+        length = sizeof p2;
+    }
+
+    exporter_flatten(sheet, length, linear, sizeof linear, flattened, EXPORTER_FLATTEN_SLOTS);
+    if (flattened[EXPORTER_REFUSAL] != 0) {
+        printf("refused by %" PRIu64 " at %" PRIu64 "\n", flattened[EXPORTER_REFUSAL], flattened[EXPORTER_LENGTH_OR_PLACE]);
+        return 0;
+    }
+    size_t linear_length = flattened[EXPORTER_LENGTH_OR_PLACE];
+    printf("%zu bytes flatten to %zu:", length, linear_length);
+    for (size_t i = 0; i < linear_length; i++)
+        printf(" %02X", linear[i]);
+    printf("\n");
+
+    set_globals_undefined(&m);
+    exporter_run_tree(sheet, length, EXPORTER_TREE_BUDGET, m.globals, EXPORTER_GLOBALS, m.stack, EXPORTER_STACK,
+                      m.store, EXPORTER_STORE, m.frames, EXPORTER_FRAMES, result, EXPORTER_RUN_SLOTS);
+    tell_run("tree machine", result);
+
+    set_globals_undefined(&m);
+    exporter_run_linear(linear, linear_length, EXPORTER_LINEAR_BUDGET, m.globals, EXPORTER_GLOBALS, m.stack, EXPORTER_STACK,
+                        m.store, EXPORTER_STORE, m.frames, EXPORTER_FRAMES, result, EXPORTER_RUN_SLOTS);
+    tell_run("linear machine", result);
+    return 0;
+}

@@ -1,0 +1,1004 @@
+#include "plain.h"
+
+#include <stdbool.h>
+#include <string.h>
+
+enum {
+    END = 0, RETURN, CALL, CONDITIONAL, MAKE_CONT, JUMP, LITERAL, CLOSURE, GLOBAL, SET_GLOBAL, LOCAL, SET_LOCAL, PUSH, MAKE_ENV,
+    UNSPECIFIED = 15, CHECKARGS,
+    CONS = 18, CAR, CDR, EQV, ADD, LAST_CODE = ADD
+};
+
+enum { NO_KIND, CONSTANT, GLOBAL_NUMBER, TEMPLATE_NUMBER };
+
+enum {
+    TREE_LIMIT = 65536, LINEAR_LIMIT = 262144,
+    TEMPLATES = 64, INDICES = 256, LAST_LEVEL = 16, LARGEST_OFFSET = 65535,
+    GLOBALS = 256, STACK = 256, STORE = 2048, FRAMES = 2048,
+    TREE_BUDGET = 1000000, LINEAR_BUDGET = 2000000
+};
+
+/* Bytes of a linear instruction; 0 is no instruction. */
+static const uint8_t linear_size[LAST_CODE + 1] = {
+    [RETURN] = 1, [CALL] = 2, [CONDITIONAL] = 3, [MAKE_CONT] = 4, [JUMP] = 3,
+    [LITERAL] = 2, [CLOSURE] = 2, [GLOBAL] = 2, [SET_GLOBAL] = 2, [LOCAL] = 3, [SET_LOCAL] = 3,
+    [PUSH] = 1, [MAKE_ENV] = 2, [UNSPECIFIED] = 1, [CHECKARGS] = 2,
+    [CONS] = 1, [CAR] = 1, [CDR] = 1, [EQV] = 1, [ADD] = 1
+};
+
+/* The kind of entry that an instruction names. */
+static const uint8_t named_kind[LAST_CODE + 1] = {
+    [LITERAL] = CONSTANT, [CLOSURE] = TEMPLATE_NUMBER, [GLOBAL] = GLOBAL_NUMBER, [SET_GLOBAL] = GLOBAL_NUMBER
+};
+
+uint64_t plain_firsts, plain_jumps;
+
+/* Refusals */
+
+static uint64_t refusal, refusal_place;
+
+static bool refuse(uint64_t number, uint64_t place)
+{
+    refusal = number;
+    refusal_place = place;
+    return false;
+}
+
+/* Cells */
+
+typedef uint64_t Cell;
+
+enum {
+    FALSE_TAG = 1, TRUE_TAG, NULL_TAG, NOT_SPECIFIED_TAG, UNDEFINED_TAG, INTEGER_TAG, CLOSURE_TAG, PAIR_TAG, LAYER_TAG, FRAME_TAG
+};
+
+static Cell tagged(unsigned tag)
+{
+    return (Cell)tag << 60;
+}
+
+static unsigned tag_of(Cell c)
+{
+    return (unsigned)(c >> 60);
+}
+
+static Cell integer_cell(uint32_t bits)
+{
+    return tagged(INTEGER_TAG) | (Cell)bits << 28;
+}
+
+static int64_t integer_value(Cell c)
+{
+    int64_t bits = (int64_t)(c >> 28 & 0xffffffff);
+    return bits < INT64_C(0x80000000) ? bits : bits - INT64_C(0x100000000);
+}
+
+static Cell closure_cell(Cell template, Cell environment, Cell location)
+{
+    return tagged(CLOSURE_TAG) | template << 52 | environment << 36 | location << 20;
+}
+
+static Cell pair_cell(Cell first, Cell second)
+{
+    return tagged(PAIR_TAG) | first << 44 | second << 28;
+}
+
+static Cell layer_cell(Cell parent, Cell count)
+{
+    return tagged(LAYER_TAG) | parent << 44 | count << 36;
+}
+
+static Cell frame_cell(Cell count, Cell template, Cell environment, Cell place)
+{
+    return tagged(FRAME_TAG) | count << 52 | template << 44 | environment << 28 | place << 4;
+}
+
+static bool is_starting_global(Cell c)
+{
+    unsigned tag = tag_of(c);
+    if (tag == INTEGER_TAG)
+        return c << 36 == 0;
+    return tag >= FALSE_TAG && tag <= UNDEFINED_TAG && c << 4 == 0;
+}
+
+/* Fields. The file is copied, so that a field is cut out of eight bytes also at the file's end. */
+
+static uint8_t file_bytes[LINEAR_LIMIT + 8];
+static uint64_t file_bits, at;
+
+static bool open_file(const uint8_t *file, size_t len, size_t limit)
+{
+    if (len > limit)
+        return refuse(1, 0);
+    if (len > 0)
+        memcpy(file_bytes, file, len);
+    memset(file_bytes + len, 0, 8);
+    file_bits = 8 * (uint64_t)len;
+    at = 0;
+    return true;
+}
+
+static uint32_t bits_at(uint64_t place, unsigned width)
+{
+    const uint8_t *p = file_bytes + place / 8;
+    uint64_t eight = (uint64_t)p[0] << 56 | (uint64_t)p[1] << 48 | (uint64_t)p[2] << 40 | (uint64_t)p[3] << 32
+        | (uint64_t)p[4] << 24 | (uint64_t)p[5] << 16 | (uint64_t)p[6] << 8 | (uint64_t)p[7];
+    return (uint32_t)(eight << place % 8 >> (64 - width));
+}
+
+static bool field(unsigned width, uint32_t *value)
+{
+    if (file_bits - at < width)
+        return refuse(2, at);
+    *value = bits_at(at, width);
+    at += width;
+    return true;
+}
+
+static bool padding(void)
+{
+    for (; at % 8 != 0; at++)
+        if (bits_at(at, 1) != 0)
+            return refuse(5, at);
+    return true;
+}
+
+static bool nothing_more(void)
+{
+    return at == file_bits || refuse(5, at);
+}
+
+/* Entries. Index 0 and indices above E keep NO_KIND. */
+
+static unsigned templates;
+static uint8_t kinds[TEMPLATES][INDICES];
+static Cell held[TEMPLATES][INDICES]; /* the constant's cell, or the global's or template's number */
+
+static bool read_count_of_templates(void)
+{
+    uint32_t count;
+    if (!field(8, &count))
+        return false;
+    if (count < 1 || count > TEMPLATES)
+        return refuse(3, at - 8);
+    templates = count;
+    return true;
+}
+
+static bool read_constant(Cell *constant)
+{
+    uint32_t tag, bits;
+    if (!field(3, &tag))
+        return false;
+    if (tag > 4)
+        return refuse(3, at - 3);
+    if (tag < 4) {
+        *constant = tagged(FALSE_TAG + tag);
+        return true;
+    }
+    if (!field(32, &bits))
+        return false;
+    *constant = integer_cell(bits);
+    return true;
+}
+
+static bool read_entry(unsigned t, unsigned n)
+{
+    uint32_t kind, number;
+    if (!field(2, &kind))
+        return false;
+    if (kind == NO_KIND)
+        return refuse(3, at - 2);
+    kinds[t][n] = (uint8_t)kind;
+    if (kind == CONSTANT)
+        return read_constant(&held[t][n]);
+    if (!field(8, &number))
+        return false;
+    if (kind == TEMPLATE_NUMBER && (number <= t || number >= templates))
+        return refuse(3, at - 8);
+    held[t][n] = number;
+    return true;
+}
+
+static bool read_entries(unsigned t)
+{
+    uint32_t count;
+    memset(kinds[t], NO_KIND, sizeof kinds[t]);
+    if (!field(8, &count))
+        return false;
+    for (unsigned n = 1; n <= count; n++)
+        if (!read_entry(t, n))
+            return false;
+    return true;
+}
+
+/* Tree files */
+
+typedef enum { EMPTY_LIST, OPEN_LIST, CLOSED_LIST, NO_LIST } Category; /* NO_LIST: neither open, closed nor empty */
+
+typedef struct Node {
+    uint8_t code, n1, n2;
+    bool open_arms;
+    uint32_t saved_place;                /* first bit of the saved list */
+    uint32_t first_length, second_length; /* flat lengths of the lists inside */
+    Cell held;                           /* of the entry that n1 names */
+    struct Node *first, *second;         /* arms; first also the saved list */
+    struct Node *next;                   /* in its list; after link_list what follows, wherever it stands */
+} Node;
+
+typedef struct {
+    Node *head;
+    Category category;
+    uint32_t length; /* flat */
+} List;
+
+typedef struct {
+    uint64_t entries_from, entries_to; /* bits of the entries, without E */
+    List code;
+    bool entries_fit;
+} Tree;
+
+static Tree trees[TEMPLATES];
+static Node nodes[TREE_LIMIT * 8 / 5 + 1];
+static size_t node_count;
+
+static bool is_tree_code(uint32_t code)
+{
+    return code <= LAST_CODE && code != JUMP && linear_size[code] != 0;
+}
+
+static unsigned tree_operands(uint32_t code)
+{
+    return code == CONDITIONAL ? 0 : code == MAKE_CONT ? 1 : linear_size[code] - 1u;
+}
+
+static bool read_operands(Node *node, unsigned t)
+{
+    uint32_t n[2] = { 0, 0 };
+    unsigned count = tree_operands(node->code);
+    for (unsigned i = 0; i < count; i++)
+        if (!field(8, &n[i]))
+            return false;
+    node->n1 = (uint8_t)n[0];
+    node->n2 = (uint8_t)n[1];
+    if (named_kind[node->code] != NO_KIND) {
+        node->held = held[t][node->n1];
+        if (kinds[t][node->n1] != named_kind[node->code])
+            trees[t].entries_fit = false;
+    }
+    return true;
+}
+
+/* How far a list has come towards being open or closed. */
+typedef struct {
+    bool any;         /* an instruction stood */
+    bool ended;       /* return, call or a closed conditional stood */
+    bool after_cont;  /* a make-cont stood: what follows it has to be closed */
+    Category at_close; /* what the list is once it ends closed */
+    bool fits;
+} Progress;
+
+static void add_make_cont(Progress *p, Category saved)
+{
+    if (saved == NO_LIST || (p->after_cont && saved != CLOSED_LIST))
+        p->fits = false;
+    if (!p->after_cont)
+        p->at_close = saved == CLOSED_LIST ? CLOSED_LIST : OPEN_LIST;
+    p->after_cont = true;
+}
+
+static void add_conditional(Progress *p, Category first, Category second)
+{
+    if (first != second || (first != OPEN_LIST && first != CLOSED_LIST))
+        p->fits = false;
+    if (first == CLOSED_LIST)
+        p->ended = true;
+}
+
+static void add_instruction(Progress *p, const Node *node, Category first, Category second)
+{
+    if (p->ended)
+        p->fits = false;
+    p->any = true;
+    if (node->code == MAKE_CONT)
+        add_make_cont(p, first);
+    else if (node->code == CONDITIONAL)
+        add_conditional(p, first, second);
+    else if (node->code == RETURN || node->code == CALL)
+        p->ended = true;
+}
+
+static Category category_of(const Progress *p)
+{
+    if (!p->fits)
+        return NO_LIST;
+    if (p->ended)
+        return p->at_close;
+    if (p->after_cont)
+        return NO_LIST;
+    return p->any ? OPEN_LIST : EMPTY_LIST;
+}
+
+static uint32_t flat_length(const Node *node)
+{
+    uint32_t jump = node->open_arms ? linear_size[JUMP] : 0;
+    return linear_size[node->code] + node->first_length + jump + node->second_length;
+}
+
+static bool read_list(unsigned t, unsigned level, List *list);
+
+static bool read_inner_lists(Node *node, unsigned t, unsigned level, Progress *p)
+{
+    List first = { 0 }, second = { 0 };
+    if (node->code == MAKE_CONT || node->code == CONDITIONAL) {
+        node->saved_place = (uint32_t)at;
+        if (!read_list(t, level + 1, &first))
+            return false;
+    }
+    if (node->code == CONDITIONAL && !read_list(t, level + 1, &second))
+        return false;
+    node->first = first.head;
+    node->second = second.head;
+    node->first_length = first.length;
+    node->second_length = second.length;
+    node->open_arms = second.category == OPEN_LIST;
+    add_instruction(p, node, first.category, second.category);
+    return true;
+}
+
+static bool read_list(unsigned t, unsigned level, List *list)
+{
+    Progress progress = { .at_close = CLOSED_LIST, .fits = true };
+    Node **link = &list->head;
+    uint32_t code;
+    list->length = 0;
+    for (;;) {
+        if (!field(5, &code))
+            return false;
+        if (code == END)
+            break;
+        if (!is_tree_code(code))
+            return refuse(3, at - 5);
+        if (level == LAST_LEVEL && (code == CONDITIONAL || code == MAKE_CONT))
+            return refuse(4, at - 5);
+        Node *node = &nodes[node_count++];
+        node->code = (uint8_t)code;
+        if (!read_operands(node, t) || !read_inner_lists(node, t, level, &progress))
+            return false;
+        *link = node;
+        link = &node->next;
+        list->length += flat_length(node);
+    }
+    *link = NULL;
+    list->category = category_of(&progress);
+    return true;
+}
+
+static bool read_template(unsigned t)
+{
+    Tree *tree = &trees[t];
+    tree->entries_fit = true;
+    tree->entries_from = at + 8;
+    if (!read_entries(t))
+        return false;
+    tree->entries_to = at;
+    return read_list(t, 1, &tree->code);
+}
+
+static bool read_tree(const uint8_t *file, size_t len)
+{
+    node_count = 0;
+    if (!open_file(file, len, TREE_LIMIT) || !read_count_of_templates())
+        return false;
+    for (unsigned t = 0; t < templates; t++)
+        if (!read_template(t))
+            return false;
+    if (!padding() || !nothing_more())
+        return false;
+    for (unsigned t = 0; t < templates; t++)
+        if (trees[t].code.category != CLOSED_LIST)
+            return refuse(6, t);
+    for (unsigned t = 0; t < templates; t++)
+        if (!trees[t].entries_fit)
+            return refuse(7, t);
+    return true;
+}
+
+/* Flattening, into a buffer of our own: a refusal must leave the caller's as it was. */
+
+static uint8_t linear_file[LINEAR_LIMIT];
+static bool offset_too_large;
+
+static uint8_t *put_offset(uint8_t *to, size_t offset)
+{
+    if (offset > LARGEST_OFFSET)
+        offset_too_large = true;
+    to[0] = (uint8_t)(offset / 256);
+    to[1] = (uint8_t)offset;
+    return to + 2;
+}
+
+static uint8_t *write_list(const Node *node, uint8_t *to, uint32_t length);
+
+static uint8_t *write_conditional(const Node *node, uint8_t *to)
+{
+    *to++ = CONDITIONAL;
+    to = put_offset(to, node->first_length + (node->open_arms ? linear_size[JUMP] : 0u));
+    to = write_list(node->first, to, node->first_length);
+    if (node->open_arms) {
+        *to++ = JUMP;
+        to = put_offset(to, node->second_length);
+    }
+    return write_list(node->second, to, node->second_length);
+}
+
+static uint8_t *write_plain(const Node *node, uint8_t *to)
+{
+    unsigned operands = linear_size[node->code] - 1u;
+    *to++ = node->code;
+    if (operands > 0)
+        *to++ = node->n1;
+    if (operands > 1)
+        *to++ = node->n2;
+    return to;
+}
+
+/* A make-cont's saved list stands behind the flat rest, so the list is filled from both sides. */
+static uint8_t *write_list(const Node *node, uint8_t *to, uint32_t length)
+{
+    uint8_t *end = to + length, *back = end;
+    for (; node != NULL; node = node->next) {
+        if (node->code == CONDITIONAL) {
+            to = write_conditional(node, to);
+        } else if (node->code == MAKE_CONT) {
+            back -= node->first_length;
+            write_list(node->first, back, node->first_length);
+            *to++ = MAKE_CONT;
+            to = put_offset(to, (size_t)(back - (to + 3)));
+            *to++ = node->n1;
+        } else {
+            to = write_plain(node, to);
+        }
+    }
+    return end;
+}
+
+static uint8_t *write_entries(const Tree *tree, uint8_t *to)
+{
+    *to++ = (uint8_t)bits_at(tree->entries_from - 8, 8);
+    for (uint64_t bit = tree->entries_from; bit < tree->entries_to; bit += 8) {
+        uint64_t left = tree->entries_to - bit;
+        uint32_t byte = bits_at(bit, 8);
+        *to++ = (uint8_t)(left < 8 ? byte >> (8 - left) << (8 - left) : byte);
+    }
+    return to;
+}
+
+static uint8_t *write_template(const Tree *tree, uint8_t *to)
+{
+    uint32_t length = tree->code.length;
+    to = write_entries(tree, to);
+    *to++ = (uint8_t)(length / 65536);
+    *to++ = (uint8_t)(length / 256);
+    *to++ = (uint8_t)length;
+    return write_list(tree->code.head, to, length);
+}
+
+static bool write_linear_file(size_t *length)
+{
+    uint8_t *to = linear_file;
+    *to++ = (uint8_t)templates;
+    for (unsigned t = 0; t < templates; t++) {
+        offset_too_large = false;
+        to = write_template(&trees[t], to);
+        if (offset_too_large)
+            return refuse(8, t);
+    }
+    *length = (size_t)(to - linear_file);
+    return true;
+}
+
+void plain_flatten(const uint8_t *file, size_t file_len, uint8_t *out, size_t out_len, uint64_t *result, size_t result_len)
+{
+    size_t length = 0;
+    if (result_len < 2)
+        return;
+    if (!read_tree(file, file_len) || !write_linear_file(&length) || !(length <= out_len || refuse(9, length))) {
+        result[0] = refusal;
+        result[1] = refusal_place;
+        return;
+    }
+    memcpy(out, linear_file, length);
+    result[0] = 0;
+    result[1] = length;
+}
+
+/* Linear files */
+
+typedef struct {
+    const uint8_t *code;
+    uint32_t length;
+    const uint8_t *kinds;
+    const Cell *held;
+} Linear;
+
+static Linear linears[TEMPLATES];
+
+static bool read_code(unsigned t)
+{
+    Linear *linear = &linears[t];
+    if (!field(24, &linear->length))
+        return false;
+    if (file_bits - at < 8 * (uint64_t)linear->length)
+        return refuse(2, file_bits);
+    linear->code = file_bytes + at / 8;
+    linear->kinds = kinds[t];
+    linear->held = held[t];
+    at += 8 * (uint64_t)linear->length;
+    return true;
+}
+
+static bool read_linear(const uint8_t *file, size_t len)
+{
+    if (!open_file(file, len, LINEAR_LIMIT) || !read_count_of_templates())
+        return false;
+    for (unsigned t = 0; t < templates; t++)
+        if (!read_entries(t) || !padding() || !read_code(t))
+            return false;
+    return nothing_more();
+}
+
+/* Rules: each answers 0, or the wrong number and then has changed nothing. They stand inline in both machines, which keep
+   their registers in the processor's that way. Counts are small, so cells are moved in loops. */
+
+#define RULE static inline __attribute__((always_inline))
+
+typedef enum { HALTED, WRONG, OUT_OF_BUDGET, REFUSED } End;
+
+typedef struct {
+    Cell *globals, *stack, *store, *frames;
+    uint32_t on_stack, in_store, in_frames;
+    Cell v;
+    uint32_t template, environment;
+    uint64_t steps;
+    End end;
+    unsigned wrong;
+} Machine;
+
+RULE void empty_stack(Machine *m)
+{
+    for (uint32_t i = 0; i < m->on_stack; i++)
+        m->stack[i] = 0;
+    m->on_stack = 0;
+}
+
+RULE unsigned make_closure(Machine *m, Cell template)
+{
+    if (m->in_store == STORE)
+        return 18;
+    m->store[m->in_store] = tagged(NOT_SPECIFIED_TAG);
+    m->v = closure_cell(template, m->environment, m->in_store);
+    m->in_store++;
+    return 0;
+}
+
+RULE unsigned get_global(Machine *m, Cell number)
+{
+    if (m->globals[number] == tagged(UNDEFINED_TAG))
+        return 12;
+    m->v = m->globals[number];
+    return 0;
+}
+
+RULE void set_global(Machine *m, Cell number)
+{
+    m->globals[number] = m->v;
+    m->v = tagged(NOT_SPECIFIED_TAG);
+}
+
+/* The local's cell, or NULL where there is none. An environment is its layer's location + 1, and 0 is empty. */
+RULE Cell *find_local(const Machine *m, unsigned n1, unsigned n2)
+{
+    uint32_t environment = m->environment;
+    for (; n1 > 0 && environment != 0; n1--)
+        environment = m->store[environment - 1] >> 44 & 0xffff;
+    if (environment == 0 || n2 >= (m->store[environment - 1] >> 36 & 0xff))
+        return NULL;
+    return &m->store[environment + n2];
+}
+
+RULE unsigned get_local(Machine *m, unsigned n1, unsigned n2)
+{
+    const Cell *cell = find_local(m, n1, n2);
+    if (cell == NULL)
+        return 13;
+    if (*cell == tagged(UNDEFINED_TAG))
+        return 12;
+    m->v = *cell;
+    return 0;
+}
+
+RULE unsigned set_local(Machine *m, unsigned n1, unsigned n2)
+{
+    Cell *cell = find_local(m, n1, n2);
+    if (cell == NULL)
+        return 13;
+    *cell = m->v;
+    m->v = tagged(NOT_SPECIFIED_TAG);
+    return 0;
+}
+
+RULE unsigned push(Machine *m)
+{
+    if (m->on_stack == STACK)
+        return 17;
+    m->stack[m->on_stack++] = m->v;
+    return 0;
+}
+
+RULE unsigned make_env(Machine *m, unsigned n)
+{
+    if (m->on_stack != n)
+        return 10;
+    if (STORE - m->in_store < n + 1)
+        return 18;
+    uint32_t layer = m->in_store;
+    m->store[layer] = layer_cell(m->environment, n);
+    for (unsigned i = 0; i < n; i++)
+        m->store[layer + 1 + i] = m->stack[n - 1 - i];
+    m->in_store += n + 1;
+    m->environment = layer + 1;
+    empty_stack(m);
+    return 0;
+}
+
+RULE unsigned cons(Machine *m)
+{
+    if (m->on_stack < 2)
+        return 10;
+    if (STORE - m->in_store < 2)
+        return 18;
+    m->store[m->in_store] = m->stack[m->on_stack - 2];
+    m->store[m->in_store + 1] = m->stack[m->on_stack - 1];
+    m->v = pair_cell(m->in_store, m->in_store + 1);
+    m->in_store += 2;
+    empty_stack(m);
+    return 0;
+}
+
+RULE unsigned part_of_pair(Machine *m, unsigned shift)
+{
+    if (m->on_stack < 1)
+        return 10;
+    Cell top = m->stack[m->on_stack - 1];
+    if (tag_of(top) != PAIR_TAG)
+        return 14;
+    m->v = m->store[top >> shift & 0xffff];
+    empty_stack(m);
+    return 0;
+}
+
+RULE unsigned eqv(Machine *m)
+{
+    if (m->on_stack < 2)
+        return 10;
+    m->v = tagged(m->stack[m->on_stack - 1] == m->stack[m->on_stack - 2] ? TRUE_TAG : FALSE_TAG);
+    empty_stack(m);
+    return 0;
+}
+
+RULE unsigned add(Machine *m)
+{
+    int64_t total = 0;
+    if (m->on_stack < 1)
+        return 10;
+    for (uint32_t i = 0; i < m->on_stack; i++) {
+        if (tag_of(m->stack[i]) != INTEGER_TAG)
+            return 14;
+        total += integer_value(m->stack[i]);
+    }
+    if (total < INT32_MIN || total > INT32_MAX)
+        return 15;
+    m->v = integer_cell((uint32_t)total);
+    empty_stack(m);
+    return 0;
+}
+
+RULE unsigned enter_closure(Machine *m, unsigned n)
+{
+    if (m->on_stack != n)
+        return 10;
+    if (tag_of(m->v) != CLOSURE_TAG)
+        return 11;
+    m->template = m->v >> 52 & 0xff;
+    m->environment = m->v >> 36 & 0xffff;
+    return 0;
+}
+
+RULE unsigned save_frame(Machine *m, unsigned n, uint32_t place)
+{
+    if (m->on_stack != n)
+        return 10;
+    if (FRAMES - m->in_frames < n + 1)
+        return 18;
+    for (unsigned i = 0; i < n; i++)
+        m->frames[m->in_frames + i] = m->stack[i];
+    m->frames[m->in_frames + n] = frame_cell(n, m->template, m->environment, place);
+    m->in_frames += n + 1;
+    empty_stack(m);
+    return 0;
+}
+
+/* Takes the last frame back and answers its code place. */
+RULE uint32_t restore_frame(Machine *m)
+{
+    Cell frame = m->frames[m->in_frames - 1];
+    uint32_t n = frame >> 52 & 0xff;
+    m->in_frames -= n + 1;
+    empty_stack(m);
+    for (unsigned i = 0; i < n; i++) {
+        m->stack[i] = m->frames[m->in_frames + i];
+        m->frames[m->in_frames + i] = 0;
+    }
+    m->frames[m->in_frames + n] = 0;
+    m->on_stack = n;
+    m->template = frame >> 44 & 0xff;
+    m->environment = frame >> 28 & 0xffff;
+    return frame >> 4 & 0xffffff;
+}
+
+/* The tree machine */
+
+static Node *standing_at[TREE_LIMIT * 8]; /* at the first bit of a saved list; nothing else is asked for */
+
+static void link_list(Node *node, Node *after)
+{
+    while (node != NULL) {
+        Node *in_list = node->next;
+        if (in_list == NULL)
+            node->next = after;
+        if (node->code == CONDITIONAL) {
+            link_list(node->first, node->next);
+            link_list(node->second, node->next);
+        } else if (node->code == MAKE_CONT) {
+            link_list(node->first, after);
+            standing_at[node->saved_place] = node->first != NULL ? node->first : after;
+        }
+        node = in_list;
+    }
+}
+
+static void run_tree(Machine *machine, uint64_t budget)
+{
+    Machine m = *machine;
+    const Node *node = trees[0].code.head;
+    uint64_t firsts = 0, steps = 0;
+    while (steps < budget) {
+        const Node *next = node->next;
+        unsigned wrong = 0;
+        switch (node->code) {
+        case RETURN:
+            if (m.in_frames == 0) {
+                steps++;
+                m.end = HALTED;
+                goto ended;
+            }
+            next = standing_at[restore_frame(&m)];
+            break;
+        case CALL:
+            wrong = enter_closure(&m, node->n1);
+            next = trees[m.template].code.head;
+            break;
+        case CONDITIONAL:
+            if (m.v == tagged(FALSE_TAG)) {
+                next = node->second;
+            } else {
+                next = node->first;
+                firsts += node->open_arms;
+            }
+            break;
+        case MAKE_CONT:
+            wrong = save_frame(&m, node->n1, node->saved_place);
+            break;
+        case LITERAL: m.v = node->held; break;
+        case CLOSURE: wrong = make_closure(&m, node->held); break;
+        case GLOBAL: wrong = get_global(&m, node->held); break;
+        case SET_GLOBAL: set_global(&m, node->held); break;
+        case LOCAL: wrong = get_local(&m, node->n1, node->n2); break;
+        case SET_LOCAL: wrong = set_local(&m, node->n1, node->n2); break;
+        case PUSH: wrong = push(&m); break;
+        case MAKE_ENV: wrong = make_env(&m, node->n1); break;
+        case UNSPECIFIED: m.v = tagged(NOT_SPECIFIED_TAG); break;
+        case CHECKARGS: wrong = m.on_stack == node->n1 ? 0 : 10; break;
+        case CONS: wrong = cons(&m); break;
+        case CAR: wrong = part_of_pair(&m, 44); break;
+        case CDR: wrong = part_of_pair(&m, 28); break;
+        case EQV: wrong = eqv(&m); break;
+        case ADD: wrong = add(&m); break;
+        }
+        if (wrong != 0) {
+            m.end = WRONG;
+            m.wrong = wrong;
+            goto ended;
+        }
+        steps++;
+        node = next;
+    }
+    m.end = OUT_OF_BUDGET;
+    m.wrong = 19;
+ended:
+    m.steps = steps;
+    plain_firsts = firsts;
+    *machine = m;
+}
+
+/* The linear machine */
+
+static uint32_t offset_of(const uint8_t *operands)
+{
+    return operands[0] * 256u + operands[1];
+}
+
+static inline bool stands(const Linear *here, uint32_t position)
+{
+    if (position >= here->length)
+        return false;
+    const uint8_t *instruction = here->code + position;
+    unsigned code = instruction[0];
+    if (code > LAST_CODE || linear_size[code] == 0 || here->length - position < linear_size[code])
+        return false;
+    return named_kind[code] == NO_KIND || here->kinds[instruction[1]] == named_kind[code];
+}
+
+static void run_linear(Machine *machine, uint64_t budget)
+{
+    Machine m = *machine;
+    const Linear *here = &linears[0];
+    uint32_t position = 0;
+    uint64_t jumps = 0, steps = 0;
+    while (steps < budget) {
+        unsigned wrong = 0;
+        if (!stands(here, position)) {
+            m.end = WRONG;
+            m.wrong = 16;
+            goto ended;
+        }
+        const uint8_t *instruction = here->code + position;
+        unsigned n1 = instruction[1], n2 = instruction[2]; /* what stands there, also where it is no operand */
+        Cell entry = here->held[n1];
+        switch (instruction[0]) {
+        case RETURN:
+            if (m.in_frames == 0) {
+                steps++;
+                m.end = HALTED;
+                goto ended;
+            }
+            position = restore_frame(&m);
+            here = &linears[m.template];
+            break;
+        case CALL:
+            wrong = enter_closure(&m, n1);
+            here = &linears[m.template];
+            position = 0;
+            break;
+        case CONDITIONAL:
+            position += 3;
+            if (m.v == tagged(FALSE_TAG))
+                position += offset_of(instruction + 1);
+            break;
+        case MAKE_CONT:
+            position += 4;
+            wrong = save_frame(&m, instruction[3], position + offset_of(instruction + 1));
+            break;
+        case JUMP:
+            position += 3 + offset_of(instruction + 1);
+            jumps++;
+            break;
+        case LITERAL: position += 2; m.v = entry; break;
+        case CLOSURE: position += 2; wrong = make_closure(&m, entry); break;
+        case GLOBAL: position += 2; wrong = get_global(&m, entry); break;
+        case SET_GLOBAL: position += 2; set_global(&m, entry); break;
+        case LOCAL: position += 3; wrong = get_local(&m, n1, n2); break;
+        case SET_LOCAL: position += 3; wrong = set_local(&m, n1, n2); break;
+        case PUSH: position += 1; wrong = push(&m); break;
+        case MAKE_ENV: position += 2; wrong = make_env(&m, n1); break;
+        case UNSPECIFIED: position += 1; m.v = tagged(NOT_SPECIFIED_TAG); break;
+        case CHECKARGS: position += 2; wrong = m.on_stack == n1 ? 0 : 10; break;
+        case CONS: position += 1; wrong = cons(&m); break;
+        case CAR: position += 1; wrong = part_of_pair(&m, 44); break;
+        case CDR: position += 1; wrong = part_of_pair(&m, 28); break;
+        case EQV: position += 1; wrong = eqv(&m); break;
+        case ADD: position += 1; wrong = add(&m); break;
+        }
+        if (wrong != 0) {
+            m.end = WRONG;
+            m.wrong = wrong;
+            goto ended;
+        }
+        steps++;
+    }
+    m.end = OUT_OF_BUDGET;
+    m.wrong = 19;
+ended:
+    m.steps = steps;
+    plain_jumps = jumps;
+    *machine = m;
+}
+
+/* Runs */
+
+static bool may_start(bool lengths_fit, uint64_t budget, uint64_t largest_budget, const Cell *globals)
+{
+    if (!lengths_fit)
+        return refuse(20, 0);
+    if (budget > largest_budget)
+        return refuse(21, 0);
+    for (unsigned g = 0; g < GLOBALS; g++)
+        if (!is_starting_global(globals[g]))
+            return refuse(22, g);
+    return true;
+}
+
+static void start(Machine *m)
+{
+    memset(m->stack, 0, STACK * sizeof(Cell));
+    memset(m->store, 0, STORE * sizeof(Cell));
+    memset(m->frames, 0, FRAMES * sizeof(Cell));
+    m->v = tagged(NOT_SPECIFIED_TAG);
+}
+
+static void tell_refused(uint64_t *result)
+{
+    memset(result, 0, 8 * sizeof result[0]);
+    result[0] = REFUSED;
+    result[1] = refusal;
+    result[2] = refusal_place;
+}
+
+static void tell_ended(const Machine *m, uint64_t *result)
+{
+    result[0] = m->end;
+    result[1] = m->end == HALTED ? 0 : m->wrong;
+    result[2] = 0;
+    result[3] = m->end == HALTED ? m->v : 0;
+    result[4] = m->steps;
+    result[5] = m->on_stack;
+    result[6] = m->in_store;
+    result[7] = m->in_frames;
+}
+
+void plain_run_tree(const uint8_t *file, size_t file_len, uint64_t budget, uint64_t *globals, size_t globals_len,
+                    uint64_t *stack, size_t stack_len, uint64_t *store, size_t store_len,
+                    uint64_t *frames, size_t frames_len, uint64_t *result, size_t result_len)
+{
+    bool lengths_fit = globals_len == GLOBALS && stack_len == STACK && store_len == STORE && frames_len == FRAMES;
+    Machine m = { .globals = globals, .stack = stack, .store = store, .frames = frames };
+    if (result_len < 8)
+        return;
+    if (!may_start(lengths_fit, budget, TREE_BUDGET, globals) || !read_tree(file, file_len)) {
+        tell_refused(result);
+        return;
+    }
+    for (unsigned t = 0; t < templates; t++)
+        link_list(trees[t].code.head, NULL);
+    start(&m);
+    run_tree(&m, budget);
+    tell_ended(&m, result);
+}
+
+void plain_run_linear(const uint8_t *file, size_t file_len, uint64_t budget, uint64_t *globals, size_t globals_len,
+                      uint64_t *stack, size_t stack_len, uint64_t *store, size_t store_len,
+                      uint64_t *frames, size_t frames_len, uint64_t *result, size_t result_len)
+{
+    bool lengths_fit = globals_len == GLOBALS && stack_len == STACK && store_len == STORE && frames_len == FRAMES;
+    Machine m = { .globals = globals, .stack = stack, .store = store, .frames = frames };
+    if (result_len < 8)
+        return;
+    if (!may_start(lengths_fit, budget, LINEAR_BUDGET, globals) || !read_linear(file, file_len)) {
+        tell_refused(result);
+        return;
+    }
+    start(&m);
+    run_linear(&m, budget);
+    tell_ended(&m, result);
+}
