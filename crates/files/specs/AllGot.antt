@@ -1,14 +1,13 @@
 -- What holds of whatever is read: templates have fewer than 256 entries each, and a file has 1 to 64 templates. Assumes nothing.
 use Prim.Native.Nat.{ℕ, zero, suc, _+_, _*_, _^_, _≤_, _<_}
-use mathlib.Core.Path.{_≡_, refl, sym, ap, _∙_}
+use mathlib.Core.Path.{_≡_, refl, ap}
 use mathlib.Core.Bool.{Bool, true, false, cond, _&&_}
-use mathlib.Core.List.{List, [], _∷_}
+use mathlib.Core.List.{List, _∷_}
 use borrow.Author.Tests.{leb-true}
 use native.Mathlib.Omega.{arith}
 use lib.ListN.{length}
 use lib.Dec.{leb, eqb}
-use Rattle.cells.specs.declared.BitPlace.{BitPlace}
-use Rattle.fields.specs.Field.{bitAt, fieldAt}
+use Rattle.fields.specs.Field.{bitAt}
 use Rattle.fields.specs.Laws.{read-cases, field-small}
 use Rattle.files.specs.Reading.{Got, got, refused, listAt}
 use Rattle.files.specs.Entries.{Entry, then, fieldGot, field, valid, entriesAt, toByte, zeroBits, nothingMore}

@@ -14,4 +14,9 @@ pub mod ReadingLaws
 pub mod EntriesLaws
 pub mod TableLaws
 pub mod AllGot
+pub mod Heads
+pub mod ValidEntries
+pub mod EntriesRead
+pub mod EntriesSteps
+pub mod PaddingSteps
 pub mod Rows

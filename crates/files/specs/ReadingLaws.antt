@@ -7,7 +7,7 @@ use mathlib.Core.Bool.{Bool, true, false, cond}
 use mathlib.Core.List.{List, [], _∷_}
 use borrow.Author.Tests.{le-leb, eqb-true, eqb-false}
 use lib.ListN.{length, getD, length-append}
-use lib.Dec.{leb, eqb}
+use lib.Dec.{eqb}
 use Rattle.fields.specs.Field.{fieldRead}
 use Rattle.fields.specs.Laws.{read-cases, field-small}
 use Rattle.files.specs.Codes.{shapeOf, isNeutral, operands}
@@ -44,7 +44,7 @@ valid-put (unless-i x y) c h v = (h .0, h .1, v)
 valid-put (cont-i n x) c h v = (h .0, h .1, v)
 
 -- a code that is no list's end, no unless-false and no make-cont is return, call or neutral
-past-five : (v : ℕ) → 1 ≤ shapeOf v → shapeOf v ≤ 3 → (v ≡ 1 → ⊥) → (v ≡ 2 → ⊥) → 6 ≤ v
+pub past-five : (v : ℕ) → 1 ≤ shapeOf v → shapeOf v ≤ 3 → (v ≡ 1 → ⊥) → (v ≡ 2 → ⊥) → 6 ≤ v
 unfolding shapeOf
 past-five zero h i a b = absurd (omega arith)
 past-five (suc zero) h i a b = absurd (a refl)
@@ -54,7 +54,7 @@ past-five (suc (suc (suc (suc zero)))) h i a b = absurd (omega arith)
 past-five (suc (suc (suc (suc (suc zero))))) h i a b = absurd (omega arith)
 past-five (suc (suc (suc (suc (suc (suc v)))))) h i a b = omega arith
 
-first-byte : (ns : List ℕ) → Bytes ns → getD ns 0 0 < 256
+pub first-byte : (ns : List ℕ) → Bytes ns → getD ns 0 0 < 256
 unfolding Bytes
 first-byte [] b = omega arith
 first-byte (n ∷ ns) b = b .0

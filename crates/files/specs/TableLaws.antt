@@ -1,8 +1,7 @@
 -- What stands in a slot of a run's table. Assumes nothing.
 use Prim.Native.Nat.{ℕ, zero, suc, _+_, _*_, _-_, _≤_, _<_}
-use native.Mathlib.Nat.{add-zero}
 use native.Mathlib.Omega.{arith}
-use mathlib.Core.Path.{_≡_, refl, sym, ap, _∙_}
+use mathlib.Core.Path.{_≡_, refl, ap, _∙_}
 use mathlib.Core.List.{List, [], _∷_, _++_, map, append-assoc}
 use mathlib.Core.Option.{Option, none, some}
 use lib.ListN.{length, getD, replicate, length-append, length-replicate, length-map, List·getD-append}
@@ -43,6 +42,20 @@ pub row-entry : (x : ℕ) (es : List Entry) (n : ℕ) → (n ≡ 0 → ⊥) → 
 unfolding rowOf
 row-entry x es zero h = absurd (h refl)
 row-entry x es (suc n) h = slots-entry (256 - length (x ∷ map slotOf es)) es n
+
+-- entry n is there from 1 to E
+pub entry-at : (es : List Entry) (n : ℕ) (d : Entry) → n < length es → entryOf es (suc n) ≡ some (getD es n d)
+unfolding entryOf
+entry-at [] n d h = absurd (omega arith)
+entry-at (e ∷ es) zero d h = refl
+entry-at (e ∷ es) (suc n) d h = entry-at es n d (omega arith)
+
+pub entry-above : (es : List Entry) (n : ℕ) → length es < n → entryOf es n ≡ none
+unfolding entryOf
+entry-above es zero h = refl
+entry-above [] (suc n) h = refl
+entry-above (e ∷ es) (suc zero) h = absurd (omega arith)
+entry-above (e ∷ es) (suc (suc n)) h = entry-above es (suc n) (omega arith)
 
 -- ---- rows, of templates with a start and entries
 -- no template has more entries than a row has slots for

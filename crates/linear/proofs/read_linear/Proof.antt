@@ -1,0 +1,101 @@
+-- `linear::read_linear` meets its contract: each answer leads to its case of `linearRead`. Assumes nothing.
+use borrow.Author.Needs.{needs}
+use Rattle.files.specs.EntriesSteps.{field-cut, field-read}
+use Rattle.linear.specs.LinearSteps.{too-long, count-cut, count-low, count-high, templates-stop, more-stop, file-done}
+use Rattle.linear.proofs.read_linear.Statement.{statement}
+use Rattle.linear.proofs.read_linear.Tie as tie
+
+returns : tie.Need-returns
+returns c = too-long _ _ (c .if1 .taken)
+
+read-field-requires : tie.Need-read-field-requires
+read-field-requires c κs = search needs
+
+enum-known-count : tie.Need-enum-known-count
+enum-known-count c = search needs
+
+enum-told : tie.Need-enum-told
+enum-told c = search needs
+
+returns-2 : tie.Need-returns-2
+returns-2 c = count-cut _ _ (c .before .before .before .if1 .left) (field-cut _ _ _ (c .before .before .read-field .ensures) (c .enum-told .given .1))
+
+returns-3 : tie.Need-returns-3
+returns-3 c = count-low _ _ (c .before .before .before .before .before .if1 .left) (field-read _ _ _ (c .before .before .before .before .read-field .ensures) (c .before .before .count .given .1)) (c .if2 .taken)
+
+returns-4 : tie.Need-returns-4
+returns-4 c = count-high _ _ (c .before .before .before .before .before .before .if1 .left) (field-read _ _ _ (c .before .before .before .before .before .read-field .ensures) (c .before .before .before .count .given .1)) (c .before .if2 .left) (c .if3 .taken)
+
+cast-read-templates : tie.Need-cast-read-templates
+cast-read-templates c = search needs
+
+read-templates-requires : tie.Need-read-templates-requires
+read-templates-requires c κs = search needs
+
+enum-known-past : tie.Need-enum-known-past
+enum-known-past c = search needs
+
+nothing-more-requires : tie.Need-nothing-more-requires
+nothing-more-requires c κs = search needs
+
+enum-told-2 : tie.Need-enum-told-2
+enum-told-2 c = search needs
+
+cast-t23 : tie.Need-cast-t23
+cast-t23 c = search needs
+
+enum-known-place : tie.Need-enum-known-place
+enum-known-place c = search needs
+
+enum-known-no : tie.Need-enum-known-no
+enum-known-no c = search needs
+
+same-length : tie.Need-same-length
+same-length c = search needs
+
+returns-5 : tie.Need-returns-5
+returns-5 c =
+    let k = c .before .before .before .before .before .before .before .before .before .before in
+    file-done _ _ (k .before .before .before .before .before .before .if1 .left) (field-read _ _ _ (k .before .before .before .before .before .read-field .ensures) (k .before .before .before .count .given .1)) (k .before .if2 .left) (k .if3 .left) (c .before .before .before .before .before .before .before .before .read-templates .ensures) (c .before .before .before .before .past .given .1) (c .before .before .nothing-more .ensures) (c .enum-told2 .given .1)
+
+same-length-2 : tie.Need-same-length-2
+same-length-2 c = search needs
+
+returns-6 : tie.Need-returns-6
+returns-6 c =
+    let k = c .before .before .before .before .before .before .before .before .before .before .before in
+    more-stop _ _ (k .before .before .before .before .before .before .if1 .left) (field-read _ _ _ (k .before .before .before .before .before .read-field .ensures) (k .before .before .before .count .given .1)) (k .before .if2 .left) (k .if3 .left) (c .before .before .before .before .before .before .before .before .before .read-templates .ensures) (c .before .before .before .before .before .past .given .1) (c .before .before .before .nothing-more .ensures) (c .before .place .given .1)
+
+same-length-3 : tie.Need-same-length-3
+same-length-3 c = search needs
+
+returns-7 : tie.Need-returns-7
+returns-7 c =
+    let k = c .before .before .before .before .before .before .before in
+    templates-stop _ _ (k .before .before .before .before .before .before .if1 .left) (field-read _ _ _ (k .before .before .before .before .before .read-field .ensures) (k .before .before .before .count .given .1)) (k .before .if2 .left) (k .if3 .left) (c .before .before .before .before .before .read-templates .ensures) (c .before .no .given .1)
+
+pub read-linear-spec : {M : Type 1} → statement M
+read-linear-spec =
+    tie.close
+    (tie.spec
+    returns
+    read-field-requires
+    enum-known-count
+    enum-told
+    returns-2
+    returns-3
+    returns-4
+    cast-read-templates
+    read-templates-requires
+    enum-known-past
+    nothing-more-requires
+    enum-told-2
+    cast-t23
+    enum-known-place
+    enum-known-no
+    same-length
+    returns-5
+    same-length-2
+    returns-6
+    same-length-3
+    returns-7)

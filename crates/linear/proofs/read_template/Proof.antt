@@ -1,0 +1,70 @@
+-- `linear::read_template` meets its contract. Assumes nothing.
+use mathlib.Core.Path.{_∙_, sym}
+use borrow.Author.Needs.{needs}
+use Rattle.files.specs.EntriesLaws.{entries-read}
+use Rattle.files.specs.EntriesSteps.{field-cut, field-read, field-below, field-within, entries-told, entries-refused}
+use Rattle.linear.specs.LinearSteps.{entries-cut, entries-stop, template-done}
+use Rattle.linear.proofs.read_template.Statement.{statement}
+use Rattle.linear.proofs.read_template.Tie as tie
+
+read-field-requires : tie.Need-read-field-requires
+read-field-requires c κs = search needs
+
+enum-known-n : tie.Need-enum-known-n
+enum-known-n c = search needs
+
+enum-told : tie.Need-enum-told
+enum-told c = search needs
+
+returns : tie.Need-returns
+returns c = entries-cut _ _ _ _ _ (field-cut _ _ _ (c .before .before .read-field .ensures) (c .enum-told .given .1))
+
+cast-read-entries : tie.Need-cast-read-entries
+cast-read-entries c = search needs
+
+read-entries-requires : tie.Need-read-entries-requires
+read-entries-requires c κs = (search needs, (search needs, (search needs, (search needs, field-below _ _ _ (c .before .before .before .before .read-field .ensures) (c .before .before .n .given .1)))))
+
+enum-known-padding : tie.Need-enum-known-padding
+enum-known-padding c = search needs
+
+read-code-requires : tie.Need-read-code-requires
+read-code-requires c κs =
+    let e = entries-told _ (sym (c .before .before .before .before .before .before .read-entries .ensures .0) ∙ (c .before .before .padding .given .1)) in
+    (search needs, (search needs, (search needs, entries-read _ _ _ (c .before .before .before .before .before .before .before .before .before .before .before .before .before .before .pre .1 .1 .1) _ _ (e .is) .within (field-within _ _ _ (c .before .before .before .before .before .before .before .before .before .before .before .read-field .ensures) (c .before .before .before .before .before .before .before .before .before .n .given .1)))))
+
+enum-known-no : tie.Need-enum-known-no
+enum-known-no c = search needs
+
+same-length : tie.Need-same-length
+same-length c = search needs
+
+returns-2 : tie.Need-returns-2
+returns-2 c =
+    let e = entries-told _ (sym ((c .before .before .before .before .before .before .before .before .before .read-entries .ensures) .0) ∙ (c .before .before .before .before .before .padding .given .1)) in
+    let k = (c .before .before .read-code .ensures) in
+    template-done _ _ _ _ _ (field-read _ _ _ (c .before .before .before .before .before .before .before .before .before .before .before .before .before .before .read-field .ensures) (c .before .before .before .before .before .before .before .before .before .before .before .before .n .given .1)) ((c .before .before .before .before .before .before .before .before .before .read-entries .ensures) .1) (e .is) (k .0 (e .entries)) (k .1 (e .entries))
+
+same-length-2 : tie.Need-same-length-2
+same-length-2 c = search needs
+
+returns-3 : tie.Need-returns-3
+returns-3 c = entries-stop _ _ _ _ _ (field-read _ _ _ (c .before .before .before .before .before .before .before .before .before .before .read-field .ensures) (c .before .before .before .before .before .before .before .before .n .given .1)) ((c .before .before .before .before .before .read-entries .ensures) .1) (entries-refused _ (sym ((c .before .before .before .before .before .read-entries .ensures) .0) ∙ (c .before .no .given .1)))
+
+pub read-template-spec : {M : Type 1} → statement M
+read-template-spec =
+    tie.close
+    (tie.spec
+    read-field-requires
+    enum-known-n
+    enum-told
+    returns
+    cast-read-entries
+    read-entries-requires
+    enum-known-padding
+    read-code-requires
+    enum-known-no
+    same-length
+    returns-2
+    same-length-2
+    returns-3)

@@ -1,0 +1,24 @@
+-- `lists::simple_added` meets its contract. Assumes nothing.
+use borrow.Author.Needs.{needs}
+use Rattle.lists.specs.Pass.{simpleAdded}
+use mathlib.Core.Path.{refl}
+use borrow.Author.Tests.{lt-ltb, le-ltb}
+use Rattle.lists.proofs.simple_added.Statement.{statement}
+use Rattle.lists.proofs.simple_added.Tie as tie
+
+add-size : tie.Need-add-size
+add-size c = search needs
+
+returns : tie.Need-returns
+unfolding simpleAdded
+returns c = rw (lt-ltb _ _ (c .if1 .taken)) refl
+
+slot-named-requires : tie.Need-slot-named-requires
+slot-named-requires c κs = search needs
+
+returns-2 : tie.Need-returns-2
+unfolding simpleAdded
+returns-2 c = rw (c .slot-named .ensures, le-ltb _ _ (c .before .if1 .left)) refl
+
+pub simple-added-spec : {M : Type 1} → statement M
+simple-added-spec = tie.close (tie.spec add-size returns slot-named-requires returns-2)

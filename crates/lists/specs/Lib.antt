@@ -1,0 +1,8 @@
+-- The specs of the crate lists.
+pub mod Facts
+pub mod Pass
+pub mod Each
+pub mod PassLaws
+pub mod ReadLaws
+pub mod SlotLaws
+pub mod Rows

@@ -1,0 +1,461 @@
+// Reading a code list of a tree file in one pass, with the facts that refusals 6, 7 and 8 and the flattener need.
+use cells::BitPlace;
+use fields::Field;
+ghost use mathlib.Core.Path.{_≡_};
+ghost use mathlib.Core.Bool.{cond, _&&_, _||_};
+ghost use Prim.Native.Nat.{_+_, _*_, _≤_, _<_};
+ghost use lib.ListN.{length};
+ghost use lib.Dec.{eqb};
+ghost use Rattle.files.specs.Codes.{shapeOf};
+ghost use Rattle.files.specs.Flat.{armsFit};
+ghost use Rattle.files.specs.Reading.{headAt, deepOf, listAt};
+ghost use Rattle.lists.specs.Facts.{slotFits, slotNamed, listed};
+ghost use Rattle.lists.specs.Pass.{classesAfter, isSave, stateAfter, begun, finish, simpleAdded, conditionalKind, conditionalSize, conditionalAdded, saveKind, saveAdded, simpleAt, deepAt, itemed};
+
+// What is to be known of a list: its class (0 empty, 1 open, 2 closed, 3 neither), how many bytes its flat code has, whether codes 6 to 9
+// name entries that suit them, and whether its offsets fit.
+pub struct Facts {
+    pub class: u8,
+    pub size: usize,
+    pub named: bool,
+    pub fits: bool,
+}
+
+// What reading a list finds: the place past it and its facts, or a refusal's number and place.
+pub enum Listed {
+    Done(BitPlace, Facts),
+    Refused(u8, BitPlace),
+}
+
+// What an instruction does to the class of the list that it begins.
+enum Kind {
+    Neutral,
+    // return, call, unless-false with two closed arms
+    Ending,
+    // make-cont, by its saved list: open or empty, closed, neither
+    SavesOpen,
+    SavesClosed,
+    SavesNeither,
+    // unless-false with other arms
+    Neither,
+}
+
+// What one instruction adds to the facts of its list.
+struct Added {
+    pub kind: Kind,
+    pub size: usize,
+    pub named: bool,
+    pub fits: bool,
+}
+
+// What reading one instruction finds: the list's end, an instruction, or a refusal.
+enum Item {
+    End(BitPlace),
+    More(BitPlace, Added),
+    Bad(u8, BitPlace),
+}
+
+// The class that a whole list has, by the class of what is left of it: empty, open, closed (else it is neither).
+struct Classes {
+    pub empty: u8,
+    pub opened: u8,
+    pub closed: u8,
+}
+
+// What is known of a list up to a place in it. `tail` counts the flat bytes since its first make-cont, once that was `seen`: the rest
+// of the first is the longest of all.
+struct State {
+    pub classes: Classes,
+    pub size: usize,
+    pub seen: bool,
+    pub tail: usize,
+    pub named: bool,
+    pub fits: bool,
+}
+
+// How a code is followed in a tree: 0 the end of the list; 1, 2, 3 no, one or two operand bytes; 4 two lists; 5 an operand byte and a
+// list; 6 no instruction.
+const SHAPES: [u8; 32] = [
+    0,
+    1,
+    2,
+    4,
+    5,
+    6,
+    2,
+    2,
+    2,
+    2,
+    3,
+    3,
+    1,
+    2,
+    6,
+    1,
+    2,
+    6,
+    1,
+    1,
+    1,
+    1,
+    1,
+    6,
+    6,
+    6,
+    6,
+    6,
+    6,
+    6,
+    6,
+    6,
+];
+
+pub fn shape_of(code: u32) -> u8
+    requires { ⌜ code < 32 ⌝ }
+    ensures { λ r. ⌜ r ≡ shapeOf code ⌝ }
+{
+    SHAPES[code as usize]
+}
+
+fn both(x: bool, y: bool) -> bool
+    ensures { λ r. ⌜ r ≡ (x && y) ⌝ }
+{
+    if x { y } else { false }
+}
+
+fn either(x: bool, y: bool) -> bool
+    ensures { λ r. ⌜ r ≡ (x || y) ⌝ }
+{
+    if x { true } else { y }
+}
+
+// A slot of the table suits one of the codes 6 to 9.
+fn slot_fits(code: u32, slot: u64) -> bool
+    ensures { λ r. ⌜ r ≡ slotFits code slot ⌝ }
+{
+    let tag = slot / 0x1000000000000000;
+    if code == 6 {
+        return both(1 <= tag, tag <= 6);
+    }
+    if code == 7 {
+        return tag == 12;
+    }
+    tag == 11
+}
+
+// The first operand of a neutral code suits it, if it is an index.
+fn slot_named(table: &[u64], own: usize, code: u32, n: u32) -> bool
+    requires { ⌜ (length (now table) ≡ 16384) × (own < 64) × (n < 256) ⌝ }
+    ensures { λ r. ⌜ r ≡ slotNamed (now (table .entry)) own code n ⌝ }
+{
+    if 9 < code {
+        return true;
+    }
+    if n == 0 {
+        return false;
+    }
+    let slot = 256 * own + n as usize;
+    slot_fits(code, table[slot])
+}
+
+// What an instruction without lists adds: its code, how many operands it has, and the first of them.
+fn simple_added(table: &[u64], own: usize, code: u32, operands: usize, n: u32) -> Added
+    requires { ⌜ (length (now table) ≡ 16384) × (own < 64) × (operands ≤ 2) × (n < 256) ⌝ }
+    ensures { λ r. ⌜ r ≡ simpleAdded (now (table .entry)) own code operands n ⌝ }
+{
+    let size = 1 + operands;
+    if code < 6 {
+        return Added {
+            kind: Kind::Ending,
+            size,
+            named: true,
+            fits: true,
+        };
+    }
+    Added {
+        kind: Kind::Neutral,
+        size,
+        named: slot_named(table, own, code, n),
+        fits: true,
+    }
+}
+
+// The kind of an unless-false, by the classes of its arms.
+fn conditional_kind(x: u8, y: u8) -> Kind
+    ensures { λ r. ⌜ r ≡ conditionalKind x y ⌝ }
+{
+    if both(x == 1, y == 1) {
+        return Kind::Neutral;
+    }
+    if both(x == 2, y == 2) {
+        return Kind::Ending;
+    }
+    Kind::Neither
+}
+
+// How many flat bytes an unless-false has, by the class of its first arm and the sizes of both.
+fn conditional_size(class: u8, x: usize, y: usize) -> usize
+    requires { ⌜ (x ≤ 1048576) × (y ≤ 1048576) ⌝ }
+    ensures { λ r. ⌜ r ≡ conditionalSize class x y ⌝ }
+{
+    if class == 2 {
+        return 3 + x + y;
+    }
+    6 + x + y
+}
+
+// The offsets of an unless-false fit, by the class of its first arm and the sizes of both.
+fn arms_fit(class: u8, x: usize, y: usize) -> bool
+    requires { ⌜ x ≤ 1048576 ⌝ }
+    ensures { λ r. ⌜ r ≡ armsFit (eqb class 2) x y ⌝ }
+{
+    if class == 2 {
+        return x <= 65535;
+    }
+    both(3 + x <= 65535, y <= 65535)
+}
+
+// What an unless-false adds, by the facts of its arms.
+fn conditional_added(x: Facts, y: Facts) -> Added
+    requires { ⌜ (x .size ≤ 1048576) × (y .size ≤ 1048576) ⌝ }
+    ensures { λ r. ⌜ r ≡ conditionalAdded x y ⌝ }
+{
+    Added {
+        kind: conditional_kind(x.class, y.class),
+        size: conditional_size(x.class, x.size, y.size),
+        named: both(x.named, y.named),
+        fits: both(arms_fit(x.class, x.size, y.size), both(x.fits, y.fits)),
+    }
+}
+
+// The kind of a make-cont, by the class of its saved list.
+fn save_kind(class: u8) -> Kind
+    ensures { λ r. ⌜ r ≡ saveKind class ⌝ }
+{
+    if class <= 1 {
+        return Kind::SavesOpen;
+    }
+    if class == 2 {
+        return Kind::SavesClosed;
+    }
+    Kind::SavesNeither
+}
+
+// What a make-cont adds, by the facts of its saved list.
+fn save_added(x: Facts) -> Added
+    requires { ⌜ x .size ≤ 1048576 ⌝ }
+    ensures { λ r. ⌜ r ≡ saveAdded x ⌝ }
+{
+    Added {
+        kind: save_kind(x.class),
+        size: 4 + x.size,
+        named: x.named,
+        fits: x.fits,
+    }
+}
+
+fn classes_after(kind: Kind, c: Classes) -> Classes
+    ensures { λ r. ⌜ r ≡ classesAfter kind c ⌝ }
+{
+    match kind {
+        Kind::Neutral => Classes {
+            empty: c.opened,
+            opened: c.opened,
+            closed: c.closed,
+        },
+        Kind::Ending => Classes {
+            empty: c.closed,
+            opened: 3,
+            closed: 3,
+        },
+        Kind::SavesOpen => Classes {
+            empty: 3,
+            opened: 3,
+            closed: c.opened,
+        },
+        Kind::SavesClosed => Classes {
+            empty: 3,
+            opened: 3,
+            closed: c.closed,
+        },
+        Kind::SavesNeither => Classes {
+            empty: 3,
+            opened: 3,
+            closed: 3,
+        },
+        Kind::Neither => Classes {
+            empty: 3,
+            opened: 3,
+            closed: 3,
+        },
+    }
+}
+
+fn is_save(kind: Kind) -> bool
+    ensures { λ r. ⌜ r ≡ isSave kind ⌝ }
+{
+    match kind {
+        Kind::Neutral => false,
+        Kind::Ending => false,
+        Kind::SavesOpen => true,
+        Kind::SavesClosed => true,
+        Kind::SavesNeither => true,
+        Kind::Neither => false,
+    }
+}
+
+// The flat bytes since the first make-cont.
+fn tail_after(st: State, size: usize) -> usize
+    requires { ⌜ st .tail + size ≤ 1048576 ⌝ }
+    ensures { λ r. ⌜ r ≡ cond (st .seen) (st .tail + size) (st .tail) ⌝ }
+{
+    let seen = st.seen;
+    if seen { st.tail + size } else { st.tail }
+}
+
+// What is known of a list after one more instruction.
+fn state_after(st: State, added: Added) -> State
+    requires { ⌜ (st .size + added .size ≤ 1048576) × (st .tail ≤ st .size) ⌝ }
+    ensures { λ r. ⌜ r ≡ stateAfter st added ⌝ }
+{
+    let kind = added.kind;
+    let classes = st.classes;
+    State {
+        classes: classes_after(kind, classes),
+        size: st.size + added.size,
+        seen: either(st.seen, is_save(kind)),
+        tail: tail_after(st, added.size),
+        named: both(st.named, added.named),
+        fits: both(st.fits, added.fits),
+    }
+}
+
+// What is known of a list before its first instruction.
+fn begin() -> State
+    ensures { λ r. ⌜ r ≡ begun ⌝ }
+{
+    let classes = Classes {
+        empty: 0,
+        opened: 1,
+        closed: 2,
+    };
+    State {
+        classes,
+        size: 0,
+        seen: false,
+        tail: 0,
+        named: true,
+        fits: true,
+    }
+}
+
+// The facts of a list of which nothing is left.
+fn finished(st: State) -> Facts
+    ensures { λ r. ⌜ r ≡ finish st ⌝ }
+{
+    let classes = st.classes;
+    Facts {
+        class: classes.empty,
+        size: st.size,
+        named: st.named,
+        fits: both(st.fits, st.tail <= 65535),
+    }
+}
+
+// An instruction without lists whose code ends at a place, by its code's shape.
+fn read_simple(s: &[u8], table: &[u64], own: usize, at: BitPlace, code: u32, shape: u8) -> Item
+    requires { ⌜ (length (now s) ≤ 65536) × (length (now table) ≡ 16384) × (own < 64) × (shapeOf code ≡ shape) × (1 ≤ shape) × (shape ≤ 3) ⌝ }
+    ensures { λ r. ⌜ r ≡ itemed (now (table .entry)) own (simpleAt (now (s .entry)) code (at .0) shape) ⌝ }
+{
+    if shape == 1 {
+        return Item::More(at, simple_added(table, own, code, 0, 0));
+    }
+    let Field::Read(first, second) = fields::read_field(s, at, 8) else {
+        return Item::Bad(2, at);
+    };
+    if shape == 2 {
+        return Item::More(second, simple_added(table, own, code, 1, first));
+    }
+    let Field::Read(_, last) = fields::read_field(s, second, 8) else {
+        return Item::Bad(2, second);
+    };
+    Item::More(last, simple_added(table, own, code, 2, first))
+}
+
+// An unless-false whose code ends at a place, with `levels` levels left below its arms.
+fn read_conditional(s: &[u8], table: &[u64], own: usize, at: BitPlace, levels: usize) -> Item
+    requires { ⌜ (length (now s) ≤ 65536) × (length (now table) ≡ 16384) × (own < 64) ⌝ }
+    ensures { λ r. ⌜ r ≡ itemed (now (table .entry)) own (deepAt (now (s .entry)) levels (at .0) 4) ⌝ }
+{
+    match read_list(s, table, own, at, levels) {
+        Listed::Done(mid, x) => match read_list(s, table, own, mid, levels) {
+            Listed::Done(last, y) => Item::More(last, conditional_added(x, y)),
+            Listed::Refused(no, place) => Item::Bad(no, place),
+        },
+        Listed::Refused(no, place) => Item::Bad(no, place),
+    }
+}
+
+// A make-cont whose code ends at a place, with `levels` levels left below its saved list.
+fn read_make_cont(s: &[u8], table: &[u64], own: usize, at: BitPlace, levels: usize) -> Item
+    requires { ⌜ (length (now s) ≤ 65536) × (length (now table) ≡ 16384) × (own < 64) ⌝ }
+    ensures { λ r. ⌜ r ≡ itemed (now (table .entry)) own (deepAt (now (s .entry)) levels (at .0) 5) ⌝ }
+{
+    let Field::Read(_, saved) = fields::read_field(s, at, 8) else {
+        return Item::Bad(2, at);
+    };
+    match read_list(s, table, own, saved, levels) {
+        Listed::Done(last, x) => Item::More(last, save_added(x)),
+        Listed::Refused(no, place) => Item::Bad(no, place),
+    }
+}
+
+// What begins the list at a place, with `levels` levels left below it.
+fn read_instr(s: &[u8], table: &[u64], own: usize, at: BitPlace, levels: usize) -> Item
+    requires { ⌜ (length (now s) ≤ 65536) × (length (now table) ≡ 16384) × (own < 64) ⌝ }
+    ensures { λ r. ⌜ r ≡ itemed (now (table .entry)) own (headAt (now (s .entry)) (deepOf (now (s .entry)) levels) (at .0)) ⌝ }
+{
+    let Field::Read(code, next) = fields::read_field(s, at, 5) else {
+        return Item::Bad(2, at);
+    };
+    let shape = shape_of(code);
+    match shape {
+        0 => Item::End(next),
+        1 | 2 | 3 => read_simple(s, table, own, next, code, shape),
+        4 | 5 => {
+            if levels == 0 {
+                return Item::Bad(4, at);
+            }
+            if shape == 4 {
+                read_conditional(s, table, own, next, levels - 1)
+            } else {
+                read_make_cont(s, table, own, next, levels - 1)
+            }
+        }
+        _ => Item::Bad(3, at),
+    }
+}
+
+// The list at a place of template `own`, with `levels` levels left below it. `table` is the run's table, whose row `own` has the
+// template's entries.
+pub fn read_list(s: &[u8], table: &[u64], own: usize, at: BitPlace, levels: usize) -> Listed
+    requires { ⌜ (length (now s) ≤ 65536) × (length (now table) ≡ 16384) × (own < 64) ⌝ }
+    ensures { λ r. ⌜ r ≡ listed (now (table .entry)) own (listAt (now (s .entry)) levels (at .0)) ⌝ }
+{
+    let mut here = at;
+    let mut st = begin();
+    loop {
+        match read_instr(s, table, own, here, levels) {
+            Item::End(next) => {
+                return Listed::Done(next, finished(st));
+            }
+            Item::More(next, more) => {
+                here = next;
+                st = state_after(st, more);
+            }
+            Item::Bad(no, place) => {
+                return Listed::Refused(no, place);
+            }
+        }
+    }
+}
