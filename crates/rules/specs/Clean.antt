@@ -189,13 +189,17 @@ module _ (n : ℕ) (d : Data) (t : ℕ) (r : Regs) (e : callRule n (d .regs) ≡
   call-clean c = called (λ x. Clean (entered d (x .1))) (λ k. record { clean-stack = c .clean-stack; clean-store = c .clean-store; clean-frames = c .clean-frames })
 
 -- ---- make-cont
-abbrev pub withFrame : ℕ → ℕ → ℕ → Data → Data
-withFrame n t p d = record {
+-- the stack's first n values and then a frame's cell x in the frames
+abbrev pub withCell : ℕ → ℕ → Data → Data
+withCell n x d = record {
   regs = regs (d .regs .v) (d .regs .env) 0 (d .regs .st);
   mem = mem (d .mem .globals) (zeroed (d .mem .stack) 0 n) (d .mem .store);
-  frames = set (sets (d .frames) (d .fr) (take n (d .mem .stack))) (d .fr + n) (frameCell n t (d .regs .env) p);
+  frames = set (sets (d .frames) (d .fr) (take n (d .mem .stack))) (d .fr + n) x;
   fr = d .fr + n + 1;
 }
+
+abbrev pub withFrame : ℕ → ℕ → ℕ → Data → Data
+withFrame n t p d = withCell n (frameCell n t (d .regs .env) p) d
 
 module _ (n t p : ℕ) (d d′ : Data) (e : makeContRule n t p d ≡ ok d′) where
   pub continued : (P : Data → Type 0) → (d .regs .sp ≡ n → d .fr + n + 1 ≤ 2048 → P (withFrame n t p d)) → P d′

@@ -2,6 +2,9 @@
 pub mod State
 pub mod Total
 pub mod Rules
+pub mod Fit
+pub mod Answers
+pub mod Told
 pub mod Related
 pub mod Frames
 pub mod Effects

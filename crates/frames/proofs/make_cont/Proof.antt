@@ -1,0 +1,72 @@
+-- `frames::make_cont` meets its contract. Assumes nothing.
+use borrow.Author.Needs.{needs}
+use borrow.Author.Tests.{le-leb, lt-leb, eq-eqb, ne-eqb}
+use mathlib.Core.Path.{refl}
+use native.Mathlib.Omega.{arith}
+use Rattle.frames.specs.Ends.{keepRule, toldKept}
+use Rattle.frames.proofs.make_cont.Statement.{statement}
+use Rattle.frames.proofs.make_cont.Tie as tie
+
+returns : tie.Need-returns
+unfolding toldKept keepRule
+returns c = ((λ g s. rw (ne-eqb _ _ (c .if1 .taken))), tt)
+
+add-if2 : tie.Need-add-if2
+add-if2 c = search needs
+
+add-if2-2 : tie.Need-add-if2-2
+add-if2-2 c = search needs
+
+copy-up-requires : tie.Need-copy-up-requires
+copy-up-requires c κs = search needs
+
+add-frames : tie.Need-add-frames
+add-frames c = search needs
+
+mul-frames : tie.Need-mul-frames
+mul-frames c = search needs
+
+slice-write-frames : tie.Need-slice-write-frames
+slice-write-frames c = search needs
+
+clear-requires : tie.Need-clear-requires
+clear-requires c κs = search needs
+
+add-t18 : tie.Need-add-t18
+add-t18 c = search needs
+
+add-t17 : tie.Need-add-t17
+add-t17 c = search needs
+
+same-length : tie.Need-same-length
+same-length c = search needs
+
+same-length-2 : tie.Need-same-length-2
+same-length-2 c = search needs
+
+returns-2 : tie.Need-returns-2
+unfolding toldKept keepRule
+returns-2 c = ((λ g s. rw (c .before .before .before .before .before .before .copy-up .ensures, c .before .before .clear .ensures, ← c .before .before .before .before .before .before .before .before .before .before .if1 .left, eq-eqb _ _ refl, le-leb _ _ (c .before .before .before .before .before .before .before .before .before .if2 .taken))), omega (arith, c .before .before .before .before .before .before .before .before .before .if2 .taken))
+
+returns-3 : tie.Need-returns-3
+unfolding toldKept keepRule
+returns-3 c = ((λ g s. rw (← c .before .if1 .left, eq-eqb _ _ refl, lt-leb _ _ (c .if2 .left))), tt)
+
+pub make-cont-spec : {M : Type 1} → statement M
+make-cont-spec =
+    tie.close
+    (tie.spec
+    returns
+    add-if2
+    add-if2-2
+    copy-up-requires
+    add-frames
+    mul-frames
+    slice-write-frames
+    clear-requires
+    add-t18
+    add-t17
+    same-length
+    same-length-2
+    returns-2
+    returns-3)

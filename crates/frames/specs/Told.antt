@@ -1,0 +1,55 @@
+-- From what a function answers to how its rule ends. Assumes nothing.
+use mathlib.Core.Path.{_≡_, refl, sym}
+use mathlib.Core.Bool.{Bool, true, false, cond}
+use mathlib.Core.List.{List}
+use Prim.Native.Nat.{ℕ}
+use native.Mathlib.Omega.{arith}
+use lib.Dec.{eqb}
+use Rattle.cells.specs.Cells.{frameCell, frameTemplate, framePlace}
+use Rattle.rules.specs.State.{Mem, Res, ok, wrong}
+use Rattle.rules.specs.Rules.{Data, Back, noFrame, backTo, lastFrame, makeContRule, returnRule}
+use Rattle.rules.specs.Clean.{withoutFrame}
+use Rattle.rules.specs.declared.Regs.{Regs}
+use Rattle.frames.specs.Ends.{state, left, keepRule, toldKept, toldBack}
+use Rattle.frames.specs.declared.Kept.the-variants.{On, Wrong}
+use Rattle.frames.specs.declared.Returned.the-variants.{Halt, To}
+
+unequal : _≡_ {A = ℕ} 0 1 → ⊥
+unequal e = omega arith
+
+pub keep-is : (n t p x : ℕ) (d : Data) → x ≡ frameCell n t (d .regs .env) p → keepRule n x d ≡ makeContRule n t p d
+unfolding keepRule makeContRule
+keep-is n t p x d e = rw e
+
+module _ (d : Data) (m : Mem) (f : List ℕ) where
+  pub kept-on : (r : Regs) (k : ℕ) (x : Res Data) → left (On r k) m f ≡ toldKept d x → x ≡ ok (state r m f k)
+  unfolding toldKept
+  kept-on r k (ok e) h = let a : r ≡ e .regs = cc in let b : k ≡ e .fr = cc in let c : m ≡ e .mem = cc in let g : f ≡ e .frames = cc in rw (a, b, c, g)
+  kept-on r k (wrong n) h = absurd (unequal (cc))
+
+  pub kept-wrong : (n : ℕ) (x : Res Data) → left (Wrong n) m f ≡ toldKept d x → (x ≡ wrong n) × (m ≡ d .mem) × (f ≡ d .frames)
+  unfolding toldKept
+  kept-wrong n (ok e) h = absurd (unequal (cc))
+  kept-wrong n (wrong k) h = let a : n ≡ k = cc in let b : m ≡ d .mem = cc in let c : f ≡ d .frames = cc in (rw a, b, c)
+
+  back-by : (b : Bool) (r : Regs) (k c : ℕ)
+      → left (To r k c) m f ≡ toldBack d (cond b noFrame (backTo (frameTemplate (lastFrame d)) (framePlace (lastFrame d)) (withoutFrame d)))
+      → cond b noFrame (backTo (frameTemplate (lastFrame d)) (framePlace (lastFrame d)) (withoutFrame d)) ≡ backTo (frameTemplate c) (framePlace c) (state r m f k)
+  unfolding toldBack
+  back-by true r k c h = absurd (unequal (cc))
+  back-by false r k c h =
+      let e : c ≡ lastFrame d = cc in
+      let p : r ≡ withoutFrame d .regs = cc in
+      let q : k ≡ withoutFrame d .fr = cc in
+      let u : m ≡ withoutFrame d .mem = cc in
+      let w : f ≡ withoutFrame d .frames = cc in
+      rw (e, p, q, u, w)
+
+  pub back-to : (r : Regs) (k c : ℕ) → left (To r k c) m f ≡ toldBack d (returnRule d) → returnRule d ≡ backTo (frameTemplate c) (framePlace c) (state r m f k)
+  unfolding returnRule
+  back-to r k c h = back-by (eqb (d .fr) 0) r k c h
+
+  pub back-halt : (x : Back) → left Halt m f ≡ toldBack d x → (x ≡ noFrame) × (m ≡ d .mem) × (f ≡ d .frames)
+  unfolding toldBack
+  back-halt noFrame h = let b : m ≡ d .mem = cc in let c : f ≡ d .frames = cc in (refl, b, c)
+  back-halt (backTo t p e) h = absurd (unequal (cc))

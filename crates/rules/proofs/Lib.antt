@@ -1,0 +1,3 @@
+-- Laws of the crate rules.
+pub mod Laws
+pub mod Adding

@@ -1,0 +1,41 @@
+-- `rules::call` meets its contract. Assumes nothing.
+use borrow.Author.Needs.{needs}
+use borrow.Author.Tests.{eq-eqb, ne-eqb}
+use mathlib.Core.Path.{sym, _∙_}
+use native.Mathlib.Omega.{arith}
+use Rattle.rules.specs.Answers.{calledTo}
+use Rattle.rules.specs.Rules.{callRule}
+use Rattle.rules.proofs.call.Statement.{statement}
+use Rattle.rules.proofs.call.Tie as tie
+
+returns : tie.Need-returns
+unfolding calledTo callRule
+returns c = (rw (ne-eqb _ _ (c .if1 .taken)), λ f. tt)
+
+tag-of-requires : tie.Need-tag-of-requires
+tag-of-requires c κs = search needs
+
+closure-template-requires : tie.Need-closure-template-requires
+closure-template-requires c κs = search needs
+
+closure-env-requires : tie.Need-closure-env-requires
+closure-env-requires c κs = search needs
+
+returns-2 : tie.Need-returns-2
+unfolding calledTo callRule
+returns-2 c = (rw (eq-eqb _ _ (c .before .before .before .before .if1 .left), eq-eqb _ _ (sym (c .before .before .before .tag-of .ensures) ∙ c .before .before .if2 .taken), c .before .closure-template .ensures, c .closure-env .ensures), λ f. omega arith)
+
+returns-3 : tie.Need-returns-3
+unfolding calledTo callRule
+returns-3 c = (rw (eq-eqb _ _ (c .before .before .if1 .left), ne-eqb _ _ (λ k. c .if2 .left (c .before .tag-of .ensures ∙ k))), λ f. tt)
+
+pub call-spec : {M : Type 1} → statement M
+call-spec =
+    tie.close
+    (tie.spec
+    returns
+    tag-of-requires
+    closure-template-requires
+    closure-env-requires
+    returns-2
+    returns-3)

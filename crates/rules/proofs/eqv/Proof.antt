@@ -1,0 +1,63 @@
+-- `rules::eqv` meets its contract. Assumes nothing.
+use borrow.Author.Needs.{needs}
+use borrow.Author.Tests.{le-leb, lt-leb, eq-eqb, ne-eqb}
+use Rattle.rules.specs.Rules.{eqvRule}
+use Rattle.rules.specs.State.{told}
+use Rattle.rules.proofs.eqv.Statement.{statement}
+use Rattle.rules.proofs.eqv.Tie as tie
+
+returns : tie.Need-returns
+unfolding told eqvRule
+returns c = λ g t. rw (lt-leb _ _ (c .if1 .taken))
+
+sub-if2 : tie.Need-sub-if2
+sub-if2 c = search needs
+
+mul-if2 : tie.Need-mul-if2
+mul-if2 c = search needs
+
+slice-read-if2 : tie.Need-slice-read-if2
+slice-read-if2 c = search needs
+
+mul-if2-2 : tie.Need-mul-if2-2
+mul-if2-2 c = search needs
+
+slice-read-if2-2 : tie.Need-slice-read-if2-2
+slice-read-if2-2 c = search needs
+
+emptied-requires : tie.Need-emptied-requires
+emptied-requires c κs = search needs
+
+emptied-requires-2 : tie.Need-emptied-requires-2
+emptied-requires-2 c κs = search needs
+
+same-length : tie.Need-same-length
+same-length c = search needs
+
+returns-2 : tie.Need-returns-2
+unfolding told eqvRule
+returns-2 c = λ g t. rw (le-leb _ _ (c .before .before .before .before .before .before .before .if1 .left), eq-eqb _ _ (c .before .before .before .before .if2 .taken), c .before .before .emptied .ensures .0, c .before .before .emptied .ensures .1)
+
+same-length-2 : tie.Need-same-length-2
+same-length-2 c = search needs
+
+returns-3 : tie.Need-returns-3
+unfolding told eqvRule
+returns-3 c = λ g t. rw (le-leb _ _ (c .before .before .before .before .before .before .before .if1 .left), ne-eqb _ _ (c .before .before .before .before .if2 .left), c .before .before .emptied2 .ensures .0, c .before .before .emptied2 .ensures .1)
+
+pub eqv-spec : {M : Type 1} → statement M
+eqv-spec =
+    tie.close
+    (tie.spec
+    returns
+    sub-if2
+    mul-if2
+    slice-read-if2
+    mul-if2-2
+    slice-read-if2-2
+    emptied-requires
+    emptied-requires-2
+    same-length
+    returns-2
+    same-length-2
+    returns-3)

@@ -1,0 +1,270 @@
+-- `rules::plain_rule` meets its contract: in each arm the instruction is known, and the rule's function gives its equation. Assumes nothing.
+use borrow.Author.Needs.{needs}
+use Rattle.rules.specs.Rules.{plainRule}
+use Rattle.rules.proofs.Laws.{ended}
+use Rattle.rules.proofs.plain_rule.Statement.{statement}
+use Rattle.rules.proofs.plain_rule.Tie as tie
+
+enum-known-i : tie.Need-enum-known-i
+enum-known-i c = search needs
+
+literal-requires : tie.Need-literal-requires
+literal-requires c κs = search needs
+
+enum-known-i-2 : tie.Need-enum-known-i-2
+enum-known-i-2 c = search needs
+
+closure-requires : tie.Need-closure-requires
+closure-requires c κs = search needs
+
+enum-known-i-3 : tie.Need-enum-known-i-3
+enum-known-i-3 c = search needs
+
+global-requires : tie.Need-global-requires
+global-requires c κs = search needs
+
+enum-known-i-4 : tie.Need-enum-known-i-4
+enum-known-i-4 c = search needs
+
+set-global-requires : tie.Need-set-global-requires
+set-global-requires c κs = search needs
+
+enum-known-i-5 : tie.Need-enum-known-i-5
+enum-known-i-5 c = search needs
+
+local-requires : tie.Need-local-requires
+local-requires c κs = search needs
+
+enum-known-i-6 : tie.Need-enum-known-i-6
+enum-known-i-6 c = search needs
+
+set-local-requires : tie.Need-set-local-requires
+set-local-requires c κs = search needs
+
+enum-told : tie.Need-enum-told
+enum-told c = search needs
+
+push-requires : tie.Need-push-requires
+push-requires c κs = search needs
+
+enum-told-2 : tie.Need-enum-told-2
+enum-told-2 c = search needs
+
+literal-requires-2 : tie.Need-literal-requires-2
+literal-requires-2 c κs = search needs
+
+enum-known-i-7 : tie.Need-enum-known-i-7
+enum-known-i-7 c = search needs
+
+make-env-requires : tie.Need-make-env-requires
+make-env-requires c κs = search needs
+
+enum-known-i-8 : tie.Need-enum-known-i-8
+enum-known-i-8 c = search needs
+
+check-args-requires : tie.Need-check-args-requires
+check-args-requires c κs = search needs
+
+enum-told-3 : tie.Need-enum-told-3
+enum-told-3 c = search needs
+
+cons-requires : tie.Need-cons-requires
+cons-requires c κs = search needs
+
+enum-told-4 : tie.Need-enum-told-4
+enum-told-4 c = search needs
+
+car-requires : tie.Need-car-requires
+car-requires c κs = search needs
+
+enum-told-5 : tie.Need-enum-told-5
+enum-told-5 c = search needs
+
+cdr-requires : tie.Need-cdr-requires
+cdr-requires c κs = search needs
+
+enum-told-6 : tie.Need-enum-told-6
+enum-told-6 c = search needs
+
+eqv-requires : tie.Need-eqv-requires
+eqv-requires c κs = search needs
+
+enum-told-7 : tie.Need-enum-told-7
+enum-told-7 c = search needs
+
+add-requires : tie.Need-add-requires
+add-requires c κs = search needs
+
+returns : tie.Need-returns
+unfolding plainRule
+returns c = ended _ _ _ _ (c .before .before .before .before .before .before .before .args .r) _ (c .before .before .i .given .1) (c .before .before .before .before .before .before .before .pre .3) (c .literal .ensures _)
+
+same-length : tie.Need-same-length
+same-length c = search needs
+
+returns-2 : tie.Need-returns-2
+unfolding plainRule
+returns-2 c = ended _ _ _ _ (c .before .before .before .before .before .before .before .before .before .before .args .r) _ (c .before .before .before .before .before .i2 .given .1) (c .before .before .before .before .before .before .before .before .before .before .pre .3) (c .before .before .closure .ensures _ _)
+
+same-length-2 : tie.Need-same-length-2
+same-length-2 c = search needs
+
+returns-3 : tie.Need-returns-3
+unfolding plainRule
+returns-3 c = ended _ _ _ _ (c .before .before .before .before .before .before .before .before .args .r) _ (c .before .before .before .i3 .given .1) (c .before .before .before .before .before .before .before .before .pre .3) (c .global .ensures _ _)
+
+same-length-3 : tie.Need-same-length-3
+same-length-3 c = search needs
+
+returns-4 : tie.Need-returns-4
+unfolding plainRule
+returns-4 c = ended _ _ _ _ (c .before .before .before .before .before .before .before .before .before .before .args .r) _ (c .before .before .before .before .before .i4 .given .1) (c .before .before .before .before .before .before .before .before .before .before .pre .3) (c .before .before .set-global .ensures _ _)
+
+same-length-4 : tie.Need-same-length-4
+same-length-4 c = search needs
+
+returns-5 : tie.Need-returns-5
+unfolding plainRule
+returns-5 c = ended _ _ _ _ (c .before .before .before .before .before .before .before .before .args .r) _ (c .before .before .before .i5 .given .1) (c .before .before .before .before .before .before .before .before .pre .3) (c .local .ensures _ _)
+
+same-length-5 : tie.Need-same-length-5
+same-length-5 c = search needs
+
+returns-6 : tie.Need-returns-6
+unfolding plainRule
+returns-6 c = ended _ _ _ _ (c .before .before .before .before .before .before .before .before .before .before .args .r) _ (c .before .before .before .before .before .i6 .given .1) (c .before .before .before .before .before .before .before .before .before .before .pre .3) (c .before .before .set-local .ensures _ _)
+
+same-length-6 : tie.Need-same-length-6
+same-length-6 c = search needs
+
+returns-7 : tie.Need-returns-7
+unfolding plainRule
+returns-7 c = ended _ _ _ _ (c .before .before .before .before .before .before .before .before .before .args .r) _ (c .before .before .before .before .enum-told .given .1) (c .before .before .before .before .before .before .before .before .before .pre .3) (c .before .before .push .ensures _ _)
+
+returns-8 : tie.Need-returns-8
+unfolding plainRule
+returns-8 c = ended _ _ _ _ (c .before .before .before .before .before .before .args .r) _ (c .before .enum-told2 .given .1) (c .before .before .before .before .before .before .pre .3) (c .literal2 .ensures _)
+
+same-length-7 : tie.Need-same-length-7
+same-length-7 c = search needs
+
+same-length-8 : tie.Need-same-length-8
+same-length-8 c = search needs
+
+returns-9 : tie.Need-returns-9
+unfolding plainRule
+returns-9 c = ended _ _ _ _ (c .before .before .before .before .before .before .before .before .before .before .before .before .before .args .r) _ (c .before .before .before .before .before .before .before .before .i7 .given .1) (c .before .before .before .before .before .before .before .before .before .before .before .before .before .pre .3) (c .before .before .before .before .make-env .ensures _)
+
+returns-10 : tie.Need-returns-10
+unfolding plainRule
+returns-10 c = ended _ _ _ _ (c .before .before .before .before .before .before .before .args .r) _ (c .before .before .i8 .given .1) (c .before .before .before .before .before .before .before .pre .3) (c .check-args .ensures _)
+
+same-length-9 : tie.Need-same-length-9
+same-length-9 c = search needs
+
+same-length-10 : tie.Need-same-length-10
+same-length-10 c = search needs
+
+returns-11 : tie.Need-returns-11
+unfolding plainRule
+returns-11 c = ended _ _ _ _ (c .before .before .before .before .before .before .before .before .before .before .before .before .args .r) _ (c .before .before .before .before .before .before .before .enum-told3 .given .1) (c .before .before .before .before .before .before .before .before .before .before .before .before .pre .3) (c .before .before .before .before .cons .ensures _)
+
+same-length-11 : tie.Need-same-length-11
+same-length-11 c = search needs
+
+same-length-12 : tie.Need-same-length-12
+same-length-12 c = search needs
+
+returns-12 : tie.Need-returns-12
+unfolding plainRule
+returns-12 c = ended _ _ _ _ (c .before .before .before .before .before .before .before .before .before .before .args .r) _ (c .before .before .before .before .before .enum-told4 .given .1) (c .before .before .before .before .before .before .before .before .before .before .pre .3) (c .before .before .car .ensures _)
+
+same-length-13 : tie.Need-same-length-13
+same-length-13 c = search needs
+
+same-length-14 : tie.Need-same-length-14
+same-length-14 c = search needs
+
+returns-13 : tie.Need-returns-13
+unfolding plainRule
+returns-13 c = ended _ _ _ _ (c .before .before .before .before .before .before .before .before .before .before .args .r) _ (c .before .before .before .before .before .enum-told5 .given .1) (c .before .before .before .before .before .before .before .before .before .before .pre .3) (c .before .before .cdr .ensures _)
+
+same-length-15 : tie.Need-same-length-15
+same-length-15 c = search needs
+
+returns-14 : tie.Need-returns-14
+unfolding plainRule
+returns-14 c = ended _ _ _ _ (c .before .before .before .before .before .before .before .before .before .args .r) _ (c .before .before .before .before .enum-told6 .given .1) (c .before .before .before .before .before .before .before .before .before .pre .3) (c .before .before .eqv .ensures _ _)
+
+same-length-16 : tie.Need-same-length-16
+same-length-16 c = search needs
+
+returns-15 : tie.Need-returns-15
+unfolding plainRule
+returns-15 c = ended _ _ _ _ (c .before .before .before .before .before .before .before .before .before .args .r) _ (c .before .before .before .before .enum-told7 .given .1) (c .before .before .before .before .before .before .before .before .before .pre .3) (c .before .before .add .ensures _ _)
+
+pub plain-rule-spec : {M : Type 1} → statement M
+plain-rule-spec =
+    tie.close
+    (tie.spec
+    enum-known-i
+    literal-requires
+    enum-known-i-2
+    closure-requires
+    enum-known-i-3
+    global-requires
+    enum-known-i-4
+    set-global-requires
+    enum-known-i-5
+    local-requires
+    enum-known-i-6
+    set-local-requires
+    enum-told
+    push-requires
+    enum-told-2
+    literal-requires-2
+    enum-known-i-7
+    make-env-requires
+    enum-known-i-8
+    check-args-requires
+    enum-told-3
+    cons-requires
+    enum-told-4
+    car-requires
+    enum-told-5
+    cdr-requires
+    enum-told-6
+    eqv-requires
+    enum-told-7
+    add-requires
+    returns
+    same-length
+    returns-2
+    same-length-2
+    returns-3
+    same-length-3
+    returns-4
+    same-length-4
+    returns-5
+    same-length-5
+    returns-6
+    same-length-6
+    returns-7
+    returns-8
+    same-length-7
+    same-length-8
+    returns-9
+    returns-10
+    same-length-9
+    same-length-10
+    returns-11
+    same-length-11
+    same-length-12
+    returns-12
+    same-length-13
+    same-length-14
+    returns-13
+    same-length-15
+    returns-14
+    same-length-16
+    returns-15)
