@@ -1,5 +1,5 @@
 -- From what a function answers to how its rule ends. Assumes nothing.
-use mathlib.Core.Path.{_≡_, refl, sym}
+use mathlib.Core.Path.{_≡_, refl, sym, ap, _∙_}
 use mathlib.Core.Bool.{Bool, true, false, cond}
 use mathlib.Core.List.{List}
 use Prim.Native.Nat.{ℕ}
@@ -10,7 +10,8 @@ use Rattle.rules.specs.State.{Mem, Res, ok, wrong}
 use Rattle.rules.specs.Rules.{Data, Back, noFrame, backTo, lastFrame, makeContRule, returnRule}
 use Rattle.rules.specs.Clean.{withoutFrame}
 use Rattle.rules.specs.declared.Regs.{Regs}
-use Rattle.frames.specs.Ends.{state, left, keepRule, toldKept, toldBack}
+use Rattle.frames.specs.Ends.{state, Left, left, keepRule, toldKept, toldBack}
+use Rattle.frames.specs.declared.Kept.{Kept}
 use Rattle.frames.specs.declared.Kept.the-variants.{On, Wrong}
 use Rattle.frames.specs.declared.Returned.the-variants.{Halt, To}
 
@@ -20,6 +21,10 @@ unequal e = omega arith
 pub keep-is : (n t p x : ℕ) (d : Data) → x ≡ frameCell n t (d .regs .env) p → keepRule n x d ≡ makeContRule n t p d
 unfolding keepRule makeContRule
 keep-is n t p x d e = rw e
+
+-- make_cont's promise, with the cell of a frame at template t and place p
+pub kept-is : {l : Left Kept} (n t p x : ℕ) (d : Data) → l ≡ toldKept d (keepRule n x d) → x ≡ frameCell n t (d .regs .env) p → l ≡ toldKept d (makeContRule n t p d)
+kept-is n t p x d h e = h ∙ ap (toldKept d) (keep-is n t p x d e)
 
 module _ (d : Data) (m : Mem) (f : List ℕ) where
   pub kept-on : (r : Regs) (k : ℕ) (x : Res Data) → left (On r k) m f ≡ toldKept d x → x ≡ ok (state r m f k)

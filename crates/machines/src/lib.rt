@@ -1,5 +1,12 @@
 // The two machines (document 01, 'Rules').
 use cells::Value;
+use rules::Plain;
+ghost use mathlib.Core.Path.{_≡_};
+ghost use lib.ListN.{length};
+ghost use Rattle.machines.specs.Runs.{memory, lowestUnfit};
+ghost use Rattle.files.specs.Codes.{operands};
+ghost use Rattle.machines.specs.Slots.{slotLiteral, slotAt, slotResolve, resolvedAs, markedAs};
+ghost use Rattle.machines.specs.Start.{zeros, refusal, globalsRefusal, startRefusal};
 
 // How a run ends.
 pub enum End {
@@ -17,4 +24,145 @@ pub struct Run {
     pub stack: usize,
     pub store: usize,
     pub frames: usize,
+}
+
+// What is refused before a run looks at its file: nothing, or a number and a place.
+pub enum Start {
+    Go,
+    Refused(u8, usize),
+}
+
+// 22: the lowest global that is not one to start with.
+fn globals_refusal(globals: &[u64]) -> Start
+    ensures { λ r. ⌜ r ≡ globalsRefusal (lowestUnfit 0 (now (globals .entry))) ⌝ }
+{
+    let mut i = 0;
+    while i < globals.len() {
+        if !cells::starting_global(globals[i]) {
+            return Start::Refused(22, i);
+        }
+        i = i + 1;
+    }
+    Start::Go
+}
+
+// 20, 21 and 22, where a budget may be `most`.
+pub fn start_refusal(globals: &[u64], stack: &[u64], store: &[u64], frames: &[u64], budget: u64, most: u64) -> Start
+    ensures { λ r. ⌜ r ≡ startRefusal most budget (memory (now (globals .entry)) (now (stack .entry)) (now (store .entry)) (now (frames .entry))) ⌝ }
+{
+    if globals.len() != 256 {
+        return Start::Refused(20, 0);
+    }
+    if stack.len() != 256 {
+        return Start::Refused(20, 0);
+    }
+    if store.len() != 2048 {
+        return Start::Refused(20, 0);
+    }
+    if frames.len() != 2048 {
+        return Start::Refused(20, 0);
+    }
+    if budget > most {
+        return Start::Refused(21, 0);
+    }
+    globals_refusal(globals)
+}
+
+pub fn refused(number: u8, place: usize) -> Run
+    ensures { λ r. ⌜ r ≡ refusal number place ⌝ }
+{
+    Run {
+        end: End::Refused(number, place),
+        steps: 0,
+        stack: 0,
+        store: 0,
+        frames: 0,
+    }
+}
+
+// An accepted start zeroes stack, store and frames.
+pub fn clear_all(stack: &mut [u64], store: &mut [u64], frames: &mut [u64])
+    requires { ⌜ (length (now stack) ≡ 256) × (length (now store) ≡ 2048) × (length (now frames) ≡ 2048) ⌝ }
+    ensures { λ _. ⌜ (now (stack .exit) ≡ zeros 256) × (now (store .exit) ≡ zeros 2048) × (now (frames .exit) ≡ zeros 2048) ⌝ }
+{
+    runs::clear(stack, 0, 256);
+    runs::clear(store, 0, 2048);
+    runs::clear(frames, 0, 2048);
+}
+
+// A neutral code with its operands and its entry resolved: the instruction and its number of operand bytes; or an unfit entry, or no neutral code.
+pub enum Resolved {
+    Fit(Plain, usize),
+    Unfit,
+}
+
+// What a slot holds under a tag.
+enum Marked {
+    Number(u8),
+    Other,
+}
+
+// Slot n of a template's row in a run's table, 0 past the table's end.
+pub fn slot_at(table: &[u64], template: u8, n: u8) -> u64
+    ensures { λ r. ⌜ r ≡ slotAt (now (table .entry)) template n ⌝ }
+{
+    let i = 256 * (template as usize) + n as usize;
+    if i < table.len() { table[i] } else { 0 }
+}
+
+fn under_tag(slot: u64, tag: u64) -> Marked
+    ensures { λ r. ⌜ r ≡ markedAs tag slot ⌝ }
+{
+    if cells::tag_of(slot) == tag {
+        Marked::Number((slot % 256) as u8)
+    } else {
+        Marked::Other
+    }
+}
+
+fn literal(slot: u64) -> Resolved
+    ensures { λ r. ⌜ r ≡ resolvedAs 1 (slotLiteral slot) ⌝ }
+{
+    let tag = cells::tag_of(slot);
+    if tag == 0 {
+        return Resolved::Unfit;
+    }
+    if tag <= 6 {
+        Resolved::Fit(Plain::Literal(slot), 1)
+    } else {
+        Resolved::Unfit
+    }
+}
+
+// A code with operands a and b, of which it may have fewer, in a template.
+pub fn resolve(table: &[u64], template: u8, op: u8, a: u8, b: u8) -> Resolved
+    ensures { λ r. ⌜ r ≡ resolvedAs (operands op) (slotResolve (slotAt (now (table .entry)) template) op a b) ⌝ }
+{
+    match op {
+        6 => literal(slot_at(table, template, a)),
+        7 => match under_tag(slot_at(table, template, a), 12) {
+            Marked::Number(t) => Resolved::Fit(Plain::Closure(t), 1),
+            Marked::Other => Resolved::Unfit,
+        },
+        8 => match under_tag(slot_at(table, template, a), 11) {
+            Marked::Number(g) => Resolved::Fit(Plain::Global(g), 1),
+            Marked::Other => Resolved::Unfit,
+        },
+        9 => match under_tag(slot_at(table, template, a), 11) {
+            Marked::Number(g) => Resolved::Fit(Plain::SetGlobal(g), 1),
+            Marked::Other => Resolved::Unfit,
+        },
+        10 => Resolved::Fit(Plain::Local(a, b), 2),
+        11 => Resolved::Fit(Plain::SetLocal(a, b), 2),
+        12 => Resolved::Fit(Plain::Push, 0),
+        13 => Resolved::Fit(Plain::MakeEnv(a), 1),
+        15 => Resolved::Fit(Plain::Unspecified, 0),
+        16 => Resolved::Fit(Plain::CheckArgs(a), 1),
+        18 => Resolved::Fit(Plain::Cons, 0),
+        19 => Resolved::Fit(Plain::Car, 0),
+        20 => Resolved::Fit(Plain::Cdr, 0),
+        21 => Resolved::Fit(Plain::Eqv, 0),
+        22 => Resolved::Fit(Plain::Add, 0),
+        _ => Resolved::Unfit,
+    }
 }

@@ -1,7 +1,7 @@
 -- `frames::make_cont` meets its contract. Assumes nothing.
 use borrow.Author.Needs.{needs}
 use borrow.Author.Tests.{le-leb, lt-leb, eq-eqb, ne-eqb}
-use mathlib.Core.Path.{refl}
+use mathlib.Core.Path.{_≡_, refl}
 use native.Mathlib.Omega.{arith}
 use Rattle.frames.specs.Ends.{keepRule, toldKept}
 use Rattle.frames.proofs.make_cont.Statement.{statement}
@@ -9,7 +9,7 @@ use Rattle.frames.proofs.make_cont.Tie as tie
 
 returns : tie.Need-returns
 unfolding toldKept keepRule
-returns c = ((λ g s. rw (ne-eqb _ _ (c .if1 .taken))), tt)
+returns c = ((λ g s. rw (ne-eqb (c .before .before .before .args .r .sp) (c .before .before .before .args .n) (λ e. omega arith))), tt)
 
 add-if2 : tie.Need-add-if2
 add-if2 c = search needs
@@ -46,7 +46,10 @@ same-length-2 c = search needs
 
 returns-2 : tie.Need-returns-2
 unfolding toldKept keepRule
-returns-2 c = ((λ g s. rw (c .before .before .before .before .before .before .copy-up .ensures, c .before .before .clear .ensures, ← c .before .before .before .before .before .before .before .before .before .before .if1 .left, eq-eqb _ _ refl, le-leb _ _ (c .before .before .before .before .before .before .before .before .before .if2 .taken))), omega (arith, c .before .before .before .before .before .before .before .before .before .if2 .taken))
+returns-2 c =
+    let b = c .before .before .before .before .before .before .before .before .before in
+    let e : b .before .before .before .before .args .r .sp ≡ b .before .before .before .before .args .n = omega (arith, b .before .if1 .left) in
+    ((λ g s. rw (c .before .before .before .before .before .before .copy-up .ensures, c .before .before .clear .ensures, ← e, eq-eqb _ _ refl, le-leb _ _ (b .if2 .taken))), omega (arith, b .if2 .taken))
 
 returns-3 : tie.Need-returns-3
 unfolding toldKept keepRule

@@ -10,7 +10,7 @@ use Rattle.rules.proofs.call.Tie as tie
 
 returns : tie.Need-returns
 unfolding calledTo callRule
-returns c = (rw (ne-eqb _ _ (c .if1 .taken)), λ f. tt)
+returns c = (rw (ne-eqb (c .before .before .args .r .sp) (c .before .before .args .n) (λ e. omega arith)), λ f. tt)
 
 tag-of-requires : tie.Need-tag-of-requires
 tag-of-requires c κs = search needs
@@ -23,11 +23,11 @@ closure-env-requires c κs = search needs
 
 returns-2 : tie.Need-returns-2
 unfolding calledTo callRule
-returns-2 c = (rw (eq-eqb _ _ (c .before .before .before .before .if1 .left), eq-eqb _ _ (sym (c .before .before .before .tag-of .ensures) ∙ c .before .before .if2 .taken), c .before .closure-template .ensures, c .closure-env .ensures), λ f. omega arith)
+returns-2 c = (rw (eq-eqb (c .before .before .before .before .before .before .args .r .sp) (c .before .before .before .before .before .before .args .n) (omega arith), eq-eqb _ _ (sym (c .before .before .before .tag-of .ensures) ∙ c .before .before .if2 .taken), c .before .closure-template .ensures, c .closure-env .ensures), λ f. omega arith)
 
 returns-3 : tie.Need-returns-3
 unfolding calledTo callRule
-returns-3 c = (rw (eq-eqb _ _ (c .before .before .if1 .left), ne-eqb _ _ (λ k. c .if2 .left (c .before .tag-of .ensures ∙ k))), λ f. tt)
+returns-3 c = (rw (eq-eqb (c .before .before .before .before .args .r .sp) (c .before .before .before .before .args .n) (omega arith), ne-eqb _ _ (λ k. c .if2 .left (c .before .tag-of .ensures ∙ k))), λ f. tt)
 
 pub call-spec : {M : Type 1} → statement M
 call-spec =

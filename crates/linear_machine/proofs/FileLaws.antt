@@ -1,0 +1,113 @@
+-- The run of a whole file, by what reading it answered. Assumes nothing.
+use Prim.Native.Nat.{ℕ, _≤_}
+use mathlib.Core.Path.{_≡_, refl, sym, ap, _∙_}
+use mathlib.Core.List.{List}
+use native.Mathlib.Omega.{arith}
+use lib.ListN.{length, length-replicate}
+use Rattle.cells.specs.declared.BitPlace.{BitPlace}
+use Rattle.cells.specs.declared.BytePlace.{BytePlace}
+use Rattle.files.specs.Reading.{Got, got, refused}
+use Rattle.files.specs.Linear.{Linear, linearRead}
+use Rattle.files.specs.Table.{linearTable}
+use Rattle.linear.specs.Filled.{linearTold, linearFilled}
+use Rattle.linear.specs.LinearTable.{linear-table}
+use Rattle.linear.specs.declared.LinearFile.{LinearFile}
+use Rattle.linear.specs.declared.LinearFile.the-variants.{Read, Refused}
+use Rattle.rules.specs.Fit.{Fit}
+use Rattle.rules.specs.declared.Regs.{Regs}
+use Rattle.machines.specs.Machine.{Program, linearProgram, State, noCounts, run}
+use Rattle.machines.specs.Runs.{Memory, memory, Ran, ran, refusedRun, startState, reported, programRun, onLinear, linearRun}
+use Rattle.machines.specs.Start.{zeros, refusal, startRefusal, Startable, startable, started-go, started-refused}
+use Rattle.machines.specs.Steps.{ranFrom, whole-budget}
+use Rattle.machines.specs.declared.Run.{Run}
+use Rattle.machines.specs.declared.Start.{Start}
+use Rattle.machines.specs.declared.Start.the-variants as started
+use Rattle.linear_machine.specs.Bytes.{bytesProgram, AllBytes, AllWithin}
+use Rattle.linear_machine.specs.ProgramLaws.{table-within, program-is}
+use Rattle.linear_machine.specs.Step.{stateOf, enteredAt, firstRegs, firstState, Entered, Ready}
+use Rattle.linear_machine.specs.declared.Control.{Control}
+
+-- ---- what reading answered
+record WasRead (g : Got (List Linear)) : Type 0 where
+  templates : List Linear
+  past : ℕ
+  is : g ≡ got templates past
+
+was-read : (g : Got (List Linear)) (n : ℕ) → Read n ≡ linearTold g → WasRead g
+unfolding linearTold
+was-read (got ts q) n e = record { templates = ts; past = q; is = refl }
+was-read (refused m p) n e = let z : _≡_ {A = ℕ} 0 1 = cc in absurd (omega arith)
+
+was-refused : (g : Got (List Linear)) (n : ℕ) (p : BitPlace) → Refused n p ≡ linearTold g → g ≡ refused n (p .0)
+unfolding linearTold
+was-refused (got ts q) n p e = let z : _≡_ {A = ℕ} 0 1 = cc in absurd (omega arith)
+was-refused (refused m q) n p e = let k : _≡_ {A = BitPlace} p (record { 0 = q }) = cc in let i : n ≡ m = cc in rw (i, k)
+
+zeros-length : (n : ℕ) → length (zeros n) ≡ n
+unfolding zeros
+zeros-length n = length-replicate n 0
+
+pub table-long : (table : List ℕ) → table ≡ zeros 16384 → length table ≡ 16384
+table-long table e = ap length e ∙ zeros-length 16384
+
+-- ---- the first state
+pub first-ready : (s table : List ℕ) (m : Memory) (c : Control) → AllWithin s table → c ≡ enteredAt table 0 (record { 0 = 0 }) 0 → length (m .globals) ≡ 256 → m .stack ≡ zeros 256
+    → m .store ≡ zeros 2048 → m .frames ≡ zeros 2048 → Ready s table m firstRegs c
+first-ready s table m c w e lg ls lt lf =
+    record {
+      all-within = w;
+      entered = rw e (record { start-is = refl; len-is = refl });
+      fit = record { fit-sp = omega arith; fit-st = omega arith };
+      frames-fit = rw e (omega arith);
+      globals-long = lg;
+      stack-long = ap length ls ∙ zeros-length 256;
+      store-long = ap length lt ∙ zeros-length 2048;
+      frames-long = ap length lf ∙ zeros-length 2048;
+    }
+
+pub first-ran : (P : Program) (b : ℕ) (table g a t f : List ℕ) (c : Control) (r : Ran) → c ≡ enteredAt table 0 (record { 0 = 0 }) 0 → a ≡ zeros 256 → t ≡ zeros 2048 → f ≡ zeros 2048
+    → r ≡ ranFrom P b 0 (stateOf firstRegs c (memory g a t f)) → r ≡ ranFrom P b 0 (firstState table g)
+first-ran P b table g a t f c r e ea et ef h = h ∙ rw (e, ea, et, ef)
+
+first-is : (table g : List ℕ) → firstState table g ≡ startState g 0
+unfolding startState zeros
+first-is table g = refl
+
+-- ---- a file s that was read, x the answer; table is what the table was before and table′ after
+module _ (s table table′ : List ℕ) (x : LinearFile) (asked : x ≡ linearTold (linearRead s)) (was : table ≡ zeros 16384) (filled : table′ ≡ linearFilled s table) (n : ℕ)
+    (there : x ≡ Read n) where
+  file : WasRead (linearRead s)
+  file = was-read (linearRead s) n (sym there ∙ asked)
+
+  table-is : table′ ≡ linearTable (file .templates)
+  unfolding zeros
+  table-is = filled ∙ ap (linearFilled s) was ∙ linear-table s (file .is)
+
+  pub file-within : AllWithin s table′
+  file-within = rw table-is (table-within s (file .is))
+
+  pub file-ran : (b : ℕ) (m : Memory) (r : Ran) → AllBytes s → r ≡ ranFrom (bytesProgram s table′) b 0 (firstState table′ (m .globals)) → r ≡ onLinear b m (linearRead s)
+  unfolding onLinear programRun
+  file-ran b m r bytes h =
+      h ∙ rw (table-is, file .is, program-is s (file .is) bytes)
+      (ap (ranFrom (linearProgram (file .templates)) b 0) (first-is (linearTable (file .templates)) (m .globals))
+      ∙ whole-budget (linearProgram (file .templates)) b (startState (m .globals) 0))
+
+-- ---- a file that is refused
+pub file-refused : (s : List ℕ) (x : LinearFile) (b : ℕ) (m : Memory) (n : ℕ) (p : BitPlace) (r : Run) → x ≡ linearTold (linearRead s) → x ≡ Refused n p → r ≡ refusal n (p .0)
+    → ran r m ≡ onLinear b m (linearRead s)
+unfolding onLinear refusedRun
+file-refused s x b m n p r e h k = rw (k, was-refused (linearRead s) n p (sym h ∙ e))
+
+-- ---- the start
+module _ (b : ℕ) (m : Memory) (x : Start) (asked : x ≡ startRefusal 2000000 b m) where
+  pub may-start : x ≡ started.Go → Startable 2000000 b m
+  may-start h = startable 2000000 b m (sym asked ∙ h)
+
+  pub start-goes : (s : List ℕ) (r : Ran) → x ≡ started.Go → r ≡ onLinear b m (linearRead s) → r ≡ linearRun s b m
+  unfolding linearRun
+  start-goes s r h e = e ∙ sym (started-go 2000000 b m (onLinear b m (linearRead s)) (sym asked ∙ h))
+
+  pub start-refused : (s : List ℕ) (n p : ℕ) (r : Run) → x ≡ started.Refused n p → r ≡ refusal n p → ran r m ≡ linearRun s b m
+  unfolding linearRun
+  start-refused s n p r h e = rw e (sym (started-refused 2000000 b m (onLinear b m (linearRead s)) n p (sym asked ∙ h)))

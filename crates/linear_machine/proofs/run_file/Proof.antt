@@ -1,0 +1,82 @@
+use borrow.Author.Needs.{needs}
+use Prim.Native.Nat.{_<_}
+use mathlib.Core.Path.{_≡_}
+use native.Mathlib.Omega.{arith}
+use Rattle.linear_machine.proofs.FileLaws.{table-long, file-within, file-ran, file-refused}
+use Rattle.linear_machine.proofs.run_file.Statement.{statement}
+use Rattle.linear_machine.proofs.run_file.Tie as tie
+use Rattle.linear_machine.proofs.run_file.Reads as reads
+use Rattle.linear_machine.proofs.run_file.Lts as lts
+use Rattle.linear.proofs.read_linear.Reads as read-linear-reads
+use Rattle.linear_machine.proofs.run_first.Reads as run-first-reads
+use Rattle.machines.proofs.refused.Reads as refused-reads
+
+-- src/lib.rt:335:11
+read-linear-requires : tie.Need-read-linear-requires
+read-linear-requires c κs = table-long _ (c .before .before .before .before .before .before .before .pre .1)
+
+-- src/lib.rt:337:29
+enum-told : tie.Need-enum-told
+enum-told c = search needs
+
+-- src/lib.rt:337:13
+run-first-requires : tie.Need-run-first-requires
+run-first-requires c κs = (c .before .before .before .before .before .before .before .before .before .before .before .before .before .before .before .before .before .pre .0, file-within _ _ _ _ (c .before .before .before .before .before .before .before .before .before .read-linear .ensures .0) (c .before .before .before .before .before .before .before .before .before .before .before .before .before .before .before .before .before .pre .1) (c .before .before .before .before .before .before .before .before .before .read-linear .ensures .1) _ (c .before .before .before .before .before .enum-told .given .1))
+
+-- src/lib.rt:339:29
+enum-known-number : tie.Need-enum-known-number
+enum-known-number c = search needs
+
+-- src/lib.rt:339:47
+refused-requires : tie.Need-refused-requires
+refused-requires c κs = search needs
+
+-- src/lib.rt:331:1
+same-length : tie.Need-same-length
+same-length c = search needs
+
+-- src/lib.rt:331:1
+same-length-2 : tie.Need-same-length-2
+same-length-2 c = search needs
+
+-- src/lib.rt:331:1
+same-length-3 : tie.Need-same-length-3
+same-length-3 c = search needs
+
+-- src/lib.rt:331:1
+same-length-4 : tie.Need-same-length-4
+same-length-4 c = search needs
+
+-- src/lib.rt:331:1
+same-length-5 : tie.Need-same-length-5
+same-length-5 c = search needs
+
+-- src/lib.rt:331:1
+returns : tie.Need-returns
+returns c = file-ran _ _ _ _ (c .before .before .before .before .before .before .before .before .before .before .before .before .before .before .before .before .before .before .read-linear .ensures .0) (c .before .before .before .before .before .before .before .before .before .before .before .before .before .before .before .before .before .before .before .before .before .before .before .before .before .before .pre .1) (c .before .before .before .before .before .before .before .before .before .before .before .before .before .before .before .before .before .before .read-linear .ensures .1) _ (c .before .before .before .before .before .before .before .before .before .before .before .before .before .before .enum-told .given .1) _ _ _ (λ i. omega (arith, c .before .before .before .before .before .before .before .before .before .before .before .before .before .before .before .before .before .before .before .before .before .before .before .before .before .shared-slice-known .given i)) (c .before .before .before .before .before .before .before .before .run-first .ensures)
+
+-- src/lib.rt:331:1
+same-length-6 : tie.Need-same-length-6
+same-length-6 c = search needs
+
+-- src/lib.rt:331:1
+returns-2 : tie.Need-returns-2
+returns-2 c = file-refused _ _ _ _ _ _ _ (c .before .before .before .before .before .before .read-linear .ensures .0) (c .before .before .number .given .1) (c .refused .ensures)
+
+pub run-file-spec : {M : Type 1} → statement M
+run-file-spec =
+    tie.close
+    (tie.spec
+    read-linear-requires
+    enum-told
+    run-first-requires
+    enum-known-number
+    refused-requires
+    same-length
+    same-length-2
+    same-length-3
+    same-length-4
+    same-length-5
+    returns
+    same-length-6
+    returns-2)

@@ -1,0 +1,107 @@
+-- What is refused before a run looks at its file, and what is known where nothing is. Assumes nothing.
+use Prim.Native.Nat.{ℕ, zero, suc, _+_, _≤_}
+use mathlib.Core.Path.{_≡_, refl}
+use mathlib.Core.Bool.{Bool, true, false, cond, _&&_}
+use mathlib.Core.Option.{Option, none, some}
+use mathlib.Core.List.{List, [], _∷_}
+use native.Mathlib.Omega.{arith}
+use lib.Dec.{leb, eqb}
+use lib.ListN.{length, replicate}
+use borrow.Author.Tests.{leb-true, eqb-true}
+use Rattle.machines.specs.Runs.{Memory, memory, Ran, ran, refusedRun, rightLengths, lowestUnfit, fitGlobals, started}
+use Rattle.machines.specs.declared.Run.{Run}
+use Rattle.machines.specs.declared.End.the-variants.{Refused as EndRefused}
+use Rattle.machines.specs.declared.Start.{Start}
+use Rattle.machines.specs.declared.Start.the-variants.{Go, Refused}
+
+-- n cells that are not in use
+unfoldable pub zeros : ℕ → List ℕ
+zeros n = replicate n 0
+
+-- what a refused run returns
+abbrev pub refusal : ℕ → ℕ → Run
+refusal n p = record { end = EndRefused n p; steps = 0; stack = 0; store = 0; frames = 0 }
+
+-- 22 with the lowest global that is not one to start with, if there is one
+unfoldable pub globalsRefusal : Option ℕ → Start
+globalsRefusal (some g) = Refused 22 g
+globalsRefusal none = Go
+
+-- 20, 21, 22
+unfoldable pub startRefusal : ℕ → ℕ → Memory → Start
+unfolding rightLengths lowestUnfit globalsRefusal
+startRefusal most b m =
+    cond (rightLengths m)
+    (cond (leb b most) (globalsRefusal (lowestUnfit 0 (m .globals))) (Refused 21 0))
+    (Refused 20 0)
+
+-- how a run ends that x was said of at its start
+unfoldable pub startedAs : Start → Memory → Ran → Ran
+startedAs Go m r = r
+startedAs (Refused n p) m r = refusedRun n p m
+
+globals-as : (o : Option ℕ) (m : Memory) (r : Ran) → fitGlobals o m r ≡ startedAs (globalsRefusal o) m r
+unfolding fitGlobals startedAs globalsRefusal
+globals-as none m r = refl
+globals-as (some g) m r = refl
+
+pub started-as : (most b : ℕ) (m : Memory) (r : Ran) → started most b m r ≡ startedAs (startRefusal most b m) m r
+unfolding started startedAs startRefusal
+started-as most b m r = by (rightLengths m) (leb b most)
+  where
+    by : (x y : Bool) → cond x (cond y (fitGlobals (lowestUnfit 0 (m .globals)) m r) (refusedRun 21 0 m)) (refusedRun 20 0 m)
+        ≡ startedAs (cond x (cond y (globalsRefusal (lowestUnfit 0 (m .globals))) (Refused 21 0)) (Refused 20 0)) m r
+    by true true = globals-as (lowestUnfit 0 (m .globals)) m r
+    by true false = refl
+    by false y = refl
+
+module _ (most b : ℕ) (m : Memory) where
+  pub started-go : (r : Ran) → startRefusal most b m ≡ Go → started most b m r ≡ r
+  unfolding startedAs
+  started-go r e = rw (started-as most b m r, e)
+
+  pub started-refused : (r : Ran) (n p : ℕ) → startRefusal most b m ≡ Refused n p → started most b m r ≡ ran (refusal n p) m
+  unfolding startedAs refusedRun
+  started-refused r n p e = rw (started-as most b m r, e)
+
+-- ---- what is known where nothing is refused
+pub record Startable (most b : ℕ) (m : Memory) : Type 0 where
+  pub globals-long : length (m .globals) ≡ 256
+  pub stack-long : length (m .stack) ≡ 256
+  pub store-long : length (m .store) ≡ 2048
+  pub frames-long : length (m .frames) ≡ 2048
+  pub budget-fits : b ≤ most
+
+-- nothing is known of a refusal
+abbrev WhereGo : Type 0 → Start → Type 0
+WhereGo P Go = P
+WhereGo P (Refused n p) = Unit
+
+pub startable : (most b : ℕ) (m : Memory) → startRefusal most b m ≡ Go → Startable most b m
+unfolding startRefusal rightLengths
+startable most b m e =
+    rw e at
+    (by (eqb (length (m .globals)) 256) (eqb (length (m .stack)) 256) (eqb (length (m .store)) 2048) (eqb (length (m .frames)) 2048) (leb b most) refl refl refl refl refl)
+  where
+    known : (x : Start) → Startable most b m → WhereGo (Startable most b m) x
+    known Go h = h
+    known (Refused n p) h = tt
+
+    by : (g s t f l : Bool) → eqb (length (m .globals)) 256 ≡ g → eqb (length (m .stack)) 256 ≡ s → eqb (length (m .store)) 2048 ≡ t
+        → eqb (length (m .frames)) 2048 ≡ f → leb b most ≡ l
+        → WhereGo (Startable most b m)
+        (cond (g && (s && (t && f))) (cond l (globalsRefusal (lowestUnfit 0 (m .globals))) (Refused 21 0)) (Refused 20 0))
+    by false s t f l h i j k o = tt
+    by true false t f l h i j k o = tt
+    by true true false f l h i j k o = tt
+    by true true true false l h i j k o = tt
+    by true true true true false h i j k o = tt
+    by true true true true true h i j k o =
+        known (globalsRefusal (lowestUnfit 0 (m .globals)))
+        (record {
+          globals-long = eqb-true (length (m .globals)) 256 h;
+          stack-long = eqb-true (length (m .stack)) 256 i;
+          store-long = eqb-true (length (m .store)) 2048 j;
+          frames-long = eqb-true (length (m .frames)) 2048 k;
+          budget-fits = leb-true b most o;
+        })
