@@ -19,4 +19,5 @@ pub mod ValidEntries
 pub mod EntriesRead
 pub mod EntriesSteps
 pub mod PaddingSteps
+pub mod RowFilled
 pub mod Rows

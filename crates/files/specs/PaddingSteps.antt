@@ -47,7 +47,7 @@ module _ {A : Type 0} (a : A) where
   good : (p : ℕ) → Padded (got a p) (Zero (record { 0 = p }))
   good p = record { zero-read = λ {q} h. (let k : _≡_ {A = BitPlace} (record { 0 = p }) q = cc in ap (λ (b : BitPlace). got a (b .0)) k); set-read = λ h. (let z : _≡_ {A = ℕ} 0 1 = cc in absurd (omega arith)) }
 
-  bad : (p : ℕ) → Padded (refused 5 p) (Refused (record { 0 = p }))
+  pub bad : (p : ℕ) → Padded (refused 5 p) (Refused (record { 0 = p }))
   bad p = record { zero-read = λ h. (let z : _≡_ {A = ℕ} 0 1 = cc in absurd (omega arith)); set-read = λ {q} h. (let k : _≡_ {A = BitPlace} (record { 0 = p }) q = cc in ap (λ (b : BitPlace). refused 5 (b .0)) k) }
 
   pub zero-told : (s : List ℕ) (n p : ℕ) → Padded (zeroBits s n p a) (paddingTold (zeroBits s n p (tt {0})))

@@ -104,7 +104,7 @@ treeStart t = t .start
 abbrev pub treeEntries : Template → List Entry
 treeEntries t = t .entries
 
-tree-rows : (ts : List Template) → treeRows ts ≡ rowsOf treeStart treeEntries ts
+pub tree-rows : (ts : List Template) → treeRows ts ≡ rowsOf treeStart treeEntries ts
 unfolding treeRows rowsOf
 tree-rows [] = refl
 tree-rows (t ∷ ts) = ap (λ (l : List ℕ). rowOf (t .start) (t .entries) ++ l) (tree-rows ts)

@@ -1,7 +1,131 @@
 // The flattener (document 01, 'Flattening').
+use cells::BitPlace;
+use tree::TreeFile;
+ghost use mathlib.Core.Path.{_≡_};
+ghost use mathlib.Core.List.{List};
+ghost use Prim.Native.Nat.{ℕ, _+_, _*_, _-_, _/_, _≤_, _<_};
+ghost use lib.ListN.{length};
+ghost use lib.Seq.{sets};
+ghost use Rattle.files.specs.Linear.{byteOf, bytesOf, threeBytes, templatesBytes};
+ghost use Rattle.flatten.specs.Flatten.{flattened, answered, written};
+ghost use Rattle.flatten.specs.Copied.{bitsFrom};
+ghost use Rattle.flatten.specs.ToFlatten.{TemplateToWrite, TemplatesToWrite, TemplateDone};
 
 // What flattening answers: the linear file's length, or a refusal's number and place.
 pub enum Flattened {
     Written(usize),
     Refused(u8, usize),
+}
+
+// The place past a template, and how many bytes of the linear file are written.
+pub struct Past {
+    pub next: BitPlace,
+    pub front: usize,
+}
+
+// The byte that the bits from p to `end` begin with; bits that are not there are zero.
+fn first_byte(s: &[u8], p: usize, end: usize) -> u8
+    requires { ⌜ (length (now s) ≤ 65536) × (p < end) × (end ≤ 8 * length (now s)) ⌝ }
+    ensures { λ r. ⌜ r ≡ byteOf (bitsFrom (now (s .entry)) p (end - p)) ⌝ }
+{
+    let n = end - p;
+    if n < 8 {
+        return (fields::bits_at(s, p, n) << (8 - n)) as u8;
+    }
+    fields::bits_at(s, p, 8) as u8
+}
+
+// The bits from p to `end` as bytes, with zero bits to the last byte.
+fn write_bits(s: &[u8], p: usize, end: usize, out: &mut [u8], front: usize)
+    requires { ⌜ (length (now s) ≤ 65536) × (end ≤ 8 * length (now s)) × (front + (end - p + 7) / 8 ≤ length (now out)) ⌝ }
+    ensures { λ _. ⌜ now (out .exit) ≡ sets (now (out .entry)) front (bytesOf (bitsFrom (now (s .entry)) p (end - p))) ⌝ }
+{
+    let mut here = p;
+    let mut f = front;
+    while here < end {
+        out[f] = first_byte(s, here, end);
+        here += 8;
+        f += 1;
+    }
+}
+
+// A length in three bytes.
+fn put_length(out: &mut [u8], at: usize, n: usize)
+    requires { ⌜ (at + 3 ≤ length (now out)) × (n < 16777216) ⌝ }
+    ensures { λ _. ⌜ now (out .exit) ≡ sets (now (out .entry)) at (threeBytes n) ⌝ }
+{
+    out[at] = (n / 65536) as u8;
+    out[at + 1] = (n / 256 % 256) as u8;
+    out[at + 2] = (n % 256) as u8;
+}
+
+// Template `own` at a place. Slot 0 of its row of the table says where its list begins, and so where its entries end.
+fn write_template(
+    s: &[u8],
+    table: &[u64],
+    own: usize,
+    at: BitPlace,
+    out: &mut [u8],
+    front: usize,
+) -> Past
+    requires { ⌜ (length (now s) ≤ 65536) × (length (now table) ≡ 16384) × (own < 64) × TemplateToWrite (now s) (now table) own (at .0) front (length (now out)) ⌝ }
+    ensures { λ r. ⌜ ((w : TemplateToWrite (now (s .entry)) (now (table .entry)) own (at .0) front (length (now (out .entry)))) → TemplateDone w r (now (out .entry)) (now (out .exit))) ⌝ }
+{
+    let p = at.0;
+    let slot = 256 * own;
+    let start = table[slot] as usize;
+    let code = emit::measure(s, table, own, BitPlace(start), 15);
+    let size = code.size;
+    out[front] = fields::bits_at(s, p, 8) as u8;
+    write_bits(s, p + 8, start, out, front + 1);
+    let f = front + 1 + (start - (p + 8) + 7) / 8;
+    put_length(out, f, size);
+    let end = f + 3 + size;
+    let next = emit::write_list(s, table, own, BitPlace(start), 15, out, f + 3, end);
+    Past { next, front: end }
+}
+
+// The `count` templates, which stand from bit 8 on, into the bytes from 1 on.
+fn write_templates(s: &[u8], table: &[u64], count: usize, out: &mut [u8])
+    requires { ⌜ (length (now s) ≤ 65536) × (length (now table) ≡ 16384) × TemplatesToWrite (now s) (now table) count 0 8 1 (length (now out)) ⌝ }
+    ensures { λ _. ⌜ ((w : TemplatesToWrite (now (s .entry)) (now (table .entry)) count 0 8 1 (length (now (out .entry)))) → now (out .exit) ≡ sets (now (out .entry)) 1 (templatesBytes (w .templates))) ⌝ }
+{
+    let mut own: usize = 0;
+    let mut here = BitPlace(8);
+    let mut front: usize = 1;
+    while own < count {
+        let past = write_template(s, table, own, here, out, front);
+        let next = past.next;
+        here = next;
+        front = past.front;
+        own += 1;
+    }
+}
+
+// Flattens a tree file into an output.
+pub fn flatten(s: &[u8], out: &mut [u8]) -> Flattened
+    ensures { λ r. ⌜ r ≡ answered (flattened (now (s .entry)) (length (now (out .entry)))) ⌝ }
+    ensures { λ _. ⌜ now (out .exit) ≡ written (now (out .entry)) (flattened (now (s .entry)) (length (now (out .entry)))) ⌝ }
+{
+    let mut table = [0u64; 16384];
+    match tree::read_tree(s, &mut table) {
+        TreeFile::Read(sum) => {
+            if sum.unclosed < 64 {
+                return Flattened::Refused(6, sum.unclosed as usize);
+            }
+            if sum.misnamed < 64 {
+                return Flattened::Refused(7, sum.misnamed as usize);
+            }
+            if sum.far < 64 {
+                return Flattened::Refused(8, sum.far as usize);
+            }
+            if out.len() < sum.size {
+                return Flattened::Refused(9, sum.size);
+            }
+            out[0] = sum.count;
+            write_templates(s, &table, sum.count as usize, out);
+            Flattened::Written(sum.size)
+        }
+        TreeFile::Refused(no, place) => Flattened::Refused(no, place.0),
+    }
 }

@@ -152,7 +152,7 @@ module _ (s table : List ℕ) (m m′ : Memory) (r : Regs) (c : Control) (k : En
   unfolding step
   step-is z h t =
       let f : fetchBytes s table (c .template) (codeStart table (c .template)) (codeLength table (c .template)) (c .place .0) ≡ fetchedAs z
-          = rw (← k .start-is, ← k .len-is) (sym e ∙ ap fetchedAs h) in
+      = rw (← k .start-is, ← k .len-is) (sym e ∙ ap fetchedAs h) in
       rw f t
 
 pub saved-low : (x : LinearFetched) (n : ℕ) (p q : BytePlace) → Savable x → x ≡ fetched.Save n p q → p .0 < 2 ^ 24

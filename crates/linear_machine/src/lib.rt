@@ -104,7 +104,15 @@ fn fetch_jump(file: &[u8], i: usize, left: usize, place: usize) -> LinearFetched
     }
 }
 
-fn fetch_plain(file: &[u8], table: &[u64], template: u8, i: usize, left: usize, place: usize, op: u8) -> LinearFetched
+fn fetch_plain(
+    file: &[u8],
+    table: &[u64],
+    template: u8,
+    i: usize,
+    left: usize,
+    place: usize,
+    op: u8,
+) -> LinearFetched
     requires { ⌜ (i + left ≤ length (now file)) × (place ≤ 262144) ⌝ }
     ensures { λ r. ⌜ (fetchedAs r ≡ neutralBytes (slotAt (now (table .entry)) template) place op (part (now (file .entry)) i left)) × Savable r ⌝ }
 {
@@ -123,7 +131,14 @@ fn fetch_plain(file: &[u8], table: &[u64], template: u8, i: usize, left: usize, 
 }
 
 // What stands at a place of a template, whose code is the `len` bytes at `start`.
-fn fetch(file: &[u8], table: &[u64], template: u8, start: usize, len: usize, at: BytePlace) -> LinearFetched
+fn fetch(
+    file: &[u8],
+    table: &[u64],
+    template: u8,
+    start: usize,
+    len: usize,
+    at: BytePlace,
+) -> LinearFetched
     requires { ⌜ Within (now file) start len × (length (now file) ≤ 262144) ⌝ }
     ensures { λ r. ⌜ (fetchedAs r ≡ fetchBytes (now (file .entry)) (now (table .entry)) template start len (at .0)) × Savable r ⌝ }
 {
@@ -193,7 +208,15 @@ fn entered(table: &[u64], template: u8, place: BytePlace, fr: usize) -> Control
 
 // Each kind of instruction.
 
-fn act_plain(i: Plain, next: BytePlace, globals: &mut [u64], stack: &mut [u64], store: &mut [u64], r: Regs, c: Control) -> LinearStep
+fn act_plain(
+    i: Plain,
+    next: BytePlace,
+    globals: &mut [u64],
+    stack: &mut [u64],
+    store: &mut [u64],
+    r: Regs,
+    c: Control,
+) -> LinearStep
     requires { ⌜ (length (now globals) ≡ 256) × (length (now stack) ≡ 256) × (length (now store) ≡ 2048) × Fit r × (c .fr ≤ 2048) ⌝ }
     ensures { λ x. ⌜ ((P : Program) (table f : List ℕ) → Entered table c → Taken table x (memory (now (globals .entry)) (now (stack .entry)) (now (store .entry)) f) (memory (now (globals .exit)) (now (stack .exit)) (now (store .exit)) f) (act P (plain i (next .0)) (stateOf r c (memory (now (globals .entry)) (now (stack .entry)) (now (store .entry)) f)))) ⌝ }
 {
@@ -226,7 +249,15 @@ fn act_branch(first: BytePlace, second: BytePlace, r: Regs, c: Control) -> Linea
     }
 }
 
-fn act_save(n: u8, saved: BytePlace, rest: BytePlace, stack: &mut [u64], frames: &mut [u64], r: Regs, c: Control) -> LinearStep
+fn act_save(
+    n: u8,
+    saved: BytePlace,
+    rest: BytePlace,
+    stack: &mut [u64],
+    frames: &mut [u64],
+    r: Regs,
+    c: Control,
+) -> LinearStep
     requires { ⌜ (length (now stack) ≡ 256) × (length (now frames) ≡ 2048) × Fit r × (c .fr ≤ 2048) × (saved .0 < 2 ^ 24) ⌝ }
     ensures { λ x. ⌜ ((P : Program) (table g t : List ℕ) → Entered table c → Taken table x (memory g (now (stack .entry)) t (now (frames .entry))) (memory g (now (stack .exit)) t (now (frames .exit))) (act P (saves n (saved .0) (rest .0)) (stateOf r c (memory g (now (stack .entry)) t (now (frames .entry)))))) ⌝ }
 {
@@ -237,7 +268,13 @@ fn act_save(n: u8, saved: BytePlace, rest: BytePlace, stack: &mut [u64], frames:
     }
 }
 
-fn act_return(table: &[u64], stack: &mut [u64], frames: &mut [u64], r: Regs, c: Control) -> LinearStep
+fn act_return(
+    table: &[u64],
+    stack: &mut [u64],
+    frames: &mut [u64],
+    r: Regs,
+    c: Control,
+) -> LinearStep
     requires { ⌜ (length (now stack) ≡ 256) × (length (now frames) ≡ 2048) × Fit r × (c .fr ≤ 2048) ⌝ }
     ensures { λ x. ⌜ ((P : Program) (g t : List ℕ) → Taken (now (table .entry)) x (memory g (now (stack .entry)) t (now (frames .entry))) (memory g (now (stack .exit)) t (now (frames .exit))) (act P returns (stateOf r c (memory g (now (stack .entry)) t (now (frames .entry)))))) ⌝ }
 {
@@ -251,7 +288,16 @@ fn act_return(table: &[u64], stack: &mut [u64], frames: &mut [u64], r: Regs, c: 
     }
 }
 
-fn take_step(file: &[u8], table: &[u64], globals: &mut [u64], stack: &mut [u64], store: &mut [u64], frames: &mut [u64], r: Regs, c: Control) -> LinearStep
+fn take_step(
+    file: &[u8],
+    table: &[u64],
+    globals: &mut [u64],
+    stack: &mut [u64],
+    store: &mut [u64],
+    frames: &mut [u64],
+    r: Regs,
+    c: Control,
+) -> LinearStep
     requires { ⌜ Ready (now file) (now table) (memory (now globals) (now stack) (now store) (now frames)) r c ⌝ }
     ensures { λ x. ⌜ Taken (now (table .entry)) x (memory (now (globals .entry)) (now (stack .entry)) (now (store .entry)) (now (frames .entry))) (memory (now (globals .exit)) (now (stack .exit)) (now (store .exit)) (now (frames .exit))) (step (bytesProgram (now (file .entry)) (now (table .entry))) (stateOf r c (memory (now (globals .entry)) (now (stack .entry)) (now (store .entry)) (now (frames .entry))))) ⌝ }
 {
@@ -268,7 +314,17 @@ fn take_step(file: &[u8], table: &[u64], globals: &mut [u64], stack: &mut [u64],
 }
 
 // At most `budget` steps, from the registers and the place that are given.
-fn run_from(file: &[u8], table: &[u64], globals: &mut [u64], stack: &mut [u64], store: &mut [u64], frames: &mut [u64], budget: u64, first: Regs, from: Control) -> Run
+fn run_from(
+    file: &[u8],
+    table: &[u64],
+    globals: &mut [u64],
+    stack: &mut [u64],
+    store: &mut [u64],
+    frames: &mut [u64],
+    budget: u64,
+    first: Regs,
+    from: Control,
+) -> Run
     requires { ⌜ Ready (now file) (now table) (memory (now globals) (now stack) (now store) (now frames)) first from × (budget ≤ 2000000) ⌝ }
     ensures { λ x. ⌜ ran x (memory (now (globals .exit)) (now (stack .exit)) (now (store .exit)) (now (frames .exit))) ≡ ranFrom (bytesProgram (now (file .entry)) (now (table .entry))) budget 0 (stateOf first from (memory (now (globals .entry)) (now (stack .entry)) (now (store .entry)) (now (frames .entry)))) ⌝ }
 {
@@ -312,7 +368,15 @@ fn run_from(file: &[u8], table: &[u64], globals: &mut [u64], stack: &mut [u64], 
 }
 
 // At most `budget` steps, from the start.
-fn run_first(file: &[u8], table: &[u64], budget: u64, globals: &mut [u64], stack: &mut [u64], store: &mut [u64], frames: &mut [u64]) -> Run
+fn run_first(
+    file: &[u8],
+    table: &[u64],
+    budget: u64,
+    globals: &mut [u64],
+    stack: &mut [u64],
+    store: &mut [u64],
+    frames: &mut [u64],
+) -> Run
     requires { ⌜ Startable 2000000 budget (memory (now globals) (now stack) (now store) (now frames)) × AllWithin (now file) (now table) ⌝ }
     ensures { λ x. ⌜ ran x (memory (now (globals .exit)) (now (stack .exit)) (now (store .exit)) (now (frames .exit))) ≡ ranFrom (bytesProgram (now (file .entry)) (now (table .entry))) budget 0 (firstState (now (table .entry)) (now (globals .entry))) ⌝ }
 {
@@ -324,23 +388,46 @@ fn run_first(file: &[u8], table: &[u64], budget: u64, globals: &mut [u64], stack
         st: 0,
     };
     let from = entered(table, 0, BytePlace(0), 0);
-    run_from(file, table, globals, stack, store, frames, budget, first, from)
+    run_from(
+        file,
+        table,
+        globals,
+        stack,
+        store,
+        frames,
+        budget,
+        first,
+        from,
+    )
 }
 
 // The run of a file where 20, 21 and 22 are not given. The table is zeros.
-fn run_file(file: &[u8], table: &mut [u64], budget: u64, globals: &mut [u64], stack: &mut [u64], store: &mut [u64], frames: &mut [u64]) -> Run
+fn run_file(
+    file: &[u8],
+    table: &mut [u64],
+    budget: u64,
+    globals: &mut [u64],
+    stack: &mut [u64],
+    store: &mut [u64],
+    frames: &mut [u64],
+) -> Run
     requires { ⌜ Startable 2000000 budget (memory (now globals) (now stack) (now store) (now frames)) × (now table ≡ zeros 16384) ⌝ }
     ensures { λ x. ⌜ ran x (memory (now (globals .exit)) (now (stack .exit)) (now (store .exit)) (now (frames .exit))) ≡ onLinear budget (memory (now (globals .entry)) (now (stack .entry)) (now (store .entry)) (now (frames .entry))) (linearRead (now (file .entry))) ⌝ }
 {
     match linear::read_linear(file, table) {
-        LinearFile::Read(_) => {
-            run_first(file, table, budget, globals, stack, store, frames)
-        }
+        LinearFile::Read(_) => { run_first(file, table, budget, globals, stack, store, frames) }
         LinearFile::Refused(number, place) => machines::refused(number, place.0),
     }
 }
 
-pub fn run_linear(file: &[u8], budget: u64, globals: &mut [u64], stack: &mut [u64], store: &mut [u64], frames: &mut [u64]) -> Run
+pub fn run_linear(
+    file: &[u8],
+    budget: u64,
+    globals: &mut [u64],
+    stack: &mut [u64],
+    store: &mut [u64],
+    frames: &mut [u64],
+) -> Run
     ensures { λ x. ⌜ ran x (memory (now (globals .exit)) (now (stack .exit)) (now (store .exit)) (now (frames .exit))) ≡ linearRun (now (file .entry)) budget (memory (now (globals .entry)) (now (stack .entry)) (now (store .entry)) (now (frames .entry))) ⌝ }
 {
     match machines::start_refusal(globals, stack, store, frames, budget, 2_000_000) {

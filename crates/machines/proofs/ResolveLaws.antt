@@ -27,8 +27,23 @@ pub no-code : (slot : ℕ → ℕ) (op a b : ℕ) → (op ≡ 6 → ⊥) → (op
     → Answers slot op a b Unfit
 unfolding slotResolve resolvedAs
 no-code slot op a b h₁ h₂ h₃ h₄ h₅ h₆ h₇ h₈ h₉ i₁ i₂ i₃ i₄ i₅ i₆ =
-    rw (ne-eqb op 6 h₁, ne-eqb op 7 h₂, ne-eqb op 8 h₃, ne-eqb op 9 h₄, ne-eqb op 10 h₅, ne-eqb op 11 h₆, ne-eqb op 12 h₇, ne-eqb op 13 h₈,
-    ne-eqb op 15 h₉, ne-eqb op 16 i₁, ne-eqb op 18 i₂, ne-eqb op 19 i₃, ne-eqb op 20 i₄, ne-eqb op 21 i₅, ne-eqb op 22 i₆)
+    rw (
+      ne-eqb op 6 h₁,
+      ne-eqb op 7 h₂,
+      ne-eqb op 8 h₃,
+      ne-eqb op 9 h₄,
+      ne-eqb op 10 h₅,
+      ne-eqb op 11 h₆,
+      ne-eqb op 12 h₇,
+      ne-eqb op 13 h₈,
+      ne-eqb op 15 h₉,
+      ne-eqb op 16 i₁,
+      ne-eqb op 18 i₂,
+      ne-eqb op 19 i₃,
+      ne-eqb op 20 i₄,
+      ne-eqb op 21 i₅,
+      ne-eqb op 22 i₆,
+    )
 
 -- a slot x that was looked at for a tag, with the answer m
 module _ (f : ℕ → Plain) (tag x : ℕ) (m : Marked) (e : m ≡ markedAs tag x) where

@@ -47,7 +47,14 @@ fn globals_refusal(globals: &[u64]) -> Start
 }
 
 // 20, 21 and 22, where a budget may be `most`.
-pub fn start_refusal(globals: &[u64], stack: &[u64], store: &[u64], frames: &[u64], budget: u64, most: u64) -> Start
+pub fn start_refusal(
+    globals: &[u64],
+    stack: &[u64],
+    store: &[u64],
+    frames: &[u64],
+    budget: u64,
+    most: u64,
+) -> Start
     ensures { λ r. ⌜ r ≡ startRefusal most budget (memory (now (globals .entry)) (now (stack .entry)) (now (store .entry)) (now (frames .entry))) ⌝ }
 {
     if globals.len() != 256 {

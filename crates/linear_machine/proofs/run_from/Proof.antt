@@ -15,7 +15,7 @@ use Rattle.cells.proofs.value_of.Reads as value-of-reads
 use Rattle.linear_machine.proofs.take_step.Reads as take-step-reads
 
 abbrev Inv-loop : tie.InvT-loop
-Inv-loop file table globals₀ stack₀ store₀ frames₀ budget r₀ c₀ left₀ globals stack store frames r c left = 
+Inv-loop file table globals₀ stack₀ store₀ frames₀ budget r₀ c₀ left₀ globals stack store frames r c left =
     Ready file table (memory globals stack store frames) r c × (left ≤ budget)
     × (ranFrom (bytesProgram file table) left (budget - left) (stateOf r c (memory globals stack store frames))
     ≡ ranFrom (bytesProgram file table) budget 0 (stateOf r₀ c₀ (memory globals₀ stack₀ store₀ frames₀)))

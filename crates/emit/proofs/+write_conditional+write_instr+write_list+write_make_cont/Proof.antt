@@ -1,0 +1,394 @@
+use lib.ListN.{length-set}
+use Rattle.fields.specs.Laws.{field-small}
+use Rattle.files.specs.Codes.{shapeOf}
+use Rattle.emit.specs.Known.{head-within}
+use Rattle.emit.specs.Steps.{deeper-arms, item-arms, arms-item, deeper-saved, item-saved, saved-item, plain, plain-room, plain-item}
+use Rattle.emit.specs.Steps.{saved-size, saved-cut, saved-rest, saved-to-write, saved-done}
+use Rattle.emit.specs.Steps.{left-all, left-within, left-none, left-item, left-less, next-is, back-less, left-next}
+use Prim.Native.Nat.{_+_, _*_, _-_, _≤_}
+use native.Mathlib.Omega.{arith}
+use mathlib.Core.Path.{_≡_, refl, sym, ap, _∙_}
+use lib.ListN.{length}
+use Rattle.emit.specs.Steps.{arms-room, arms-near, jump-near, first-to-write, second-to-write, arms-done}
+use Rattle.emit.specs.Steps.{Left}
+use borrow.Author.Needs.{needs}
+use Prim.Native.Nat.{ℕ, _<_}
+use borrow.Fn.Kinds.{In}
+use borrow.Fn.PlainCycle.{Measures, is, falls, and}
+use Rattle.emit.proofs.write_conditional.Reads as write-conditional
+use Rattle.emit.proofs.write_conditional.Kinds as write-conditional-kinds
+use Rattle.emit.proofs.+write_conditional+write_instr+write_list+write_make_cont.Lts-write_conditional as write-conditional-lts
+use Rattle.emit.proofs.write_instr.Reads as write-instr
+use Rattle.emit.proofs.write_instr.Kinds as write-instr-kinds
+use Rattle.emit.proofs.+write_conditional+write_instr+write_list+write_make_cont.Lts-write_instr as write-instr-lts
+use Rattle.emit.proofs.write_list.Reads as write-list
+use Rattle.emit.proofs.write_list.Kinds as write-list-kinds
+use Rattle.emit.proofs.+write_conditional+write_instr+write_list+write_make_cont.Lts-write_list as write-list-lts
+use Rattle.emit.proofs.write_make_cont.Reads as write-make-cont
+use Rattle.emit.proofs.write_make_cont.Kinds as write-make-cont-kinds
+use Rattle.emit.proofs.+write_conditional+write_instr+write_list+write_make_cont.Lts-write_make_cont as write-make-cont-lts
+use Rattle.emit.proofs.gap.Reads as gap-reads
+use Rattle.emit.proofs.measure.Reads as measure-reads
+use Rattle.emit.proofs.put_jump.Reads as put-jump-reads
+use Rattle.emit.proofs.put_offset.Reads as put-offset-reads
+use Rattle.emit.proofs.write_simple.Reads as write-simple-reads
+use Rattle.fields.proofs.bits_at.Reads as bits-at-reads
+use Rattle.lists.proofs.shape_of.Reads as shape-of-reads
+use Rattle.emit.proofs.+write_conditional+write_instr+write_list+write_make_cont.{
+  statement,
+}
+use Rattle.emit.proofs.+write_conditional+write_instr+write_list+write_make_cont.Tie.{
+  close,
+}
+
+abbrev μ-write-conditional : Measures 3 write-conditional-kinds.ps ℕ
+μ-write-conditional κs a = 3 * a .1 .1 .1 .1 .0 + 3
+
+abbrev μ-write-instr : Measures 3 write-instr-kinds.ps ℕ
+μ-write-instr κs a = 3 * a .1 .1 .1 .1 .0 + 1
+
+abbrev μ-write-list : Measures 3 write-list-kinds.ps ℕ
+μ-write-list κs a = 3 * a .1 .1 .1 .1 .0 + 2
+
+abbrev μ-write-make-cont : Measures 3 write-make-cont-kinds.ps ℕ
+μ-write-make-cont κs a = 3 * a .1 .1 .1 .1 .0 + 3
+
+abbrev write-conditional-at : ℕ → In 3 write-conditional-kinds.ps
+write-conditional-at t =
+    and
+    3
+    write-conditional-kinds.ps
+    (is 3 write-conditional-kinds.ps μ-write-conditional t)
+    write-conditional.Pre
+
+abbrev write-conditional-below : ℕ → In 3 write-conditional-kinds.ps
+write-conditional-below t =
+    and
+    3
+    write-conditional-kinds.ps
+    (falls 3 write-conditional-kinds.ps _<_ μ-write-conditional t)
+    write-conditional.Pre
+
+abbrev write-instr-at : ℕ → In 3 write-instr-kinds.ps
+write-instr-at t =
+    and 3 write-instr-kinds.ps (is 3 write-instr-kinds.ps μ-write-instr t) write-instr.Pre
+
+abbrev write-instr-below : ℕ → In 3 write-instr-kinds.ps
+write-instr-below t =
+    and 3 write-instr-kinds.ps (falls 3 write-instr-kinds.ps _<_ μ-write-instr t) write-instr.Pre
+
+abbrev write-list-at : ℕ → In 3 write-list-kinds.ps
+write-list-at t =
+    and 3 write-list-kinds.ps (is 3 write-list-kinds.ps μ-write-list t) write-list.Pre
+
+abbrev write-list-below : ℕ → In 3 write-list-kinds.ps
+write-list-below t =
+    and 3 write-list-kinds.ps (falls 3 write-list-kinds.ps _<_ μ-write-list t) write-list.Pre
+
+abbrev write-make-cont-at : ℕ → In 3 write-make-cont-kinds.ps
+write-make-cont-at t =
+    and
+    3
+    write-make-cont-kinds.ps
+    (is 3 write-make-cont-kinds.ps μ-write-make-cont t)
+    write-make-cont.Pre
+
+abbrev write-make-cont-below : ℕ → In 3 write-make-cont-kinds.ps
+write-make-cont-below t =
+    and
+    3
+    write-make-cont-kinds.ps
+    (falls 3 write-make-cont-kinds.ps _<_ μ-write-make-cont t)
+    write-make-cont.Pre
+
+abbrev write-conditional-calls : ℕ → write-conditional-lts.Claims
+write-conditional-calls t = (measure-reads.Asked, measure-reads.Learnt, gap-reads.Asked, gap-reads.Learnt, put-offset-reads.Asked, put-offset-reads.Learnt, write-list-below t, write-list.Post, put-jump-reads.Asked, put-jump-reads.Learnt)
+
+abbrev write-instr-calls : ℕ → write-instr-lts.Claims
+write-instr-calls t = (bits-at-reads.Asked, bits-at-reads.Learnt, shape-of-reads.Asked, shape-of-reads.Learnt, write-conditional-below t, write-conditional.Post, write-make-cont-below t, write-make-cont.Post, write-simple-reads.Asked, write-simple-reads.Learnt)
+
+abbrev write-list-calls : ℕ → write-list-lts.Claims
+write-list-calls t = (bits-at-reads.Asked, bits-at-reads.Learnt, shape-of-reads.Asked, shape-of-reads.Learnt, write-instr-below t, write-instr.Post)
+
+abbrev write-make-cont-calls : ℕ → write-make-cont-lts.Claims
+write-make-cont-calls t = (measure-reads.Asked, measure-reads.Learnt, put-offset-reads.Asked, put-offset-reads.Learnt, write-list-below t, write-list.Post)
+
+write-conditional-measure-requires : (t : ℕ) → write-conditional-lts.Need-measure-requires (write-conditional-calls t) (write-conditional-at t) write-conditional.Post
+write-conditional-measure-requires t c κs = (c .before .before .before .pre .1 .0, c .before .before .before .pre .1 .1, c .before .before .before .pre .1 .2)
+
+write-conditional-measure-requires-2 : (t : ℕ) → write-conditional-lts.Need-measure-requires-2 (write-conditional-calls t) (write-conditional-at t) write-conditional.Post
+write-conditional-measure-requires-2 t c κs = (c .before .before .before .before .before .pre .1 .0, c .before .before .before .before .before .pre .1 .1, c .before .before .before .before .before .pre .1 .2)
+
+write-conditional-gap-requires : (t : ℕ) → write-conditional-lts.Need-gap-requires (write-conditional-calls t) (write-conditional-at t) write-conditional.Post
+write-conditional-gap-requires t c κs = search needs
+
+write-conditional-add-turn : (t : ℕ) → write-conditional-lts.Need-add-turn (write-conditional-calls t) (write-conditional-at t) write-conditional.Post
+write-conditional-add-turn t c = omega (arith, arms-room (c .before .before .before .before .before .before .before .pre .1 .4) _ _ _ (c .before .before .before .measure .ensures) (c .before .measure2 .ensures) (c .gap .ensures), c .before .before .before .before .before .before .before .pre .1 .4 .room, c .before .before .before .before .before .before .before .pre .1 .3)
+
+write-conditional-add-turn-2 : (t : ℕ) → write-conditional-lts.Need-add-turn-2 (write-conditional-calls t) (write-conditional-at t) write-conditional.Post
+write-conditional-add-turn-2 t c = omega (arith, arms-room (c .before .before .before .before .before .before .before .before .pre .1 .4) _ _ _ (c .before .before .before .before .measure .ensures) (c .before .before .measure2 .ensures) (c .before .gap .ensures), c .before .before .before .before .before .before .before .before .pre .1 .4 .room, c .before .before .before .before .before .before .before .before .pre .1 .3)
+
+write-conditional-add-end : (t : ℕ) → write-conditional-lts.Need-add-end (write-conditional-calls t) (write-conditional-at t) write-conditional.Post
+write-conditional-add-end t c = omega (arith, arms-room (c .before .before .before .before .before .before .before .before .pre .1 .4) _ _ _ (c .before .before .before .before .measure .ensures) (c .before .before .measure2 .ensures) (c .before .gap .ensures), c .before .before .before .before .before .before .before .before .pre .1 .4 .room, c .before .before .before .before .before .before .before .before .pre .1 .3)
+
+write-conditional-add-end-2 : (t : ℕ) → write-conditional-lts.Need-add-end-2 (write-conditional-calls t) (write-conditional-at t) write-conditional.Post
+write-conditional-add-end-2 t c = omega (arith, arms-room (c .before .before .before .before .before .before .before .before .before .pre .1 .4) _ _ _ (c .before .before .before .before .before .measure .ensures) (c .before .before .before .measure2 .ensures) (c .before .before .gap .ensures), c .before .before .before .before .before .before .before .before .before .pre .1 .4 .room, c .before .before .before .before .before .before .before .before .before .pre .1 .3)
+
+write-conditional-add-put-offset : (t : ℕ) → write-conditional-lts.Need-add-put-offset (write-conditional-calls t) (write-conditional-at t) write-conditional.Post
+write-conditional-add-put-offset t c = omega (arith, arms-near (c .before .before .before .before .before .before .before .before .before .before .before .pre .1 .4) _ _ _ (c .before .before .before .before .before .before .before .measure .ensures) (c .before .before .before .before .before .measure2 .ensures) (c .before .before .before .before .gap .ensures))
+
+write-conditional-put-offset-requires : (t : ℕ) → write-conditional-lts.Need-put-offset-requires (write-conditional-calls t) (write-conditional-at t) write-conditional.Post
+write-conditional-put-offset-requires t c κs = (omega (arith, arms-room (c .before .before .before .before .before .before .before .before .before .before .before .pre .1 .4) _ _ _ (c .before .before .before .before .before .before .before .measure .ensures) (c .before .before .before .before .before .measure2 .ensures) (c .before .before .before .before .gap .ensures), c .before .before .before .before .before .before .before .before .before .before .before .pre .1 .4 .room, c .before .before .before .before .before .before .before .before .before .before .before .pre .1 .3), arms-near (c .before .before .before .before .before .before .before .before .before .before .before .pre .1 .4) _ _ _ (c .before .before .before .before .before .before .before .measure .ensures) (c .before .before .before .before .before .measure2 .ensures) (c .before .before .before .before .gap .ensures))
+
+write-conditional-add-write-list : (t : ℕ) → write-conditional-lts.Need-add-write-list (write-conditional-calls t) (write-conditional-at t) write-conditional.Post
+write-conditional-add-write-list t c = omega (arith, arms-room (c .before .before .before .before .before .before .before .before .before .before .before .before .before .before .before .pre .1 .4) _ _ _ (c .before .before .before .before .before .before .before .before .before .before .before .measure .ensures) (c .before .before .before .before .before .before .before .before .before .measure2 .ensures) (c .before .before .before .before .before .before .before .before .gap .ensures), c .before .before .before .before .before .before .before .before .before .before .before .before .before .before .before .pre .1 .4 .room, c .before .before .before .before .before .before .before .before .before .before .before .before .before .before .before .pre .1 .3)
+
+write-conditional-write-list-requires : (t : ℕ) → write-conditional-lts.Need-write-list-requires (write-conditional-calls t) (write-conditional-at t) write-conditional.Post
+write-conditional-write-list-requires t c κs = (omega (arith, c .before .before .before .before .before .before .before .before .before .before .before .before .before .before .before .pre .0), (c .before .before .before .before .before .before .before .before .before .before .before .before .before .before .before .pre .1 .0, c .before .before .before .before .before .before .before .before .before .before .before .before .before .before .before .pre .1 .1, c .before .before .before .before .before .before .before .before .before .before .before .before .before .before .before .pre .1 .2, omega (arith, arms-room (c .before .before .before .before .before .before .before .before .before .before .before .before .before .before .before .pre .1 .4) _ _ _ (c .before .before .before .before .before .before .before .before .before .before .before .measure .ensures) (c .before .before .before .before .before .before .before .before .before .measure2 .ensures) (c .before .before .before .before .before .before .before .before .gap .ensures), c .before .before .before .before .before .before .before .before .before .before .before .before .before .before .before .pre .1 .4 .room, c .before .before .before .before .before .before .before .before .before .before .before .before .before .before .before .pre .1 .3, c .before .before .before .put-offset .kept .0), first-to-write (c .before .before .before .before .before .before .before .before .before .before .before .before .before .before .before .pre .1 .4) _ _ _ (c .before .before .before .before .before .before .before .before .before .before .before .measure .ensures) (c .before .before .before .before .before .before .before .before .before .measure2 .ensures) (c .before .before .before .before .before .before .before .before .gap .ensures)))
+
+write-conditional-put-jump-requires : (t : ℕ) → write-conditional-lts.Need-put-jump-requires (write-conditional-calls t) (write-conditional-at t) write-conditional.Post
+write-conditional-put-jump-requires t c κs = (omega (arith, arms-room (c .before .before .before .before .before .before .before .before .before .before .before .before .before .before .before .before .before .before .before .pre .1 .4) _ _ _ (c .before .before .before .before .before .before .before .before .before .before .before .before .before .before .before .measure .ensures) (c .before .before .before .before .before .before .before .before .before .before .before .before .before .measure2 .ensures) (c .before .before .before .before .before .before .before .before .before .before .before .before .gap .ensures), c .before .before .before .before .before .before .before .before .before .before .before .before .before .before .before .before .before .before .before .pre .1 .4 .room, c .before .before .before .before .before .before .before .before .before .before .before .before .before .before .before .before .before .before .before .pre .1 .3, c .before .before .before .before .before .before .before .before .before .before .before .before .gap .ensures, c .before .before .before .before .before .before .before .put-offset .kept .0, c .before .before .before .write-list .kept .1 .1 .1 .1 .1 .0), jump-near (c .before .before .before .before .before .before .before .before .before .before .before .before .before .before .before .before .before .before .before .pre .1 .4) _ _ _ (c .before .before .before .before .before .before .before .before .before .before .before .before .before .before .before .measure .ensures) (c .before .before .before .before .before .before .before .before .before .before .before .before .before .measure2 .ensures) (c .before .before .before .before .before .before .before .before .before .before .before .before .gap .ensures))
+
+write-conditional-add-write-list-2 : (t : ℕ) → write-conditional-lts.Need-add-write-list-2 (write-conditional-calls t) (write-conditional-at t) write-conditional.Post
+write-conditional-add-write-list-2 t c = omega (arith, arms-room (c .before .before .before .before .before .before .before .before .before .before .before .before .before .before .before .before .before .before .before .before .before .before .before .pre .1 .4) _ _ _ (c .before .before .before .before .before .before .before .before .before .before .before .before .before .before .before .before .before .before .before .measure .ensures) (c .before .before .before .before .before .before .before .before .before .before .before .before .before .before .before .before .before .measure2 .ensures) (c .before .before .before .before .before .before .before .before .before .before .before .before .before .before .before .before .gap .ensures), c .before .before .before .before .before .before .before .before .before .before .before .before .before .before .before .before .before .before .before .before .before .before .before .pre .1 .4 .room, c .before .before .before .before .before .before .before .before .before .before .before .before .before .before .before .before .before .before .before .before .before .before .before .pre .1 .3, c .before .before .before .before .before .before .before .before .before .before .before .before .before .before .before .before .before .before .before .before .before .before .before .good)
+
+write-conditional-write-list-requires-2 :
+    (t : ℕ) → write-conditional-lts.Need-write-list-requires-2 (
+      measure-reads.Asked,
+      measure-reads.Learnt,
+      gap-reads.Asked,
+      gap-reads.Learnt,
+      put-offset-reads.Asked,
+      put-offset-reads.Learnt,
+      write-list-below t,
+      write-list.Post,
+      put-jump-reads.Asked,
+      put-jump-reads.Learnt,
+    ) (write-conditional-at t) write-conditional.Post
+write-conditional-write-list-requires-2 t c κs = (omega (arith, c .before .before .before .before .before .before .before .before .before .before .before .before .before .before .before .before .before .before .before .before .before .before .before .pre .0), (c .before .before .before .before .before .before .before .before .before .before .before .before .before .before .before .before .before .before .before .before .before .before .before .pre .1 .0, c .before .before .before .before .before .before .before .before .before .before .before .before .before .before .before .before .before .before .before .before .before .before .before .pre .1 .1, c .before .before .before .before .before .before .before .before .before .before .before .before .before .before .before .before .before .before .before .before .before .before .before .pre .1 .2, omega (arith, arms-room (c .before .before .before .before .before .before .before .before .before .before .before .before .before .before .before .before .before .before .before .before .before .before .before .pre .1 .4) _ _ _ (c .before .before .before .before .before .before .before .before .before .before .before .before .before .before .before .before .before .before .before .measure .ensures) (c .before .before .before .before .before .before .before .before .before .before .before .before .before .before .before .before .before .measure2 .ensures) (c .before .before .before .before .before .before .before .before .before .before .before .before .before .before .before .before .gap .ensures), c .before .before .before .before .before .before .before .before .before .before .before .before .before .before .before .before .before .before .before .before .before .before .before .pre .1 .4 .room, c .before .before .before .before .before .before .before .before .before .before .before .before .before .before .before .before .before .before .before .before .before .before .before .pre .1 .3, c .before .before .before .before .before .before .before .before .before .before .before .put-offset .kept .0, c .before .before .before .before .before .before .before .write-list .kept .1 .1 .1 .1 .1 .0, c .before .before .before .put-jump .kept .0), second-to-write (c .before .before .before .before .before .before .before .before .before .before .before .before .before .before .before .before .before .before .before .before .before .before .before .pre .1 .4) _ _ _ (c .before .before .before .before .before .before .before .before .before .before .before .before .before .before .before .before .before .before .before .measure .ensures) (c .before .before .before .before .before .before .before .before .before .before .before .before .before .before .before .before .before .measure2 .ensures) (c .before .before .before .before .before .before .before .before .before .before .before .before .before .before .before .before .gap .ensures)))
+
+write-conditional-same-length : (t : ℕ) → write-conditional-lts.Need-same-length (write-conditional-calls t) (write-conditional-at t) write-conditional.Post
+write-conditional-same-length t c = c .before .before .write-list2 .kept .1 .1 .1 .1 .1 .0 ∙ c .before .before .before .before .before .before .put-jump .kept .0 ∙ c .before .before .before .before .before .before .before .before .before .before .write-list .kept .1 .1 .1 .1 .1 .0 ∙ c .before .before .before .before .before .before .before .before .before .before .before .before .before .before .put-offset .kept .0
+
+write-conditional-returns : (t : ℕ) → write-conditional-lts.Need-returns (write-conditional-calls t) (write-conditional-at t) write-conditional.Post
+write-conditional-returns t c = λ w. arms-done (w) _ _ _ (c .before .before .before .before .before .before .before .before .before .before .before .before .before .before .before .before .before .before .before .before .before .before .measure .ensures) (c .before .before .before .before .before .before .before .before .before .before .before .before .before .before .before .before .before .before .before .before .measure2 .ensures) (c .before .before .before .before .before .before .before .before .before .before .before .before .before .before .before .before .before .before .before .gap .ensures) _ (c .before .before .before .before .before .before .before .before .before .before .before .before .before .before .put-offset .ensures) (c .before .before .before .before .before .before .before .before .before .before .write-list .ensures (first-to-write (w) _ _ _ (c .before .before .before .before .before .before .before .before .before .before .before .before .before .before .before .before .before .before .before .before .before .before .measure .ensures) (c .before .before .before .before .before .before .before .before .before .before .before .before .before .before .before .before .before .before .before .before .measure2 .ensures) (c .before .before .before .before .before .before .before .before .before .before .before .before .before .before .before .before .before .before .before .gap .ensures)) .1) (c .before .before .before .before .before .before .put-jump .ensures) (c .before .before .write-list2 .ensures (second-to-write (w) _ _ _ (c .before .before .before .before .before .before .before .before .before .before .before .before .before .before .before .before .before .before .before .before .before .before .measure .ensures) (c .before .before .before .before .before .before .before .before .before .before .before .before .before .before .before .before .before .before .before .before .measure2 .ensures) (c .before .before .before .before .before .before .before .before .before .before .before .before .before .before .before .before .before .before .before .gap .ensures)))
+
+write-instr-bits-at-requires : (t : ℕ) → write-instr-lts.Need-bits-at-requires (write-instr-calls t) (write-instr-at t) write-instr.Post
+write-instr-bits-at-requires t c κs = (omega (arith, c .before .before .before .pre .1 .0), (search needs, head-within _ _ _ (c .before .before .before .pre .1 .4 .read)))
+
+write-instr-shape-of-requires : (t : ℕ) → write-instr-lts.Need-shape-of-requires (write-instr-calls t) (write-instr-at t) write-instr.Post
+write-instr-shape-of-requires t c κs = rw (c .bits-at .ensures .0) (field-small _ _ 5)
+
+write-instr-add-t15 : (t : ℕ) → write-instr-lts.Need-add-t15 (write-instr-calls t) (write-instr-at t) write-instr.Post
+write-instr-add-t15 t c = omega (arith, c .before .before .before .before .before .before .pre .1 .0, head-within _ _ _ (c .before .before .before .before .before .before .pre .1 .4 .read))
+
+write-instr-sub-write-conditional : (t : ℕ) → write-instr-lts.Need-sub-write-conditional (write-instr-calls t) (write-instr-at t) write-instr.Post
+write-instr-sub-write-conditional t c = let k = deeper-arms (c .before .before .before .before .before .before .pre .1 .4) (ap shapeOf (sym (c .before .before .bits-at .ensures .0)) ∙ sym (c .before .shape-of .ensures) ∙ c .match .keys1) in omega arith
+
+write-instr-write-conditional-requires : (t : ℕ) → write-instr-lts.Need-write-conditional-requires (write-instr-calls t) (write-instr-at t) write-instr.Post
+write-instr-write-conditional-requires t c κs = let k = deeper-arms (c .before .before .before .before .before .before .before .pre .1 .4) (ap shapeOf (sym (c .before .before .before .bits-at .ensures .0)) ∙ sym (c .before .before .shape-of .ensures) ∙ c .before .match .keys1) in (omega (arith, c .before .before .before .before .before .before .before .pre .0), (c .before .before .before .before .before .before .before .pre .1 .0, c .before .before .before .before .before .before .before .pre .1 .1, c .before .before .before .before .before .before .before .pre .1 .2, c .before .before .before .before .before .before .before .pre .1 .3, item-arms (c .before .before .before .before .before .before .before .pre .1 .4) (ap shapeOf (sym (c .before .before .before .bits-at .ensures .0)) ∙ sym (c .before .before .shape-of .ensures) ∙ c .before .match .keys1)))
+
+write-instr-add-bits-at : (t : ℕ) → write-instr-lts.Need-add-bits-at (write-instr-calls t) (write-instr-at t) write-instr.Post
+write-instr-add-bits-at t c = omega (arith, c .before .before .before .before .before .before .pre .1 .0, head-within _ _ _ (c .before .before .before .before .before .before .pre .1 .4 .read))
+
+write-instr-bits-at-requires-2 : (t : ℕ) → write-instr-lts.Need-bits-at-requires-2 (write-instr-calls t) (write-instr-at t) write-instr.Post
+write-instr-bits-at-requires-2 t c κs = let k = deeper-saved (c .before .before .before .before .before .before .pre .1 .4) (ap shapeOf (sym (c .before .before .bits-at .ensures .0)) ∙ sym (c .before .shape-of .ensures) ∙ c .match .keys2) in (omega (arith, c .before .before .before .before .before .before .pre .1 .0), (search needs, omega arith))
+
+write-instr-add-t20 : (t : ℕ) → write-instr-lts.Need-add-t20 (write-instr-calls t) (write-instr-at t) write-instr.Post
+write-instr-add-t20 t c = let k = deeper-saved (c .before .before .before .before .before .before .before .pre .1 .4) (ap shapeOf (sym (c .before .before .before .bits-at .ensures .0)) ∙ sym (c .before .before .shape-of .ensures) ∙ c .before .match .keys2) in omega (arith, c .before .before .before .before .before .before .before .pre .1 .0)
+
+write-instr-sub-write-make-cont : (t : ℕ) → write-instr-lts.Need-sub-write-make-cont (write-instr-calls t) (write-instr-at t) write-instr.Post
+write-instr-sub-write-make-cont t c = let k = deeper-saved (c .before .before .before .before .before .before .before .pre .1 .4) (ap shapeOf (sym (c .before .before .before .bits-at .ensures .0)) ∙ sym (c .before .before .shape-of .ensures) ∙ c .before .match .keys2) .0 in omega arith
+
+write-instr-write-make-cont-requires : (t : ℕ) → write-instr-lts.Need-write-make-cont-requires (write-instr-calls t) (write-instr-at t) write-instr.Post
+write-instr-write-make-cont-requires t c κs = let k = deeper-saved (c .before .before .before .before .before .before .before .before .pre .1 .4) (ap shapeOf (sym (c .before .before .before .before .bits-at .ensures .0)) ∙ sym (c .before .before .before .shape-of .ensures) ∙ c .before .before .match .keys2) .0 in (omega (arith, c .before .before .before .before .before .before .before .before .pre .0), (c .before .before .before .before .before .before .before .before .pre .1 .0, c .before .before .before .before .before .before .before .before .pre .1 .1, c .before .before .before .before .before .before .before .before .pre .1 .2, c .before .bits-at2 .ensures .1, c .before .before .before .before .before .before .before .before .pre .1 .3, item-saved (c .before .before .before .before .before .before .before .before .pre .1 .4) (ap shapeOf (sym (c .before .before .before .before .bits-at .ensures .0)) ∙ sym (c .before .before .before .shape-of .ensures) ∙ c .before .before .match .keys2)))
+
+write-instr-sub-n : (t : ℕ) → write-instr-lts.Need-sub-n (write-instr-calls t) (write-instr-at t) write-instr.Post
+write-instr-sub-n t c = let k = plain (c .before .before .before .before .before .before .pre .1 .4) (λ e. c .match .rest .0 .1 (c .before .shape-of .ensures ∙ ap shapeOf (c .before .before .bits-at .ensures .0) ∙ e)) (λ e. c .match .rest .1 (c .before .shape-of .ensures ∙ ap shapeOf (c .before .before .bits-at .ensures .0) ∙ e)) in let e = c .before .shape-of .ensures ∙ ap shapeOf (c .before .before .bits-at .ensures .0) in omega arith
+
+write-instr-cast-n : (t : ℕ) → write-instr-lts.Need-cast-n (write-instr-calls t) (write-instr-at t) write-instr.Post
+write-instr-cast-n t c = search needs
+
+write-instr-write-simple-requires : (t : ℕ) → write-instr-lts.Need-write-simple-requires (write-instr-calls t) (write-instr-at t) write-instr.Post
+write-instr-write-simple-requires t c κs = let k = plain (c .before .before .before .before .before .before .before .pre .1 .4) (λ e. c .before .match .rest .0 .1 (c .before .before .shape-of .ensures ∙ ap shapeOf (c .before .before .before .bits-at .ensures .0) ∙ e)) (λ e. c .before .match .rest .1 (c .before .before .shape-of .ensures ∙ ap shapeOf (c .before .before .before .bits-at .ensures .0) ∙ e)) in let e = c .before .before .shape-of .ensures ∙ ap shapeOf (c .before .before .before .bits-at .ensures .0) in let r = plain-room (c .before .before .before .before .before .before .before .pre .1 .4) (λ e. c .before .match .rest .0 .1 (c .before .before .shape-of .ensures ∙ ap shapeOf (c .before .before .before .bits-at .ensures .0) ∙ e)) (λ e. c .before .match .rest .1 (c .before .before .shape-of .ensures ∙ ap shapeOf (c .before .before .before .bits-at .ensures .0) ∙ e)) in (c .before .before .before .before .before .before .before .pre .1 .0, omega (arith), omega (arith, c .before .before .before .before .before .before .before .pre .1 .3))
+
+write-instr-add-t29 : (t : ℕ) → write-instr-lts.Need-add-t29 (write-instr-calls t) (write-instr-at t) write-instr.Post
+write-instr-add-t29 t c = let k = plain (c .before .before .before .before .before .before .before .before .before .before .pre .1 .4) (λ e. c .before .before .before .before .match .rest .0 .1 (c .before .before .before .before .before .shape-of .ensures ∙ ap shapeOf (c .before .before .before .before .before .before .bits-at .ensures .0) ∙ e)) (λ e. c .before .before .before .before .match .rest .1 (c .before .before .before .before .before .shape-of .ensures ∙ ap shapeOf (c .before .before .before .before .before .before .bits-at .ensures .0) ∙ e)) in let e = c .before .before .before .before .before .shape-of .ensures ∙ ap shapeOf (c .before .before .before .before .before .before .bits-at .ensures .0) in let r = plain-room (c .before .before .before .before .before .before .before .before .before .before .pre .1 .4) (λ e. c .before .before .before .before .match .rest .0 .1 (c .before .before .before .before .before .shape-of .ensures ∙ ap shapeOf (c .before .before .before .before .before .before .bits-at .ensures .0) ∙ e)) (λ e. c .before .before .before .before .match .rest .1 (c .before .before .before .before .before .shape-of .ensures ∙ ap shapeOf (c .before .before .before .before .before .before .bits-at .ensures .0) ∙ e)) in omega (arith, c .before .before .before .before .before .before .before .before .before .before .pre .1, c .before .before .before .before .before .before .before .before .before .before .good)
+
+write-instr-mul-t30 : (t : ℕ) → write-instr-lts.Need-mul-t30 (write-instr-calls t) (write-instr-at t) write-instr.Post
+write-instr-mul-t30 t c = let k = plain (c .before .before .before .before .before .before .before .before .before .before .pre .1 .4) (λ e. c .before .before .before .before .match .rest .0 .1 (c .before .before .before .before .before .shape-of .ensures ∙ ap shapeOf (c .before .before .before .before .before .before .bits-at .ensures .0) ∙ e)) (λ e. c .before .before .before .before .match .rest .1 (c .before .before .before .before .before .shape-of .ensures ∙ ap shapeOf (c .before .before .before .before .before .before .bits-at .ensures .0) ∙ e)) in let e = c .before .before .before .before .before .shape-of .ensures ∙ ap shapeOf (c .before .before .before .before .before .before .bits-at .ensures .0) in let r = plain-room (c .before .before .before .before .before .before .before .before .before .before .pre .1 .4) (λ e. c .before .before .before .before .match .rest .0 .1 (c .before .before .before .before .before .shape-of .ensures ∙ ap shapeOf (c .before .before .before .before .before .before .bits-at .ensures .0) ∙ e)) (λ e. c .before .before .before .before .match .rest .1 (c .before .before .before .before .before .shape-of .ensures ∙ ap shapeOf (c .before .before .before .before .before .before .bits-at .ensures .0) ∙ e)) in omega (arith, c .before .before .before .before .before .before .before .before .before .before .pre .1, c .before .before .before .before .before .before .before .before .before .before .good)
+
+write-instr-add-t31 : (t : ℕ) → write-instr-lts.Need-add-t31 (write-instr-calls t) (write-instr-at t) write-instr.Post
+write-instr-add-t31 t c = let k = plain (c .before .before .before .before .before .before .before .before .before .before .pre .1 .4) (λ e. c .before .before .before .before .match .rest .0 .1 (c .before .before .before .before .before .shape-of .ensures ∙ ap shapeOf (c .before .before .before .before .before .before .bits-at .ensures .0) ∙ e)) (λ e. c .before .before .before .before .match .rest .1 (c .before .before .before .before .before .shape-of .ensures ∙ ap shapeOf (c .before .before .before .before .before .before .bits-at .ensures .0) ∙ e)) in let e = c .before .before .before .before .before .shape-of .ensures ∙ ap shapeOf (c .before .before .before .before .before .before .bits-at .ensures .0) in let r = plain-room (c .before .before .before .before .before .before .before .before .before .before .pre .1 .4) (λ e. c .before .before .before .before .match .rest .0 .1 (c .before .before .before .before .before .shape-of .ensures ∙ ap shapeOf (c .before .before .before .before .before .before .bits-at .ensures .0) ∙ e)) (λ e. c .before .before .before .before .match .rest .1 (c .before .before .before .before .before .shape-of .ensures ∙ ap shapeOf (c .before .before .before .before .before .before .bits-at .ensures .0) ∙ e)) in omega (arith, c .before .before .before .before .before .before .before .before .before .before .pre .1, c .before .before .before .before .before .before .before .before .before .before .good)
+
+write-instr-add-t33 : (t : ℕ) → write-instr-lts.Need-add-t33 (write-instr-calls t) (write-instr-at t) write-instr.Post
+write-instr-add-t33 t c = let k = plain (c .before .before .before .before .before .before .before .before .before .before .pre .1 .4) (λ e. c .before .before .before .before .match .rest .0 .1 (c .before .before .before .before .before .shape-of .ensures ∙ ap shapeOf (c .before .before .before .before .before .before .bits-at .ensures .0) ∙ e)) (λ e. c .before .before .before .before .match .rest .1 (c .before .before .before .before .before .shape-of .ensures ∙ ap shapeOf (c .before .before .before .before .before .before .bits-at .ensures .0) ∙ e)) in let e = c .before .before .before .before .before .shape-of .ensures ∙ ap shapeOf (c .before .before .before .before .before .before .bits-at .ensures .0) in let r = plain-room (c .before .before .before .before .before .before .before .before .before .before .pre .1 .4) (λ e. c .before .before .before .before .match .rest .0 .1 (c .before .before .before .before .before .shape-of .ensures ∙ ap shapeOf (c .before .before .before .before .before .before .bits-at .ensures .0) ∙ e)) (λ e. c .before .before .before .before .match .rest .1 (c .before .before .before .before .before .shape-of .ensures ∙ ap shapeOf (c .before .before .before .before .before .before .bits-at .ensures .0) ∙ e)) in omega (arith, c .before .before .before .before .before .before .before .before .before .before .pre .1, c .before .before .before .before .before .before .before .before .before .before .good)
+
+write-instr-add-t34 : (t : ℕ) → write-instr-lts.Need-add-t34 (write-instr-calls t) (write-instr-at t) write-instr.Post
+write-instr-add-t34 t c = let k = plain (c .before .before .before .before .before .before .before .before .before .before .pre .1 .4) (λ e. c .before .before .before .before .match .rest .0 .1 (c .before .before .before .before .before .shape-of .ensures ∙ ap shapeOf (c .before .before .before .before .before .before .bits-at .ensures .0) ∙ e)) (λ e. c .before .before .before .before .match .rest .1 (c .before .before .before .before .before .shape-of .ensures ∙ ap shapeOf (c .before .before .before .before .before .before .bits-at .ensures .0) ∙ e)) in let e = c .before .before .before .before .before .shape-of .ensures ∙ ap shapeOf (c .before .before .before .before .before .before .bits-at .ensures .0) in let r = plain-room (c .before .before .before .before .before .before .before .before .before .before .pre .1 .4) (λ e. c .before .before .before .before .match .rest .0 .1 (c .before .before .before .before .before .shape-of .ensures ∙ ap shapeOf (c .before .before .before .before .before .before .bits-at .ensures .0) ∙ e)) (λ e. c .before .before .before .before .match .rest .1 (c .before .before .before .before .before .shape-of .ensures ∙ ap shapeOf (c .before .before .before .before .before .before .bits-at .ensures .0) ∙ e)) in omega (arith, c .before .before .before .before .before .before .before .before .before .before .pre .1, c .before .before .before .before .before .before .before .before .before .before .good)
+
+write-instr-same-length : (t : ℕ) → write-instr-lts.Need-same-length (write-instr-calls t) (write-instr-at t) write-instr.Post
+write-instr-same-length t c = c .before .before .write-conditional .kept .1 .1 .1 .1 .1 .0
+
+write-instr-returns : (t : ℕ) → write-instr-lts.Need-returns (write-instr-calls t) (write-instr-at t) write-instr.Post
+write-instr-returns t c = λ w. arms-item w (ap shapeOf (sym (c .before .before .before .before .before .before .bits-at .ensures .0)) ∙ sym (c .before .before .before .before .before .shape-of .ensures) ∙ c .before .before .before .before .match .keys1) _ (c .before .before .write-conditional .ensures (item-arms w (ap shapeOf (sym (c .before .before .before .before .before .before .bits-at .ensures .0)) ∙ sym (c .before .before .before .before .before .shape-of .ensures) ∙ c .before .before .before .before .match .keys1)))
+
+write-instr-same-length-2 : (t : ℕ) → write-instr-lts.Need-same-length-2 (write-instr-calls t) (write-instr-at t) write-instr.Post
+write-instr-same-length-2 t c = c .before .before .write-make-cont .kept .1 .1 .1 .1 .1 .0
+
+write-instr-returns-2 : (t : ℕ) → write-instr-lts.Need-returns-2 (write-instr-calls t) (write-instr-at t) write-instr.Post
+write-instr-returns-2 t c = λ w. saved-item w (ap shapeOf (sym (c .before .before .before .before .before .before .before .bits-at .ensures .0)) ∙ sym (c .before .before .before .before .before .before .shape-of .ensures) ∙ c .before .before .before .before .before .match .keys2) _ (c .before .before .before .before .bits-at2 .ensures .0) (c .before .before .write-make-cont .ensures (item-saved w (ap shapeOf (sym (c .before .before .before .before .before .before .before .bits-at .ensures .0)) ∙ sym (c .before .before .before .before .before .before .shape-of .ensures) ∙ c .before .before .before .before .before .match .keys2)))
+
+write-instr-same-length-3 : (t : ℕ) → write-instr-lts.Need-same-length-3 (write-instr-calls t) (write-instr-at t) write-instr.Post
+write-instr-same-length-3 t c = c .before .before .write-simple .kept .1 .1 .1 .0
+
+write-instr-returns-3 : (t : ℕ) → write-instr-lts.Need-returns-3 (write-instr-calls t) (write-instr-at t) write-instr.Post
+write-instr-returns-3 t c = λ w. plain-item w (λ e. c .before .before .before .before .match .rest .0 .1 (c .before .before .before .before .before .shape-of .ensures ∙ ap shapeOf (c .before .before .before .before .before .before .bits-at .ensures .0) ∙ e)) (λ e. c .before .before .before .before .match .rest .1 (c .before .before .before .before .before .shape-of .ensures ∙ ap shapeOf (c .before .before .before .before .before .before .bits-at .ensures .0) ∙ e)) _ (ap (λ (n : ℕ). n - 1) (c .before .before .before .before .before .shape-of .ensures ∙ ap shapeOf (c .before .before .before .before .before .before .bits-at .ensures .0))) (c .before .before .write-simple .ensures)
+
+abbrev write-list-Inv-loop : write-list-lts.InvT-loop
+write-list-Inv-loop s table own levels out₀ front back here₀ f₀ b₀ out here f b = (b ≤ length out) × (length out ≡ length out₀) × Left s levels (here₀ .0) front back (here .0) f b out₀ out
+
+abbrev write-list-μ-loop : write-list-lts.MeasureT-loop
+write-list-μ-loop s table own levels out₀ front back here₀ f₀ b₀ out here f b = 8 * length s - here .0
+
+write-list-loop-holds : (t : ℕ) → write-list-lts.Need-loop-holds (write-list-calls t) (write-list-at t) write-list.Post write-list-Inv-loop write-list-μ-loop
+write-list-loop-holds t c = (c .before .before .before .pre .1 .3, refl, left-all _ _ _ _ _ _ (c .before .before .before .pre .1 .4))
+
+write-list-bits-at-requires : (t : ℕ) → write-list-lts.Need-bits-at-requires (write-list-calls t) (write-list-at t) write-list.Post write-list-Inv-loop write-list-μ-loop
+write-list-bits-at-requires t c κs = (omega (arith, c .before .before .before .before .pre .1 .0), (search needs, left-within _ _ _ _ _ _ _ _ _ _ (c .loop .inv .2)))
+
+write-list-shape-of-requires : (t : ℕ) → write-list-lts.Need-shape-of-requires (write-list-calls t) (write-list-at t) write-list.Post write-list-Inv-loop write-list-μ-loop
+write-list-shape-of-requires t c κs = rw (c .bits-at .ensures .0) (field-small _ _ 5)
+
+write-list-add-t18 : (t : ℕ) → write-list-lts.Need-add-t18 (write-list-calls t) (write-list-at t) write-list.Post write-list-Inv-loop write-list-μ-loop
+write-list-add-t18 t c = omega (arith, c .before .before .before .before .before .before .before .pre .1 .0, left-within _ _ _ _ _ _ _ _ _ _ (c .before .before .before .loop .inv .2))
+
+write-list-same-length : (t : ℕ) → write-list-lts.Need-same-length (write-list-calls t) (write-list-at t) write-list.Post write-list-Inv-loop write-list-μ-loop
+write-list-same-length t c = c .before .before .before .loop .inv .1
+
+write-list-returns : (t : ℕ) → write-list-lts.Need-returns (write-list-calls t) (write-list-at t) write-list.Post write-list-Inv-loop write-list-μ-loop
+write-list-returns t c = left-none _ _ _ _ _ _ _ _ _ _ (c .before .before .before .loop .inv .2) (ap shapeOf (sym (c .before .before .bits-at .ensures .0)) ∙ sym (c .before .shape-of .ensures) ∙ c .if1 .taken)
+
+write-list-write-instr-requires : (t : ℕ) → write-list-lts.Need-write-instr-requires (write-list-calls t) (write-list-at t) write-list.Post write-list-Inv-loop write-list-μ-loop
+write-list-write-instr-requires t c κs = (omega (arith, c .before .before .before .before .before .before .before .before .pre .0), (c .before .before .before .before .before .before .before .before .pre .1 .0, c .before .before .before .before .before .before .before .before .pre .1 .1, c .before .before .before .before .before .before .before .before .pre .1 .2, c .before .before .before .before .loop .inv .0, left-item _ _ _ _ _ _ _ _ _ _ (c .before .before .before .before .loop .inv .2) (λ e. c .before .if1 .left (c .before .before .shape-of .ensures ∙ ap shapeOf (c .before .before .before .bits-at .ensures .0) ∙ e))))
+
+write-list-loop-less : (t : ℕ) → write-list-lts.Need-loop-less (write-list-calls t) (write-list-at t) write-list.Post write-list-Inv-loop write-list-μ-loop
+write-list-loop-less t c = omega (arith, left-less _ _ _ _ _ _ _ _ _ _ (c .before .before .before .before .before .before .before .before .loop .inv .2) (λ e. c .before .before .before .before .before .if1 .left (c .before .before .before .before .before .before .shape-of .ensures ∙ ap shapeOf (c .before .before .before .before .before .before .before .bits-at .ensures .0) ∙ e)), next-is _ _ _ _ _ _ _ _ _ _ (c .before .before .before .before .before .before .before .before .loop .inv .2) (λ e. c .before .before .before .before .before .if1 .left (c .before .before .before .before .before .before .shape-of .ensures ∙ ap shapeOf (c .before .before .before .before .before .before .before .bits-at .ensures .0) ∙ e)) (c .before .before .before .write-instr .ensures (left-item _ _ _ _ _ _ _ _ _ _ (c .before .before .before .before .before .before .before .before .loop .inv .2) (λ e. c .before .before .before .before .before .if1 .left (c .before .before .before .before .before .before .shape-of .ensures ∙ ap shapeOf (c .before .before .before .before .before .before .before .bits-at .ensures .0) ∙ e)))))
+
+write-list-loop-again : (t : ℕ) → write-list-lts.Need-loop-again (write-list-calls t) (write-list-at t) write-list.Post write-list-Inv-loop write-list-μ-loop
+write-list-loop-again t c = (omega (arith, c .before .before .before .before .before .before .before .before .loop .inv .0, c .before .before .before .write-instr .kept .1 .1 .1 .1 .1 .0, back-less _ _ _ _ _ _ _ _ _ _ (c .before .before .before .before .before .before .before .before .loop .inv .2) (λ e. c .before .before .before .before .before .if1 .left (c .before .before .before .before .before .before .shape-of .ensures ∙ ap shapeOf (c .before .before .before .before .before .before .before .bits-at .ensures .0) ∙ e)) (c .before .before .before .write-instr .ensures (left-item _ _ _ _ _ _ _ _ _ _ (c .before .before .before .before .before .before .before .before .loop .inv .2) (λ e. c .before .before .before .before .before .if1 .left (c .before .before .before .before .before .before .shape-of .ensures ∙ ap shapeOf (c .before .before .before .before .before .before .before .bits-at .ensures .0) ∙ e))))), c .before .before .before .write-instr .kept .1 .1 .1 .1 .1 .0 ∙ c .before .before .before .before .before .before .before .before .loop .inv .1, left-next _ _ _ _ _ _ _ _ _ _ (c .before .before .before .before .before .before .before .before .loop .inv .2) (λ e. c .before .before .before .before .before .if1 .left (c .before .before .before .before .before .before .shape-of .ensures ∙ ap shapeOf (c .before .before .before .before .before .before .before .bits-at .ensures .0) ∙ e)) (c .before .before .before .write-instr .ensures (left-item _ _ _ _ _ _ _ _ _ _ (c .before .before .before .before .before .before .before .before .loop .inv .2) (λ e. c .before .before .before .before .before .if1 .left (c .before .before .before .before .before .before .shape-of .ensures ∙ ap shapeOf (c .before .before .before .before .before .before .before .bits-at .ensures .0) ∙ e)))))
+
+write-make-cont-measure-requires : (t : ℕ) → write-make-cont-lts.Need-measure-requires (write-make-cont-calls t) (write-make-cont-at t) write-make-cont.Post
+write-make-cont-measure-requires t c κs = (c .before .before .before .pre .1 .0, c .before .before .before .pre .1 .1, c .before .before .before .pre .1 .2)
+
+write-make-cont-sub-cut : (t : ℕ) → write-make-cont-lts.Need-sub-cut (write-make-cont-calls t) (write-make-cont-at t) write-make-cont.Post
+write-make-cont-sub-cut t c = omega (arith, saved-cut (c .before .before .before .before .before .pre .1 .5) _ (c .before .measure .ensures), saved-size (c .before .before .before .before .before .pre .1 .5) _ (c .before .measure .ensures), c .before .before .before .before .before .pre .1 .5 .room, c .before .before .before .before .before .pre .1 .4)
+
+write-make-cont-add-rest : (t : ℕ) → write-make-cont-lts.Need-add-rest (write-make-cont-calls t) (write-make-cont-at t) write-make-cont.Post
+write-make-cont-add-rest t c = omega (arith, saved-cut (c .before .before .before .before .before .pre .1 .5) _ (c .before .measure .ensures), saved-size (c .before .before .before .before .before .pre .1 .5) _ (c .before .measure .ensures), c .before .before .before .before .before .pre .1 .5 .room, c .before .before .before .before .before .pre .1 .4)
+
+write-make-cont-sub-put-offset : (t : ℕ) → write-make-cont-lts.Need-sub-put-offset (write-make-cont-calls t) (write-make-cont-at t) write-make-cont.Post
+write-make-cont-sub-put-offset t c = omega (arith, saved-cut (c .before .before .before .before .before .before .pre .1 .5) _ (c .before .before .measure .ensures), saved-size (c .before .before .before .before .before .before .pre .1 .5) _ (c .before .before .measure .ensures), c .before .before .before .before .before .before .pre .1 .5 .room, c .before .before .before .before .before .before .pre .1 .4)
+
+write-make-cont-put-offset-requires : (t : ℕ) → write-make-cont-lts.Need-put-offset-requires (write-make-cont-calls t) (write-make-cont-at t) write-make-cont.Post
+write-make-cont-put-offset-requires t c κs = (omega (arith, saved-cut (c .before .before .before .before .before .before .pre .1 .5) _ (c .before .before .measure .ensures), saved-size (c .before .before .before .before .before .before .pre .1 .5) _ (c .before .before .measure .ensures), c .before .before .before .before .before .before .pre .1 .5 .room, c .before .before .before .before .before .before .pre .1 .4), omega (arith, saved-rest (c .before .before .before .before .before .before .pre .1 .5) _ (c .before .before .measure .ensures), c .before .before .before .before .before .before .pre .1 .5 .fits))
+
+write-make-cont-cast-out : (t : ℕ) → write-make-cont-lts.Need-cast-out (write-make-cont-calls t) (write-make-cont-at t) write-make-cont.Post
+write-make-cont-cast-out t c = search needs
+
+write-make-cont-add-out : (t : ℕ) → write-make-cont-lts.Need-add-out (write-make-cont-calls t) (write-make-cont-at t) write-make-cont.Post
+write-make-cont-add-out t c = omega (arith, saved-cut (c .before .before .before .before .before .before .before .before .before .pre .1 .5) _ (c .before .before .before .before .before .measure .ensures), saved-size (c .before .before .before .before .before .before .before .before .before .pre .1 .5) _ (c .before .before .before .before .before .measure .ensures), c .before .before .before .before .before .before .before .before .before .pre .1 .5 .room, c .before .before .before .before .before .before .before .before .before .pre .1 .4)
+
+write-make-cont-slice-write-out : (t : ℕ) → write-make-cont-lts.Need-slice-write-out (write-make-cont-calls t) (write-make-cont-at t) write-make-cont.Post
+write-make-cont-slice-write-out t c = omega (arith, saved-cut (c .before .before .before .before .before .before .before .before .before .pre .1 .5) _ (c .before .before .before .before .before .measure .ensures), saved-size (c .before .before .before .before .before .before .before .before .before .pre .1 .5) _ (c .before .before .before .before .before .measure .ensures), c .before .before .before .before .before .before .before .before .before .pre .1 .5 .room, c .before .before .before .before .before .before .before .before .before .pre .1 .4, c .before .before .put-offset .kept .0)
+
+write-make-cont-write-list-requires : (t : ℕ) → write-make-cont-lts.Need-write-list-requires (write-make-cont-calls t) (write-make-cont-at t) write-make-cont.Post
+write-make-cont-write-list-requires t c κs = (omega (arith, c .before .before .before .before .before .before .before .before .before .before .pre .0), (c .before .before .before .before .before .before .before .before .before .before .pre .1 .0, c .before .before .before .before .before .before .before .before .before .before .pre .1 .1, c .before .before .before .before .before .before .before .before .before .before .pre .1 .2, simp length-set (omega (arith, c .before .before .before .before .before .before .before .before .before .before .pre .1 .4, c .before .before .before .put-offset .kept .0)), saved-to-write (c .before .before .before .before .before .before .before .before .before .before .pre .1 .5) _ (c .before .before .before .before .before .before .measure .ensures)))
+
+write-make-cont-same-length : (t : ℕ) → write-make-cont-lts.Need-same-length (write-make-cont-calls t) (write-make-cont-at t) write-make-cont.Post
+write-make-cont-same-length t c = c .before .before .write-list .kept .1 .1 .1 .1 .1 .0 ∙ (simp length-set (c .before .before .before .before .before .before .put-offset .kept .0))
+
+write-make-cont-returns : (t : ℕ) → write-make-cont-lts.Need-returns (write-make-cont-calls t) (write-make-cont-at t) write-make-cont.Post
+write-make-cont-returns t c = λ w. saved-done (w) _ (c .before .before .before .before .before .before .before .before .before .measure .ensures) _ _ (c .before .before .before .before .before .before .put-offset .ensures) (c .before .before .write-list .ensures (saved-to-write (w) _ (c .before .before .before .before .before .before .before .before .before .measure .ensures)))
+
+pub +write-conditional+write-instr+write-list+write-make-cont-spec : {M : Type 1} → statement M
++write-conditional+write-instr+write-list+write-make-cont-spec =
+    close
+    μ-write-conditional
+    μ-write-instr
+    μ-write-list
+    μ-write-make-cont
+    (λ t. write-conditional-lts.spec (write-conditional-calls t)
+    (write-conditional-at t)
+    write-conditional.Post
+    (write-conditional-measure-requires t)
+    (write-conditional-measure-requires-2 t)
+    (write-conditional-gap-requires t)
+    (write-conditional-add-turn t)
+    (write-conditional-add-turn-2 t)
+    (write-conditional-add-end t)
+    (write-conditional-add-end-2 t)
+    (write-conditional-add-put-offset t)
+    (write-conditional-put-offset-requires t)
+    (write-conditional-add-write-list t)
+    (write-conditional-write-list-requires t)
+    (write-conditional-put-jump-requires t)
+    (write-conditional-add-write-list-2 t)
+    (write-conditional-write-list-requires-2 t)
+    (write-conditional-same-length t)
+    (write-conditional-returns t))
+    (λ t. write-instr-lts.spec (write-instr-calls t)
+    (write-instr-at t)
+    write-instr.Post
+    (write-instr-bits-at-requires t)
+    (write-instr-shape-of-requires t)
+    (write-instr-add-t15 t)
+    (write-instr-sub-write-conditional t)
+    (write-instr-write-conditional-requires t)
+    (write-instr-add-bits-at t)
+    (write-instr-bits-at-requires-2 t)
+    (write-instr-add-t20 t)
+    (write-instr-sub-write-make-cont t)
+    (write-instr-write-make-cont-requires t)
+    (write-instr-sub-n t)
+    (write-instr-cast-n t)
+    (write-instr-write-simple-requires t)
+    (write-instr-add-t29 t)
+    (write-instr-mul-t30 t)
+    (write-instr-add-t31 t)
+    (write-instr-add-t33 t)
+    (write-instr-add-t34 t)
+    (write-instr-same-length t)
+    (write-instr-returns t)
+    (write-instr-same-length-2 t)
+    (write-instr-returns-2 t)
+    (write-instr-same-length-3 t)
+    (write-instr-returns-3 t))
+    (λ t. write-list-lts.spec (write-list-calls t)
+    (write-list-at t)
+    write-list.Post
+    write-list-Inv-loop
+    write-list-μ-loop
+    (write-list-loop-holds t)
+    (write-list-bits-at-requires t)
+    (write-list-shape-of-requires t)
+    (write-list-add-t18 t)
+    (write-list-same-length t)
+    (write-list-returns t)
+    (write-list-write-instr-requires t)
+    (write-list-loop-less t)
+    (write-list-loop-again t))
+    λ t. write-make-cont-lts.spec (write-make-cont-calls t)
+    (write-make-cont-at t)
+    write-make-cont.Post
+    (write-make-cont-measure-requires t)
+    (write-make-cont-sub-cut t)
+    (write-make-cont-add-rest t)
+    (write-make-cont-sub-put-offset t)
+    (write-make-cont-put-offset-requires t)
+    (write-make-cont-cast-out t)
+    (write-make-cont-add-out t)
+    (write-make-cont-slice-write-out t)
+    (write-make-cont-write-list-requires t)
+    (write-make-cont-same-length t)
+    (write-make-cont-returns t)

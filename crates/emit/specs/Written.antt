@@ -1,0 +1,57 @@
+-- The bytes of one instruction of a list: those that stand before the rest's, and those that stand after.
+use Prim.Native.Nat.{ℕ, zero, suc, _+_, _/_, _%_}
+use mathlib.Core.Bool.{Bool, true, false, cond}
+use mathlib.Core.List.{List, [], _∷_, _++_}
+use lib.ListN.{length}
+use Rattle.cells.specs.declared.BitPlace.{BitPlace}
+use Rattle.fields.specs.Field.{fieldAt}
+use Rattle.files.specs.Code.{Code, Instr, neutral-i, return-i, call-i, unless-i, cont-i}
+use Rattle.files.specs.Grammar.{isClosed}
+use Rattle.files.specs.Flat.{offset, flat}
+use Rattle.emit.specs.declared.Measured.{Measured}
+use Rattle.emit.specs.declared.Wrote.{Wrote}
+
+-- ---- a conditional, closed or open
+-- how many bytes its jump takes
+unfoldable pub gap : Bool → ℕ
+gap closed = cond closed 0 3
+
+-- the jump of an open one over its second arm of n bytes
+unfoldable pub jumpBytes : Bool → ℕ → List ℕ
+jumpBytes true n = []
+jumpBytes false n = 5 ∷ offset n
+
+-- with arms x and y
+unfoldable pub armsBytes : Code → Code → List ℕ
+armsBytes x y = (3 ∷ offset (gap (isClosed x) + length (flat x))) ++ (flat x ++ (jumpBytes (isClosed x) (length (flat y)) ++ flat y))
+
+-- ---- a make-cont n whose rest has m bytes
+unfoldable pub savedBytes : ℕ → ℕ → List ℕ
+savedBytes n m = 4 ∷ m / 256 ∷ m % 256 ∷ n ∷ []
+
+-- ---- one instruction, where the rest has m bytes
+unfoldable pub frontBytes : Instr → ℕ → List ℕ
+frontBytes (neutral-i op ns) m = op ∷ ns
+frontBytes return-i m = 1 ∷ []
+frontBytes (call-i n) m = 2 ∷ n ∷ []
+frontBytes (unless-i x y) m = armsBytes x y
+frontBytes (cont-i n x) m = savedBytes n m
+
+unfoldable pub backBytes : Instr → List ℕ
+backBytes (neutral-i op ns) = []
+backBytes return-i = []
+backBytes (call-i n) = []
+backBytes (unless-i x y) = []
+backBytes (cont-i n x) = flat x
+
+-- n operands from p on
+unfoldable pub operandsAt : List ℕ → ℕ → ℕ → List ℕ
+operandsAt s p zero = []
+operandsAt s p (suc n) = fieldAt s p 8 ∷ operandsAt s (p + 8) n
+
+-- ---- answers
+unfoldable pub measuredOf : Code → ℕ → Measured
+measuredOf c q = record { next = record { 0 = q }; size = length (flat c); closed = isClosed c }
+
+abbrev pub wroteAs : ℕ → ℕ → ℕ → Wrote
+wroteAs q f b = record { next = record { 0 = q }; front = f; back = b }

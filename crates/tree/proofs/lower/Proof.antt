@@ -1,0 +1,26 @@
+use mathlib.Core.Path.{refl}
+use borrow.Author.Tests.{lt-ltb, le-ltb}
+use Rattle.tree.specs.Summary.{lower}
+use borrow.Author.Needs.{needs}
+use Rattle.tree.proofs.lower.Statement.{statement}
+use Rattle.tree.proofs.lower.Tie as tie
+use Rattle.tree.proofs.lower.Reads as reads
+use Rattle.tree.proofs.lower.Lts as lts
+
+-- src/lib.rt:79:9
+returns : tie.Need-returns
+unfolding lower
+returns c = rw (c .if1 .taken) refl
+
+-- src/lib.rt:82:9
+returns-2 : tie.Need-returns-2
+unfolding lower
+returns-2 c = rw (c .before .if1 .left, lt-ltb _ _ (c .if2 .taken)) refl
+
+-- src/lib.rt:75:1
+returns-3 : tie.Need-returns-3
+unfolding lower
+returns-3 c = rw (c .before .if1 .left, le-ltb _ _ (c .if2 .left)) refl
+
+pub lower-spec : {M : Type 1} → statement M
+lower-spec = tie.close (tie.spec returns returns-2 returns-3)

@@ -1,0 +1,112 @@
+use Rattle.tree.specs.Summary.{templatesTold, toldFrom, summaryAfter, begun}
+use Prim.Native.Nat.{_+_, _*_, _-_, _≤_}
+use native.Mathlib.Nat.{sub-zero}
+use native.Mathlib.Omega.{arith}
+use mathlib.Core.Path.{_≡_, refl, sym, _∙_}
+use Rattle.files.specs.Tree.{templatesAt}
+use Rattle.files.specs.RowFilled.{Unfilled}
+use Rattle.tree.specs.Summary.{templatesTold, toldFrom, summaryAfter}
+use Rattle.tree.specs.Filled.{templatesFilled}
+use Rattle.tree.specs.TemplateSteps.{templates-none, templates-stop, templates-on, next-unfilled, next-small, told-all}
+use borrow.Author.Needs.{needs}
+use Rattle.tree.proofs.read_templates.Statement.{statement}
+use Rattle.tree.proofs.read_templates.Tie as tie
+use Rattle.tree.proofs.read_templates.Reads as reads
+use Rattle.tree.proofs.read_templates.Lts as lts
+use Rattle.tree.proofs.read_template.Reads as read-template-reads
+use Rattle.tree.proofs.summary_after.Reads as summary-after-reads
+
+abbrev Inv-loop : tie.InvT-loop
+Inv-loop s table₀ count own₀ here₀ sum₀ table own here sum = (own ≤ count) × Unfilled own table × (sum .size ≤ 1 + 2097152 * own)
+    × (templatesTold (templatesAt s count 0 count (here₀ .0)) ≡ toldFrom own sum (templatesAt s count own (count - own) (here .0)))
+    × (templatesFilled s count 0 count (here₀ .0) table₀ ≡ templatesFilled s count own (count - own) (here .0) table)
+
+abbrev μ-loop : tie.MeasureT-loop
+μ-loop s table₀ count own₀ here₀ sum₀ table own here sum = count - own
+
+-- src/lib.rt:131:36
+cast-t12 : tie.Need-cast-t12 Inv-loop μ-loop
+cast-t12 c = search needs
+
+-- src/lib.rt:132:5
+loop-holds : tie.Need-loop-holds Inv-loop μ-loop
+unfolding begun
+loop-holds c =
+    let k = c .before .before .pre in
+    (search needs, k .1 .1, search needs, rw sub-zero (told-all _ _ _ (k .1 .0)), rw sub-zero refl)
+
+-- src/lib.rt:133:15
+read-template-requires : tie.Need-read-template-requires Inv-loop μ-loop
+read-template-requires c κs = let k = c .before .before .before .before .before .pre in let i = c .before .before .loop .inv in (k .0, (omega arith, (k .1 .0, i .1)))
+
+-- src/lib.rt:134:32
+enum-known-past : tie.Need-enum-known-past Inv-loop μ-loop
+enum-known-past c = search needs
+
+-- src/lib.rt:136:37
+cast-summary-after : tie.Need-cast-summary-after Inv-loop μ-loop
+cast-summary-after c = search needs
+
+-- src/lib.rt:136:17
+summary-after-requires : tie.Need-summary-after-requires Inv-loop μ-loop
+summary-after-requires c κs = let k = c .before .before .before .before .before .before .before .before .before .before .before .pre in let i = c .before .before .before .before .before .before .before .before .loop .inv in let small = next-small _ _ _ _ _ (k .1 .0) (c .before .before .before .before .before .read-template .ensures) (c .before .past .given .1) (k .0) in (small, omega arith)
+
+-- src/lib.rt:138:35
+enum-known-no : tie.Need-enum-known-no Inv-loop μ-loop
+enum-known-no c = search needs
+
+-- src/lib.rt:139:17
+same-length : tie.Need-same-length Inv-loop μ-loop
+same-length c = search needs
+
+-- src/lib.rt:139:17
+returns : tie.Need-returns Inv-loop μ-loop
+returns c = let i = c .before .before .before .before .before .before .before .before .loop .inv in let d = templates-stop _ _ _ _ _ _ (c .before .before .before .before .before .before .before .loop-test .taken) (c .before .before .before .before .before .read-template .ensures) (c .before .no .given .1) in (d .0 ∙ sym (i .3), d .1 ∙ sym (i .4))
+
+-- src/lib.rt:142:9
+add-own : tie.Need-add-own Inv-loop μ-loop
+add-own c = search needs
+
+-- src/lib.rt:132:5
+loop-less : tie.Need-loop-less Inv-loop μ-loop
+loop-less c = search needs
+
+-- src/lib.rt:132:5
+loop-again : tie.Need-loop-again Inv-loop μ-loop
+unfolding summaryAfter
+loop-again c =
+    let k = c .before .before .before .before .before .before .before .before .before .before .before .before .pre in
+    let i = c .before .before .before .before .before .before .before .before .before .loop .inv in
+    let less = c .before .before .before .before .before .before .before .before .loop-test .taken in
+    let d = templates-on _ _ _ _ _ _ less (c .before .before .before .before .before .before .read-template .ensures) (k .1 .0) (c .before .before .past .given .1) (c .summary-after .ensures) in
+    let small = next-small _ _ _ _ _ (k .1 .0) (c .before .before .before .before .before .before .read-template .ensures) (c .before .before .past .given .1) (k .0) in
+    (search needs, next-unfilled _ _ _ _ _ (k .1 .0) (c .before .before .before .before .before .before .read-template .ensures) (c .before .before .past .given .1) less (i .1), rw (c .summary-after .ensures) (omega arith), i .3 ∙ d .0, i .4 ∙ d .1)
+
+-- src/lib.rt:124:1
+same-length-2 : tie.Need-same-length-2 Inv-loop μ-loop
+same-length-2 c = search needs
+
+-- src/lib.rt:124:1
+returns-2 : tie.Need-returns-2 Inv-loop μ-loop
+returns-2 c = let i = c .before .loop .inv in let d = templates-none _ _ _ _ _ _ (c .loop-test .left) in (d .0 ∙ sym (i .3), d .1 ∙ sym (i .4))
+
+pub read-templates-spec : {M : Type 1} → statement M
+read-templates-spec =
+    tie.close
+    (tie.spec
+    Inv-loop
+    μ-loop
+    cast-t12
+    loop-holds
+    read-template-requires
+    enum-known-past
+    cast-summary-after
+    summary-after-requires
+    enum-known-no
+    same-length
+    returns
+    add-own
+    loop-less
+    loop-again
+    same-length-2
+    returns-2)
