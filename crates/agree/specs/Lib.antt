@@ -7,3 +7,4 @@ pub mod Places
 pub mod Files
 pub mod Demand3
 pub mod Proved
+pub mod Functions
