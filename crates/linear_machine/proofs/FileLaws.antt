@@ -22,8 +22,8 @@ use Rattle.machines.specs.Steps.{ranFrom, whole-budget}
 use Rattle.machines.specs.declared.Run.{Run}
 use Rattle.machines.specs.declared.Start.{Start}
 use Rattle.machines.specs.declared.Start.the-variants as started
-use Rattle.linear_machine.specs.Bytes.{bytesProgram, AllBytes, AllWithin}
-use Rattle.linear_machine.specs.ProgramLaws.{table-within, program-is}
+use Rattle.linear_code.specs.Bytes.{bytesProgram, AllBytes, AllWithin}
+use Rattle.linear_code.specs.ProgramLaws.{table-within, program-is}
 use Rattle.linear_machine.specs.Step.{stateOf, enteredAt, firstRegs, firstState, Entered, Ready}
 use Rattle.linear_machine.specs.declared.Control.{Control}
 

@@ -1,5 +1,4 @@
 -- The proofs of the crate linear_machine that belong to no one function.
-pub mod FetchLaws
 pub mod StepLaws
 pub mod RunLaws
 pub mod FileLaws

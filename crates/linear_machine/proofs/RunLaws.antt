@@ -3,6 +3,7 @@ use Prim.Native.Nat.{ℕ, _+_, _-_, _<_, _≤_}
 use mathlib.Core.Path.{_≡_, refl, sym, ap, _∙_}
 use mathlib.Core.List.{List}
 use native.Mathlib.Nat.{sub-self}
+use native.Mathlib.Omega.{arith}
 use lib.ListN.{length}
 use Rattle.cells.specs.Cells.{valueOf}
 use Rattle.cells.specs.declared.Value.{Value}
@@ -14,8 +15,8 @@ use Rattle.machines.specs.Steps.{ranFrom, ends, turn-goes, turn-halts, turn-sto
 use Rattle.machines.specs.declared.End.{End}
 use Rattle.machines.specs.declared.End.the-variants as end
 use Rattle.machines.specs.declared.Run.{Run}
-use Rattle.linear_machine.specs.Bytes.{bytesProgram, AllWithin}
-use Rattle.linear_machine.specs.Step.{stateOf, Entered, meant, Unchanged, GoesOn, Taken, Ready}
+use Rattle.linear_code.specs.Bytes.{bytesProgram, AllWithin}
+use Rattle.linear_machine.specs.Step.{stateOf, endsWith, Entered, meant, Unchanged, GoesOn, Taken, Ready}
 use Rattle.linear_machine.specs.declared.Control.{Control}
 use Rattle.linear_machine.specs.declared.LinearStep.{LinearStep}
 use Rattle.linear_machine.specs.declared.LinearStep.the-variants.{Next, Halted, Wrong}
@@ -23,9 +24,6 @@ use Rattle.linear_machine.specs.declared.LinearStep.the-variants.{Next, 
 -- the whole budget is left
 pub at-first : (P : Program) (b : ℕ) (s : State) → ranFrom P b (b - b) s ≡ ranFrom P b 0 s
 at-first P b s = rw (sub-self b)
-
-abbrev pub endsWith : End → ℕ → Regs → Control → Run
-endsWith e n r c = record { end = e; steps = n; stack = r .sp; store = r .st; frames = c .fr }
 
 module _ {goal : Ran} (s table : List ℕ) (left b : ℕ) (m m′ : Memory) (r : Regs) (c : Control) (x : LinearStep) (some : 0 < left) (most : left ≤ b)
     (t : Taken table x m m′ (step (bytesProgram s table) (stateOf r c m))) (h : ranFrom (bytesProgram s table) left (b - left) (stateOf r c m) ≡ goal) where
@@ -52,19 +50,22 @@ module _ {goal : Ran} (s table : List ℕ) (left b : ℕ) (m m′ : Memory) (r :
         frames-long = lf;
       }
 
-  pub halted-turn : (v : Value) → x ≡ Halted → v ≡ valueOf (r .v) → ran (endsWith (end.Halted v) (b - left + 1) r c) m′ ≡ goal
+  pub halted-turn : (v : Value) (y : Run) → x ≡ Halted → v ≡ valueOf (r .v) → y ≡ endsWith (end.Halted v) (b - (left - 1)) r c → ran y m′ ≡ goal
   unfolding meant Unchanged ends memoryOf
-  halted-turn v e k =
+  halted-turn v y e k i =
       let u : m′ ≡ m = rw e at (t .unchanged) in
-      rw (k, u) (turn-halts P left b (stateOf r c m) (meant x m′) some most (t .meant-is) h (rw e))
+      let n : b - (left - 1) ≡ b - left + 1 = omega arith in
+      rw (i, k, u, n) (turn-halts P left b (stateOf r c m) (meant x m′) some most (t .meant-is) h (rw e))
 
-  pub wrong-turn : (n : ℕ) → x ≡ Wrong n → ran (endsWith (end.Wrong n) (b - left) r c) m′ ≡ goal
+  pub wrong-turn : (n : ℕ) (y : Run) → x ≡ Wrong n → y ≡ endsWith (end.Wrong n) (b - left) r c → ran y m′ ≡ goal
   unfolding meant Unchanged ends memoryOf
-  wrong-turn n e =
+  wrong-turn n y e i =
       let u : m′ ≡ m = rw e at (t .unchanged) in
-      rw u (turn-stops P left b (stateOf r c m) (meant x m′) some most (t .meant-is) h n (rw e))
+      rw (i, u) (turn-stops P left b (stateOf r c m) (meant x m′) some most (t .meant-is) h n (rw e))
 
-pub spent-turn : {goal : Ran} (s table : List ℕ) (left b : ℕ) (m : Memory) (r : Regs) (c : Control) → left ≤ 0
-    → ranFrom (bytesProgram s table) left (b - left) (stateOf r c m) ≡ goal → ran (endsWith end.OutOfBudget b r c) m ≡ goal
+pub spent-turn : {goal : Ran} (s table : List ℕ) (left b : ℕ) (m : Memory) (r : Regs) (c : Control) (y : Run) → left ≤ 0
+    → ranFrom (bytesProgram s table) left (b - left) (stateOf r c m) ≡ goal → y ≡ endsWith end.OutOfBudget (b - left) r c → ran y m ≡ goal
 unfolding ends memoryOf
-spent-turn s table left b m r c l h = budget-spent (bytesProgram s table) left b (stateOf r c m) l h
+spent-turn s table left b m r c y l h i =
+    let n : b - left ≡ b = omega arith in
+    rw (i, n) (budget-spent (bytesProgram s table) left b (stateOf r c m) l h)

@@ -28,12 +28,12 @@ use Rattle.frames.specs.declared.Returned.the-variants as back
 use Rattle.machines.specs.Fetched.{Fetched, plain, returns, calls, branches, saves, jumps, bad}
 use Rattle.machines.specs.Machine.{Program, State, Step, go, halt, stop, bind, applied, called, returned, act, step}
 use Rattle.machines.specs.Runs.{Memory, memory}
-use Rattle.linear_machine.specs.Bytes.{codeStart, codeLength, fetchBytes, bytesProgram, Within, AllWithin}
-use Rattle.linear_machine.specs.Fetch.{fetchedAs, Savable}
+use Rattle.linear_code.specs.Bytes.{codeStart, codeLength, fetchBytes, bytesProgram, Within, AllWithin}
+use Rattle.linear_code.specs.Fetch.{fetchedAs, Savable}
 use Rattle.linear_machine.specs.Step.{stateOf, movedTo, enteredAt, Entered, meant, Unchanged, GoesOn, Taken}
 use Rattle.linear_machine.specs.declared.Control.{Control}
-use Rattle.linear_machine.specs.declared.LinearFetched.{LinearFetched}
-use Rattle.linear_machine.specs.declared.LinearFetched.the-variants as fetched
+use Rattle.linear_code.specs.declared.LinearFetched.{LinearFetched}
+use Rattle.linear_code.specs.declared.LinearFetched.the-variants as fetched
 use Rattle.linear_machine.specs.declared.LinearStep.{LinearStep}
 use Rattle.linear_machine.specs.declared.LinearStep.the-variants.{Next, Halted, Wrong}
 

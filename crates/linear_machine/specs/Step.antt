@@ -11,7 +11,9 @@ use Rattle.rules.specs.declared.Regs.{Regs}
 use Rattle.machines.specs.Machine.{State, at, Step, go, halt, stop}
 use Rattle.machines.specs.Runs.{Memory, memory}
 use Rattle.machines.specs.Start.{zeros}
-use Rattle.linear_machine.specs.Bytes.{codeStart, codeLength, AllWithin}
+use Rattle.machines.specs.declared.End.{End}
+use Rattle.machines.specs.declared.Run.{Run}
+use Rattle.linear_code.specs.Bytes.{codeStart, codeLength, AllWithin}
 use Rattle.linear_machine.specs.declared.Control.{Control}
 use Rattle.linear_machine.specs.declared.LinearStep.{LinearStep}
 use Rattle.linear_machine.specs.declared.LinearStep.the-variants.{Next, Halted, Wrong}
@@ -62,6 +64,10 @@ pub record Taken (table : List ℕ) (x : LinearStep) (m m′ : Memory) (y : Step
   pub meant-is : meant x m′ ≡ y
   pub unchanged : Unchanged x m m′
   pub goes-on : GoesOn table x
+
+-- what a run returns that ends so with n steps done
+abbrev pub endsWith : End → ℕ → Regs → Control → Run
+endsWith e n r c = record { end = e; steps = n; stack = r .sp; store = r .st; frames = c .fr }
 
 -- what a step asks
 pub record Ready (s table : List ℕ) (m : Memory) (r : Regs) (c : Control) : Type 0 where

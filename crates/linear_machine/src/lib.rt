@@ -3,8 +3,8 @@ use cells::BytePlace;
 use frames::Kept;
 use frames::Returned;
 use linear::LinearFile;
+use linear_code::LinearFetched;
 use machines::End;
-use machines::Resolved;
 use machines::Run;
 use machines::Start;
 use rules::Called;
@@ -12,158 +12,18 @@ use rules::Plain;
 use rules::Regs;
 use rules::Stepped;
 ghost use mathlib.Core.Path.{_≡_};
-ghost use mathlib.Core.List.{List, []};
-ghost use Prim.Native.Nat.{ℕ, _+_, _*_, _≤_, _<_, _^_};
-ghost use lib.ListN.{length, getD};
-ghost use Rattle.runs.specs.Runs.{part};
-ghost use Rattle.rules.specs.Fit.{Fit};
-ghost use Rattle.machines.specs.Fetched.{plain, returns, calls, branches, saves, callIn, branchIn, contIn, jumpIn};
-ghost use Rattle.machines.specs.Machine.{Program, act, step};
+ghost use mathlib.Core.List.{List};
+ghost use Prim.Native.Nat.{ℕ, _-_, _≤_, _<_, _^_};
+ghost use lib.ListN.{length};
 ghost use Rattle.files.specs.Linear.{linearRead};
+ghost use Rattle.rules.specs.Fit.{Fit};
+ghost use Rattle.machines.specs.Fetched.{plain, returns, calls, branches, saves};
+ghost use Rattle.machines.specs.Machine.{Program, act, step};
 ghost use Rattle.machines.specs.Runs.{Memory, memory, ran, onLinear, linearRun};
 ghost use Rattle.machines.specs.Start.{zeros, Startable};
 ghost use Rattle.machines.specs.Steps.{ranFrom};
-ghost use Rattle.machines.specs.Slots.{slotAt};
-ghost use Rattle.linear_machine.specs.Bytes.{neutralBytes, fetchBytes, bytesProgram, Within, AllWithin};
-ghost use Rattle.linear_machine.specs.Fetch.{fetchedAs, Savable};
-ghost use Rattle.linear_machine.specs.Step.{stateOf, movedTo, enteredAt, firstState, Entered, Taken, Ready};
-
-// What stands at a code place. The places in it are where to go on; of a make-cont the saved place, and then the rest's.
-pub enum LinearFetched {
-    Plain(Plain, BytePlace),
-    Return,
-    Call(u8),
-    Branch(BytePlace, BytePlace),
-    Save(u8, BytePlace, BytePlace),
-    Jump(BytePlace),
-    Bad,
-}
-
-// Byte k of the `left` bytes at i, 0 past them.
-fn operand(file: &[u8], i: usize, left: usize, k: usize) -> u8
-    requires { ⌜ i + left ≤ length (now file) ⌝ }
-    ensures { λ r. ⌜ r ≡ getD (part (now (file .entry)) i left) k 0 ⌝ }
-{
-    if k < left { file[i + k] } else { 0 }
-}
-
-fn offset(file: &[u8], i: usize) -> usize
-    requires { ⌜ i + 2 ≤ length (now file) ⌝ }
-    ensures { λ r. ⌜ (r ≡ 256 * getD (now (file .entry)) i 0 + getD (now (file .entry)) (i + 1) 0) × (r < 65536) ⌝ }
-{
-    256 * (file[i] as usize) + file[i + 1] as usize
-}
-
-// Each of the next five is given the instruction's place, and the bytes after its code: `left` of them at i.
-
-fn fetch_call(file: &[u8], i: usize, left: usize) -> LinearFetched
-    requires { ⌜ i + left ≤ length (now file) ⌝ }
-    ensures { λ r. ⌜ (fetchedAs r ≡ callIn [] (part (now (file .entry)) i left)) × Savable r ⌝ }
-{
-    if left < 1 {
-        LinearFetched::Bad
-    } else {
-        LinearFetched::Call(file[i])
-    }
-}
-
-fn fetch_branch(file: &[u8], i: usize, left: usize, place: usize) -> LinearFetched
-    requires { ⌜ (i + left ≤ length (now file)) × (place ≤ 262144) ⌝ }
-    ensures { λ r. ⌜ (fetchedAs r ≡ branchIn [] place (part (now (file .entry)) i left)) × Savable r ⌝ }
-{
-    if left < 2 {
-        LinearFetched::Bad
-    } else {
-        LinearFetched::Branch(BytePlace(place + 3), BytePlace(place + 3 + offset(file, i)))
-    }
-}
-
-fn fetch_save(file: &[u8], i: usize, left: usize, place: usize) -> LinearFetched
-    requires { ⌜ (i + left ≤ length (now file)) × (place ≤ 262144) ⌝ }
-    ensures { λ r. ⌜ (fetchedAs r ≡ contIn [] place (part (now (file .entry)) i left)) × Savable r ⌝ }
-{
-    if left < 3 {
-        LinearFetched::Bad
-    } else {
-        LinearFetched::Save(
-            file[i + 2],
-            BytePlace(place + 4 + offset(file, i)),
-            BytePlace(place + 4),
-        )
-    }
-}
-
-fn fetch_jump(file: &[u8], i: usize, left: usize, place: usize) -> LinearFetched
-    requires { ⌜ (i + left ≤ length (now file)) × (place ≤ 262144) ⌝ }
-    ensures { λ r. ⌜ (fetchedAs r ≡ jumpIn [] place (part (now (file .entry)) i left)) × Savable r ⌝ }
-{
-    if left < 2 {
-        LinearFetched::Bad
-    } else {
-        LinearFetched::Jump(BytePlace(place + 3 + offset(file, i)))
-    }
-}
-
-fn fetch_plain(
-    file: &[u8],
-    table: &[u64],
-    template: u8,
-    i: usize,
-    left: usize,
-    place: usize,
-    op: u8,
-) -> LinearFetched
-    requires { ⌜ (i + left ≤ length (now file)) × (place ≤ 262144) ⌝ }
-    ensures { λ r. ⌜ (fetchedAs r ≡ neutralBytes (slotAt (now (table .entry)) template) place op (part (now (file .entry)) i left)) × Savable r ⌝ }
-{
-    let a = operand(file, i, left, 0);
-    let b = operand(file, i, left, 1);
-    match machines::resolve(table, template, op, a, b) {
-        Resolved::Unfit => LinearFetched::Bad,
-        Resolved::Fit(instruction, operands) => {
-            if left < operands {
-                LinearFetched::Bad
-            } else {
-                LinearFetched::Plain(instruction, BytePlace(place + (1 + operands)))
-            }
-        }
-    }
-}
-
-// What stands at a place of a template, whose code is the `len` bytes at `start`.
-fn fetch(
-    file: &[u8],
-    table: &[u64],
-    template: u8,
-    start: usize,
-    len: usize,
-    at: BytePlace,
-) -> LinearFetched
-    requires { ⌜ Within (now file) start len × (length (now file) ≤ 262144) ⌝ }
-    ensures { λ r. ⌜ (fetchedAs r ≡ fetchBytes (now (file .entry)) (now (table .entry)) template start len (at .0)) × Savable r ⌝ }
-{
-    let place = at.0;
-    if len <= place {
-        if start != 0 {
-            return LinearFetched::Bad;
-        }
-        if place != 0 {
-            return LinearFetched::Bad;
-        }
-        return LinearFetched::Return;
-    }
-    let i = start + place + 1;
-    let left = len - place - 1;
-    let op = file[start + place];
-    match op {
-        1 => LinearFetched::Return,
-        2 => fetch_call(file, i, left),
-        3 => fetch_branch(file, i, left, place),
-        4 => fetch_save(file, i, left, place),
-        5 => fetch_jump(file, i, left, place),
-        _ => fetch_plain(file, table, template, i, left, place, op),
-    }
-}
+ghost use Rattle.linear_code.specs.Bytes.{bytesProgram, AllWithin};
+ghost use Rattle.linear_machine.specs.Step.{stateOf, movedTo, enteredAt, firstState, endsWith, Entered, Taken, Ready};
 
 // Where a run is: the template, its code, the place in it; and how many frame cells are in use.
 pub struct Control {
@@ -302,7 +162,7 @@ fn take_step(
     ensures { λ x. ⌜ Taken (now (table .entry)) x (memory (now (globals .entry)) (now (stack .entry)) (now (store .entry)) (now (frames .entry))) (memory (now (globals .exit)) (now (stack .exit)) (now (store .exit)) (now (frames .exit))) (step (bytesProgram (now (file .entry)) (now (table .entry))) (stateOf r c (memory (now (globals .entry)) (now (stack .entry)) (now (store .entry)) (now (frames .entry))))) ⌝ }
 {
     let place = c.place;
-    match fetch(file, table, c.template, c.start, c.len, place) {
+    match linear_code::fetch(file, table, c.template, c.start, c.len, place) {
         LinearFetched::Plain(i, next) => act_plain(i, next, globals, stack, store, r, c),
         LinearFetched::Return => act_return(table, stack, frames, r, c),
         LinearFetched::Call(n) => act_call(table, n, r, c),
@@ -310,6 +170,20 @@ fn take_step(
         LinearFetched::Save(n, saved, rest) => act_save(n, saved, rest, stack, frames, r, c),
         LinearFetched::Jump(to) => LinearStep::Next(r, moved(c, to, c.fr)),
         LinearFetched::Bad => LinearStep::Wrong(16),
+    }
+}
+
+// The end of a run that has `left` of its budget left.
+fn ended(end: End, budget: u64, left: u64, r: Regs, c: Control) -> Run
+    requires { ⌜ left ≤ budget ⌝ }
+    ensures { λ x. ⌜ x ≡ endsWith end (budget - left) r c ⌝ }
+{
+    Run {
+        end,
+        steps: budget - left,
+        stack: r.sp,
+        store: r.st,
+        frames: c.fr,
     }
 }
 
@@ -325,46 +199,29 @@ fn run_from(
     first: Regs,
     from: Control,
 ) -> Run
-    requires { ⌜ Ready (now file) (now table) (memory (now globals) (now stack) (now store) (now frames)) first from × (budget ≤ 2000000) ⌝ }
+    requires { ⌜ Ready (now file) (now table) (memory (now globals) (now stack) (now store) (now frames)) first from ⌝ }
     ensures { λ x. ⌜ ran x (memory (now (globals .exit)) (now (stack .exit)) (now (store .exit)) (now (frames .exit))) ≡ ranFrom (bytesProgram (now (file .entry)) (now (table .entry))) budget 0 (stateOf first from (memory (now (globals .entry)) (now (stack .entry)) (now (store .entry)) (now (frames .entry)))) ⌝ }
 {
     let mut r = first;
     let mut c = from;
     let mut left = budget;
     while 0 < left {
+        let rest = left - 1;
         match take_step(file, table, globals, stack, store, frames, r, c) {
             LinearStep::Next(q, k) => {
                 r = q;
                 c = k;
             }
             LinearStep::Halted => {
-                return Run {
-                    end: End::Halted(cells::value_of(r.v)),
-                    steps: budget - left + 1,
-                    stack: r.sp,
-                    store: r.st,
-                    frames: c.fr,
-                };
+                return ended(End::Halted(cells::value_of(r.v)), budget, rest, r, c);
             }
             LinearStep::Wrong(n) => {
-                return Run {
-                    end: End::Wrong(n),
-                    steps: budget - left,
-                    stack: r.sp,
-                    store: r.st,
-                    frames: c.fr,
-                };
+                return ended(End::Wrong(n), budget, left, r, c);
             }
         }
-        left = left - 1;
+        left = rest;
     }
-    Run {
-        end: End::OutOfBudget,
-        steps: budget,
-        stack: r.sp,
-        store: r.st,
-        frames: c.fr,
-    }
+    ended(End::OutOfBudget, budget, left, r, c)
 }
 
 // At most `budget` steps, from the start.
@@ -401,7 +258,7 @@ fn run_first(
     )
 }
 
-// The run of a file where 20, 21 and 22 are not given. The table is zeros.
+// The run of a file, with a table of zeros for it to fill.
 fn run_file(
     file: &[u8],
     table: &mut [u64],
@@ -420,6 +277,22 @@ fn run_file(
     }
 }
 
+// The run of a file where 20, 21 and 22 are not given.
+fn run_accepted(
+    file: &[u8],
+    budget: u64,
+    globals: &mut [u64],
+    stack: &mut [u64],
+    store: &mut [u64],
+    frames: &mut [u64],
+) -> Run
+    requires { ⌜ Startable 2000000 budget (memory (now globals) (now stack) (now store) (now frames)) ⌝ }
+    ensures { λ x. ⌜ ran x (memory (now (globals .exit)) (now (stack .exit)) (now (store .exit)) (now (frames .exit))) ≡ onLinear budget (memory (now (globals .entry)) (now (stack .entry)) (now (store .entry)) (now (frames .entry))) (linearRead (now (file .entry))) ⌝ }
+{
+    let mut table = [0u64; 16384];
+    run_file(file, &mut table, budget, globals, stack, store, frames)
+}
+
 pub fn run_linear(
     file: &[u8],
     budget: u64,
@@ -431,10 +304,7 @@ pub fn run_linear(
     ensures { λ x. ⌜ ran x (memory (now (globals .exit)) (now (stack .exit)) (now (store .exit)) (now (frames .exit))) ≡ linearRun (now (file .entry)) budget (memory (now (globals .entry)) (now (stack .entry)) (now (store .entry)) (now (frames .entry))) ⌝ }
 {
     match machines::start_refusal(globals, stack, store, frames, budget, 2_000_000) {
-        Start::Go => {
-            let mut table = [0u64; 16384];
-            run_file(file, &mut table, budget, globals, stack, store, frames)
-        }
+        Start::Go => run_accepted(file, budget, globals, stack, store, frames),
         Start::Refused(number, place) => machines::refused(number, place),
     }
 }

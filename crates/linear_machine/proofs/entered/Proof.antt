@@ -1,5 +1,5 @@
 use borrow.Author.Needs.{needs}
-use Rattle.linear_machine.specs.Bytes.{codeStart, codeLength}
+use Rattle.linear_code.specs.Bytes.{codeStart, codeLength}
 use Rattle.linear_machine.proofs.entered.Statement.{statement}
 use Rattle.linear_machine.proofs.entered.Tie as tie
 use Rattle.linear_machine.proofs.entered.Reads as reads

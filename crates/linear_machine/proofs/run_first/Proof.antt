@@ -1,4 +1,5 @@
 use borrow.Author.Needs.{needs}
+use Rattle.machines.specs.Runs.{memory}
 use Rattle.linear_machine.proofs.FileLaws.{first-ready, first-ran}
 use Rattle.linear_machine.proofs.run_first.Statement.{statement}
 use Rattle.linear_machine.proofs.run_first.Tie as tie
@@ -18,7 +19,7 @@ entered-requires c κs = search needs
 
 -- src/lib.rt:327:5
 run-from-requires : tie.Need-run-from-requires
-run-from-requires c κs = let p = c .before .before .before .before .before .before .before .before .before .before .before .before .before .before .before .before .before .before .before .before .before .pre in (first-ready _ _ _ _ (p .1) (c .before .before .before .before .entered .ensures) (p .0 .globals-long) (c .before .before .before .before .before .before .before .before .before .before .before .clear-all .ensures .0) (c .before .before .before .before .before .before .before .before .before .before .before .clear-all .ensures .1) (c .before .before .before .before .before .before .before .before .before .before .before .clear-all .ensures .2), p .0 .budget-fits)
+run-from-requires c κs = let p = c .before .before .before .before .before .before .before .before .before .before .before .before .before .before .before .before .before .before .before .before .before .pre in first-ready _ _ (memory (c .before .before .before .before .before .before .before .before .before .before .before .before .before .before .before .before .before .before .before .before .before .args .globals .now) (c .before .before .before .before .before .before .before .before .before .before .before .clear-all .last .0) (c .before .before .before .before .before .before .before .before .before .before .before .clear-all .last .1 .0) (c .before .before .before .before .before .before .before .before .before .before .before .clear-all .last .1 .1 .0)) _ (p .1) (c .before .before .before .before .entered .ensures) (p .0 .globals-long) (c .before .before .before .before .before .before .before .before .before .before .before .clear-all .ensures .0) (c .before .before .before .before .before .before .before .before .before .before .before .clear-all .ensures .1) (c .before .before .before .before .before .before .before .before .before .before .before .clear-all .ensures .2)
 
 -- src/lib.rt:315:1
 same-length : tie.Need-same-length

@@ -1,6 +1,7 @@
 use borrow.Author.Needs.{needs}
-use Rattle.linear_machine.specs.Bytes.{bytesProgram}
-use Rattle.linear_machine.specs.Fetch.{fetchedAs}
+use Rattle.machines.specs.Runs.{memory}
+use Rattle.linear_code.specs.Bytes.{bytesProgram}
+use Rattle.linear_code.specs.Fetch.{fetchedAs}
 use mathlib.Core.Path.{refl}
 use Rattle.linear_machine.proofs.StepLaws.{step-is, code-within, saved-low, jump-goes, bad-stops}
 use Rattle.linear_machine.proofs.take_step.Statement.{statement}
@@ -12,7 +13,7 @@ use Rattle.linear_machine.proofs.act_call.Reads as act-call-reads
 use Rattle.linear_machine.proofs.act_plain.Reads as act-plain-reads
 use Rattle.linear_machine.proofs.act_return.Reads as act-return-reads
 use Rattle.linear_machine.proofs.act_save.Reads as act-save-reads
-use Rattle.linear_machine.proofs.fetch.Reads as fetch-reads
+use Rattle.linear_code.proofs.fetch.Reads as fetch-reads
 use Rattle.linear_machine.proofs.moved.Reads as moved-reads
 
 -- src/lib.rt:252:11
@@ -86,7 +87,7 @@ same-length-3 c = search needs
 -- src/lib.rt:247:1
 returns : tie.Need-returns
 unfolding fetchedAs
-returns c = let a = c .before .before .before .before .before .before .before .before .before .before .before .before .before .before .before .before .before .before .before .before .before .args in let p = c .before .before .before .before .before .before .before .before .before .before .before .before .before .before .before .before .before .before .before .before .before .pre in step-is (a .file .now) (a .table .now) _ _ (a .r) (a .c) (p .entered) _ (c .before .before .before .before .before .before .before .before .before .before .before .before .before .fetch .ensures .0) _ _ (c .before .before .before .before .before .before .before .before .before .before .before .i .given .1) (c .before .before .before .before .before .before .act-plain .ensures (bytesProgram (a .file .now) (a .table .now)) (a .table .now) (a .frames .now) (p .entered))
+returns c = let a = c .before .before .before .before .before .before .before .before .before .before .before .before .before .before .before .before .before .before .before .before .before .args in let p = c .before .before .before .before .before .before .before .before .before .before .before .before .before .before .before .before .before .before .before .before .before .pre in step-is (a .file .now) (a .table .now) (memory (a .globals .now) (a .stack .now) (a .store .now) (a .frames .now)) (memory (c .before .before .before .before .before .before .act-plain .last .1 .1 .0) (c .before .before .before .before .before .before .act-plain .last .1 .1 .1 .0) (c .before .before .before .before .before .before .act-plain .last .1 .1 .1 .1 .0) (a .frames .now)) (a .r) (a .c) (p .entered) _ (c .before .before .before .before .before .before .before .before .before .before .before .before .before .fetch .ensures .0) _ _ (c .before .before .before .before .before .before .before .before .before .before .before .i .given .1) (c .before .before .before .before .before .before .act-plain .ensures (bytesProgram (a .file .now) (a .table .now)) (a .table .now) (a .frames .now) (p .entered))
 
 -- src/lib.rt:247:1
 same-length-4 : tie.Need-same-length-4

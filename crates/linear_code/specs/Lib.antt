@@ -1,0 +1,5 @@
+-- The specs of the crate linear_code.
+pub mod Bytes
+pub mod BytesLaws
+pub mod ProgramLaws
+pub mod Fetch
