@@ -1,0 +1,239 @@
+-- The cycle of calls {link_arms, link_list, link_saved}: levels fall where an instruction's lists are linked; within a list unread bits
+-- fall. Assumes nothing.
+use Prim.Native.Nat.{_+_, _*_, _-_}
+use native.Mathlib.Omega.{arith}
+use mathlib.Core.Path.{_≡_, refl, sym, ap, _∙_}
+use mathlib.Core.List.{List}
+use lib.ListN.{length, length-set}
+use Rattle.files.specs.Reading.{listAt}
+use Rattle.links.specs.Parts.{Whole, linkedGot, linkedArms, linkedSaved}
+use Rattle.links.specs.LinkSteps.{Outcome, outcome, arms-linked, saved-linked, linked-on}
+use Rattle.links.specs.declared.Parts.{Parts}
+use borrow.Author.Needs.{needs}
+use Prim.Native.Nat.{ℕ, _<_}
+use borrow.Fn.Kinds.{In}
+use borrow.Fn.PlainCycle.{Measures, is, falls, and}
+use Rattle.links.proofs.link_arms.Reads as link-arms
+use Rattle.links.proofs.link_arms.Kinds as link-arms-kinds
+use Rattle.links.proofs.+link_arms+link_list+link_saved.Lts-link_arms as link-arms-lts
+use Rattle.links.proofs.link_list.Reads as link-list
+use Rattle.links.proofs.link_list.Kinds as link-list-kinds
+use Rattle.links.proofs.+link_arms+link_list+link_saved.Lts-link_list as link-list-lts
+use Rattle.links.proofs.link_saved.Reads as link-saved
+use Rattle.links.proofs.link_saved.Kinds as link-saved-kinds
+use Rattle.links.proofs.+link_arms+link_list+link_saved.Lts-link_saved as link-saved-lts
+use Rattle.links.proofs.parts_at.Reads as parts-at-reads
+use Rattle.links.proofs.set_link.Reads as set-link-reads
+use Rattle.links.proofs.+link_arms+link_list+link_saved.{statement}
+use Rattle.links.proofs.+link_arms+link_list+link_saved.Tie.{close}
+
+abbrev μ-link-arms : Measures 3 link-arms-kinds.ps ℕ
+μ-link-arms κs a = 2 * a .1 .1 .1 .1 .1 .1 .1 .0 + 1
+
+abbrev μ-link-list : Measures 3 link-list-kinds.ps ℕ
+μ-link-list κs a = 2 * a .1 .1 .1 .1 .1 .1 .1 .0
+
+abbrev μ-link-saved : Measures 3 link-saved-kinds.ps ℕ
+μ-link-saved κs a = 2 * a .1 .1 .1 .1 .1 .1 .1 .0 + 1
+
+abbrev link-arms-at : ℕ → In 3 link-arms-kinds.ps
+link-arms-at t = and 3 link-arms-kinds.ps (is 3 link-arms-kinds.ps μ-link-arms t) link-arms.Pre
+
+abbrev link-arms-below : ℕ → In 3 link-arms-kinds.ps
+link-arms-below t =
+    and 3 link-arms-kinds.ps (falls 3 link-arms-kinds.ps _<_ μ-link-arms t) link-arms.Pre
+
+abbrev link-list-at : ℕ → In 3 link-list-kinds.ps
+link-list-at t = and 3 link-list-kinds.ps (is 3 link-list-kinds.ps μ-link-list t) link-list.Pre
+
+abbrev link-list-below : ℕ → In 3 link-list-kinds.ps
+link-list-below t =
+    and 3 link-list-kinds.ps (falls 3 link-list-kinds.ps _<_ μ-link-list t) link-list.Pre
+
+abbrev link-saved-at : ℕ → In 3 link-saved-kinds.ps
+link-saved-at t =
+    and 3 link-saved-kinds.ps (is 3 link-saved-kinds.ps μ-link-saved t) link-saved.Pre
+
+abbrev link-saved-below : ℕ → In 3 link-saved-kinds.ps
+link-saved-below t =
+    and 3 link-saved-kinds.ps (falls 3 link-saved-kinds.ps _<_ μ-link-saved t) link-saved.Pre
+
+-- what the functions of the cycle call
+abbrev inner : ℕ → link-arms-lts.Claims
+inner t = (set-link-reads.Asked, set-link-reads.Learnt, link-list-below t, link-list.Post)
+
+abbrev outer : ℕ → link-list-lts.Claims
+outer t = (parts-at-reads.Asked, parts-at-reads.Learnt, set-link-reads.Asked, set-link-reads.Learnt, link-arms-below t, link-arms.Post, link-saved-below t, link-saved.Post)
+
+link-arms-set-link-requires : (t : ℕ) → link-arms-lts.Need-set-link-requires (inner t) (link-arms-at t) link-arms.Post
+link-arms-set-link-requires t c κs = search needs
+
+link-arms-add-t14 : (t : ℕ) → link-arms-lts.Need-add-t14 (inner t) (link-arms-at t) link-arms.Post
+link-arms-add-t14 t c = search needs
+
+link-arms-sub-t16 : (t : ℕ) → link-arms-lts.Need-sub-t16 (inner t) (link-arms-at t) link-arms.Post
+link-arms-sub-t16 t c = search needs
+
+link-arms-link-list-requires : (t : ℕ) → link-arms-lts.Need-link-list-requires (inner t) (link-arms-at t) link-arms.Post
+link-arms-link-list-requires t c κs = (omega arith, (c .before .before .before .before .before .before .before .before .before .before .pre .1 .0, c .before .before .before .before .before .before .before .before .before .before .pre .1 .1, c .before .before .before .before .before .before .before .before .before .before .pre .1 .2, omega arith, c .before .before .before .before .before .before .before .before .before .before .pre .1 .5, c .before .before .before .before .before .before .before .before .before .before .pre .1 .6))
+
+link-arms-sub-t14 : (t : ℕ) → link-arms-lts.Need-sub-t14 (inner t) (link-arms-at t) link-arms.Post
+link-arms-sub-t14 t c = search needs
+
+link-arms-link-list-requires-2 : (t : ℕ) → link-arms-lts.Need-link-list-requires-2 (inner t) (link-arms-at t) link-arms.Post
+link-arms-link-list-requires-2 t c κs = (omega arith, (c .before .before .before .before .before .before .before .before .before .before .before .before .before .before .before .pre .1 .0, c .before .before .before .before .before .before .before .before .before .before .before .before .before .before .before .pre .1 .1, c .before .before .before .before .before .before .before .before .before .before .before .before .before .before .before .pre .1 .2, omega arith, c .before .before .before .before .before .before .before .before .before .before .before .before .before .before .before .pre .1 .5, c .before .before .before .before .before .before .before .before .before .before .before .before .before .before .before .pre .1 .7))
+
+link-arms-same-length : (t : ℕ) → link-arms-lts.Need-same-length (inner t) (link-arms-at t) link-arms.Post
+link-arms-same-length t c = search needs
+
+link-arms-returns : (t : ℕ) → link-arms-lts.Need-returns (inner t) (link-arms-at t) link-arms.Post
+link-arms-returns t c = arms-linked _ _ _ _ (c .before .before .before .before .before .before .before .before .before .before .before .before .before .before .before .before .before .before .args .at .0) (c .before .before .before .before .before .before .before .before .before .before .before .before .before .before .before .before .before .before .args .second .0) (c .before .before .before .before .before .before .before .before .before .before .before .before .before .before .before .before .before .before .args .past .0) _ _ (c .before .before .before .before .before .before .before .before .before .before .before .before .before .set-link .ensures) (c .before .before .before .before .before .before .before .link-list .ensures) (c .before .before .link-list2 .ensures)
+
+abbrev link-list-Inv-loop : link-list-lts.InvT-loop
+link-list-Inv-loop s table own links₀ end follow levels here₀ links here =
+    (linkedGot links₀ (here₀ .0) (end .0) (follow .0) (listAt s levels (here₀ .0)) ≡ linkedGot links (here .0) (end .0) (follow .0) (listAt s levels (here .0)))
+    × Whole (listAt s levels (here .0))
+    × (length links ≡ length links₀)
+
+abbrev link-list-μ-loop : link-list-lts.MeasureT-loop
+link-list-μ-loop s table own links₀ end follow levels here₀ links here = 8 * length s - here .0
+
+-- what is left to do, by what stands here
+at-turn : (t : ℕ) (k : link-list-lts.After-parts-at (outer t) (link-list-at t) link-list.Post link-list-Inv-loop link-list-μ-loop) (x : Parts) → k .parts-at .result ≡ x
+    → Outcome (k .before .before .before .before .before .args .s .now) (k .before .before .before .before .before .args .levels) (k .before .loop .here .0) (k .before .loop .links) (k .before .before .before .before .before .args .end .0) (k .before .before .before .before .before .args .follow .0) x
+at-turn t k x e = outcome _ _ _ (k .before .loop .inv .1) _ _ _ x (sym (k .parts-at .ensures) ∙ e)
+
+link-list-loop-holds : (t : ℕ) → link-list-lts.Need-loop-holds (outer t) (link-list-at t) link-list.Post link-list-Inv-loop link-list-μ-loop
+link-list-loop-holds t c = search needs
+
+link-list-parts-at-requires : (t : ℕ) → link-list-lts.Need-parts-at-requires (outer t) (link-list-at t) link-list.Post link-list-Inv-loop link-list-μ-loop
+link-list-parts-at-requires t c κs = search needs
+
+link-list-enum-told : (t : ℕ) → link-list-lts.Need-enum-told (outer t) (link-list-at t) link-list.Post link-list-Inv-loop link-list-μ-loop
+link-list-enum-told t c = search needs
+
+link-list-set-link-requires : (t : ℕ) → link-list-lts.Need-set-link-requires (outer t) (link-list-at t) link-list.Post link-list-Inv-loop link-list-μ-loop
+link-list-set-link-requires t c κs = search needs
+
+link-list-same-length : (t : ℕ) → link-list-lts.Need-same-length (outer t) (link-list-at t) link-list.Post link-list-Inv-loop link-list-μ-loop
+link-list-same-length t c = search needs
+
+link-list-returns : (t : ℕ) → link-list-lts.Need-returns (outer t) (link-list-at t) link-list.Post link-list-Inv-loop link-list-μ-loop
+link-list-returns t c = c .before .before .set-link .ensures ∙ sym (c .before .before .before .before .before .before .before .loop .inv .0 ∙ at-turn t (c .before .before .before .before .before .before) _ (c .before .before .before .before .enum-told .given .1))
+
+link-list-enum-known-past : (t : ℕ) → link-list-lts.Need-enum-known-past (outer t) (link-list-at t) link-list.Post link-list-Inv-loop link-list-μ-loop
+link-list-enum-known-past t c = search needs
+
+link-list-loop-less : (t : ℕ) → link-list-lts.Need-loop-less (outer t) (link-list-at t) link-list.Post link-list-Inv-loop link-list-μ-loop
+link-list-loop-less t c = let w = at-turn t (c .before .before .before) _ (c .before .past .given .1) in omega arith
+
+link-list-loop-again : (t : ℕ) → link-list-lts.Need-loop-again (outer t) (link-list-at t) link-list.Post link-list-Inv-loop link-list-μ-loop
+link-list-loop-again t c = let w = at-turn t (c .before .before .before) _ (c .before .past .given .1) in (c .before .before .before .before .loop .inv .0 ∙ w .links, w .whole, c .before .before .before .before .loop .inv .2)
+
+link-list-enum-known-second : (t : ℕ) → link-list-lts.Need-enum-known-second (outer t) (link-list-at t) link-list.Post link-list-Inv-loop link-list-μ-loop
+link-list-enum-known-second t c = search needs
+
+link-list-sub-link-arms : (t : ℕ) → link-list-lts.Need-sub-link-arms (outer t) (link-list-at t) link-list.Post link-list-Inv-loop link-list-μ-loop
+link-list-sub-link-arms t c = let w = at-turn t (c .before .before .before .before) _ (c .before .before .second .given .1) in omega (arith, w .levels-left)
+
+link-list-link-arms-requires : (t : ℕ) → link-list-lts.Need-link-arms-requires (outer t) (link-list-at t) link-list.Post link-list-Inv-loop link-list-μ-loop
+link-list-link-arms-requires t c κs = let w = at-turn t (c .before .before .before .before) _ (c .before .before .second .given .1) in (omega arith, (c .before .before .before .before .before .before .before .before .before .pre .1 .0, c .before .before .before .before .before .before .before .before .before .pre .1 .1, c .before .before .before .before .before .before .before .before .before .pre .1 .2, w .first-room, w .second-room, omega arith, w .first-whole, w .second-whole))
+
+link-list-loop-less-2 : (t : ℕ) → link-list-lts.Need-loop-less-2 (outer t) (link-list-at t) link-list.Post link-list-Inv-loop link-list-μ-loop
+link-list-loop-less-2 t c = let w = at-turn t (c .before .before .before .before .before .before .before) _ (c .before .before .before .before .before .second .given .1) in omega arith
+
+link-list-loop-again-2 : (t : ℕ) → link-list-lts.Need-loop-again-2 (outer t) (link-list-at t) link-list.Post link-list-Inv-loop link-list-μ-loop
+link-list-loop-again-2 t c = let w = at-turn t (c .before .before .before .before .before .before .before) _ (c .before .before .before .before .before .second .given .1) in (linked-on _ _ _ _ (c .before .before .before .before .before .before .before .before .loop .inv .0 ∙ w .left .links) (c .before .before .link-arms .ensures), w .left .whole, c .before .before .link-arms .kept .1 .1 .1 .0 ∙ c .before .before .before .before .before .before .before .before .loop .inv .2)
+
+link-list-enum-known-past-2 : (t : ℕ) → link-list-lts.Need-enum-known-past-2 (outer t) (link-list-at t) link-list.Post link-list-Inv-loop link-list-μ-loop
+link-list-enum-known-past-2 t c = search needs
+
+link-list-sub-link-saved : (t : ℕ) → link-list-lts.Need-sub-link-saved (outer t) (link-list-at t) link-list.Post link-list-Inv-loop link-list-μ-loop
+link-list-sub-link-saved t c = let w = at-turn t (c .before .before .before .before) _ (c .before .before .past2 .given .1) in omega (arith, w .levels-left)
+
+link-list-link-saved-requires : (t : ℕ) → link-list-lts.Need-link-saved-requires (outer t) (link-list-at t) link-list.Post link-list-Inv-loop link-list-μ-loop
+link-list-link-saved-requires t c κs = let w = at-turn t (c .before .before .before .before) _ (c .before .before .past2 .given .1) in (omega arith, (c .before .before .before .before .before .before .before .before .before .pre .1 .0, c .before .before .before .before .before .before .before .before .before .pre .1 .1, c .before .before .before .before .before .before .before .before .before .pre .1 .2, w .room, omega arith, c .before .before .before .before .before .before .before .before .before .pre .1 .3, w .saved-whole))
+
+link-list-loop-less-3 : (t : ℕ) → link-list-lts.Need-loop-less-3 (outer t) (link-list-at t) link-list.Post link-list-Inv-loop link-list-μ-loop
+link-list-loop-less-3 t c = let w = at-turn t (c .before .before .before .before .before .before .before) _ (c .before .before .before .before .before .past2 .given .1) in omega arith
+
+link-list-loop-again-3 : (t : ℕ) → link-list-lts.Need-loop-again-3 (outer t) (link-list-at t) link-list.Post link-list-Inv-loop link-list-μ-loop
+link-list-loop-again-3 t c = let w = at-turn t (c .before .before .before .before .before .before .before) _ (c .before .before .before .before .before .past2 .given .1) in (linked-on _ _ _ _ (c .before .before .before .before .before .before .before .before .loop .inv .0 ∙ w .left .links) (c .before .before .link-saved .ensures), w .left .whole, c .before .before .link-saved .kept .1 .1 .1 .0 ∙ c .before .before .before .before .before .before .before .before .loop .inv .2)
+
+link-list-enum-told-2 : (t : ℕ) → link-list-lts.Need-enum-told-2 (outer t) (link-list-at t) link-list.Post link-list-Inv-loop link-list-μ-loop
+link-list-enum-told-2 t c = search needs
+
+link-list-same-length-2 : (t : ℕ) → link-list-lts.Need-same-length-2 (outer t) (link-list-at t) link-list.Post link-list-Inv-loop link-list-μ-loop
+link-list-same-length-2 t c = search needs
+
+link-list-returns-2 : (t : ℕ) → link-list-lts.Need-returns-2 (outer t) (link-list-at t) link-list.Post link-list-Inv-loop link-list-μ-loop
+link-list-returns-2 t c = absurd (at-turn t (c .before .before) _ (c .enum-told2 .given .1))
+
+link-saved-set-link-requires : (t : ℕ) → link-saved-lts.Need-set-link-requires (inner t) (link-saved-at t) link-saved.Post
+link-saved-set-link-requires t c κs = search needs
+
+link-saved-add-t14 : (t : ℕ) → link-saved-lts.Need-add-t14 (inner t) (link-saved-at t) link-saved.Post
+link-saved-add-t14 t c = search needs
+
+link-saved-sub-t16 : (t : ℕ) → link-saved-lts.Need-sub-t16 (inner t) (link-saved-at t) link-saved.Post
+link-saved-sub-t16 t c = search needs
+
+link-saved-link-list-requires : (t : ℕ) → link-saved-lts.Need-link-list-requires (inner t) (link-saved-at t) link-saved.Post
+link-saved-link-list-requires t c κs = (omega arith, (c .before .before .before .before .before .before .before .before .before .before .pre .1 .0, c .before .before .before .before .before .before .before .before .before .before .pre .1 .1, c .before .before .before .before .before .before .before .before .before .before .pre .1 .2, omega arith, c .before .before .before .before .before .before .before .before .before .before .pre .1 .5, c .before .before .before .before .before .before .before .before .before .before .pre .1 .6))
+
+link-saved-same-length : (t : ℕ) → link-saved-lts.Need-same-length (inner t) (link-saved-at t) link-saved.Post
+link-saved-same-length t c = search needs
+
+link-saved-returns : (t : ℕ) → link-saved-lts.Need-returns (inner t) (link-saved-at t) link-saved.Post
+link-saved-returns t c = saved-linked _ _ _ (c .before .before .before .before .before .before .before .before .before .before .before .before .before .args .at .0) _ (c .before .before .before .before .before .before .before .before .before .before .before .before .before .args .past .0) _ (c .before .before .before .before .before .before .before .before .set-link .ensures) (c .before .before .link-list .ensures)
+
+pub +link-arms+link-list+link-saved-spec : {M : Type 1} → statement M
++link-arms+link-list+link-saved-spec =
+    close μ-link-arms μ-link-list μ-link-saved (λ t. link-arms-lts.spec (inner t)
+    (link-arms-at t)
+    link-arms.Post
+    (link-arms-set-link-requires t)
+    (link-arms-add-t14 t)
+    (link-arms-sub-t16 t)
+    (link-arms-link-list-requires t)
+    (link-arms-sub-t14 t)
+    (link-arms-link-list-requires-2 t)
+    (link-arms-same-length t)
+    (link-arms-returns t))
+    (λ t. link-list-lts.spec (outer t)
+    (link-list-at t)
+    link-list.Post
+    link-list-Inv-loop
+    link-list-μ-loop
+    (link-list-loop-holds t)
+    (link-list-parts-at-requires t)
+    (link-list-enum-told t)
+    (link-list-set-link-requires t)
+    (link-list-same-length t)
+    (link-list-returns t)
+    (link-list-enum-known-past t)
+    (link-list-loop-less t)
+    (link-list-loop-again t)
+    (link-list-enum-known-second t)
+    (link-list-sub-link-arms t)
+    (link-list-link-arms-requires t)
+    (link-list-loop-less-2 t)
+    (link-list-loop-again-2 t)
+    (link-list-enum-known-past-2 t)
+    (link-list-sub-link-saved t)
+    (link-list-link-saved-requires t)
+    (link-list-loop-less-3 t)
+    (link-list-loop-again-3 t)
+    (link-list-enum-told-2 t)
+    (link-list-same-length-2 t)
+    (link-list-returns-2 t))
+    λ t. link-saved-lts.spec
+    (inner t)
+    (link-saved-at t)
+    link-saved.Post
+    (link-saved-set-link-requires t)
+    (link-saved-add-t14 t)
+    (link-saved-sub-t16 t)
+    (link-saved-link-list-requires t)
+    (link-saved-same-length t)
+    (link-saved-returns t)

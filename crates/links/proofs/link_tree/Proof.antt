@@ -1,0 +1,65 @@
+-- `links::link_tree` meets its contract. The loop's invariant: what is left to link from template `own` on gives what the whole gives.
+-- Assumes nothing.
+use Prim.Native.Nat.{ℕ, _+_, _*_, _-_, _≤_}
+use native.Mathlib.Omega.{arith}
+use mathlib.Core.Path.{_≡_, refl, sym, ap, _∙_}
+use lib.ListN.{length}
+use Rattle.files.specs.Tree.{treeRead}
+use Rattle.links.specs.TreeSteps.{linkedFrom, ready-short, at-most-64, linked-all, list-whole, template-linked, linked-on}
+use borrow.Author.Needs.{needs}
+use Rattle.links.proofs.link_tree.Statement.{statement}
+use Rattle.links.proofs.link_tree.Tie as tie
+
+abbrev Inv-loop : tie.InvT-loop
+Inv-loop s table count links₀ own₀ links own =
+    (linkedFrom links₀ 0 (treeRead s) ≡ linkedFrom links own (treeRead s)) × (own ≤ count) × (length links ≡ length links₀)
+
+abbrev μ-loop : tie.MeasureT-loop
+μ-loop s table count links₀ own₀ links own = count - own
+
+loop-holds : tie.Need-loop-holds Inv-loop μ-loop
+loop-holds c = search needs
+
+mul-t8 : tie.Need-mul-t8 Inv-loop μ-loop
+mul-t8 c = omega (arith, at-most-64 (c .before .before .before .before .before .pre .0))
+
+mul-t9 : tie.Need-mul-t9 Inv-loop μ-loop
+mul-t9 c = omega (arith, at-most-64 (c .before .before .before .before .before .pre .0))
+
+shared-slice-read-t11 : tie.Need-shared-slice-read-t11 Inv-loop μ-loop
+shared-slice-read-t11 c = omega (arith, at-most-64 (c .before .before .before .before .before .before .pre .0), c .before .before .before .before .before .before .pre .1)
+
+link-list-requires : tie.Need-link-list-requires Inv-loop μ-loop
+link-list-requires c κs = let r = c .before .before .before .before .before .before .before .pre .0 in (ready-short r, c .before .before .before .before .before .before .before .pre .1, omega (arith, at-most-64 r), omega arith, omega arith, list-whole r (c .before .before .before .loop .own) (c .before .before .loop-test .taken))
+
+add-own : tie.Need-add-own Inv-loop μ-loop
+add-own c = search needs
+
+loop-less : tie.Need-loop-less Inv-loop μ-loop
+loop-less c = search needs
+
+loop-again : tie.Need-loop-again Inv-loop μ-loop
+loop-again c = (linked-on _ _ (c .before .before .before .before .before .before .loop .inv .0 ∙ template-linked (c .before .before .before .before .before .before .before .before .before .before .pre .0) _ (c .before .before .before .before .before .loop-test .taken) _) (c .before .before .link-list .ensures), omega arith, c .before .before .link-list .kept .1 .1 .1 .0 ∙ c .before .before .before .before .before .before .loop .inv .2)
+
+same-length : tie.Need-same-length Inv-loop μ-loop
+same-length c = search needs
+
+returns : tie.Need-returns Inv-loop μ-loop
+returns c = sym (c .before .loop .inv .0 ∙ linked-all (c .before .before .before .before .before .pre .0) _ _ (omega arith))
+
+pub link-tree-spec : {M : Type 1} → statement M
+link-tree-spec =
+    tie.close
+    (tie.spec
+    Inv-loop
+    μ-loop
+    loop-holds
+    mul-t8
+    mul-t9
+    shared-slice-read-t11
+    link-list-requires
+    add-own
+    loop-less
+    loop-again
+    same-length
+    returns)

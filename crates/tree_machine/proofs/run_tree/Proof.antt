@@ -1,0 +1,77 @@
+-- `tree_machine::run_tree` meets its contract. Assumes nothing.
+use Rattle.machines.specs.Start.{zeros}
+use Rattle.tree_machine.specs.FileLaws.{may-start, start-goes, start-refused}
+use mathlib.Core.Path.{_≡_, refl, sym, ap, _∙_}
+use borrow.Author.Needs.{needs}
+use Rattle.tree_machine.proofs.run_tree.Statement.{statement}
+use Rattle.tree_machine.proofs.run_tree.Tie as tie
+
+start-refusal-requires : tie.Need-start-refusal-requires
+start-refusal-requires c κs = search needs
+
+enum-told : tie.Need-enum-told
+enum-told c = search needs
+
+slice-aggregate-run-file : tie.Need-slice-aggregate-run-file
+slice-aggregate-run-file c = search needs
+
+run-file-requires : tie.Need-run-file-requires
+unfolding zeros
+run-file-requires c κs = (may-start _ _ _ (c .before .before .before .before .before .before .before .start-refusal .ensures) (c .before .before .before .before .before .enum-told .given .1), refl)
+
+enum-known-number : tie.Need-enum-known-number
+enum-known-number c = search needs
+
+refused-requires : tie.Need-refused-requires
+refused-requires c κs = search needs
+
+same-length : tie.Need-same-length
+same-length c = search needs
+
+same-length-2 : tie.Need-same-length-2
+same-length-2 c = search needs
+
+same-length-3 : tie.Need-same-length-3
+same-length-3 c = search needs
+
+same-length-4 : tie.Need-same-length-4
+same-length-4 c = search needs
+
+returns : tie.Need-returns
+returns c = start-goes _ _ _ (c .before .before .before .before .before .before .before .before .before .before .before .before .before .before .before .before .before .start-refusal .ensures) _ _ (c .before .before .before .before .before .before .before .before .before .before .before .before .before .before .before .enum-told .given .1) (c .before .before .before .before .before .before .before .before .before .run-file .ensures)
+
+same-length-5 : tie.Need-same-length-5
+same-length-5 c = search needs
+
+same-length-6 : tie.Need-same-length-6
+same-length-6 c = search needs
+
+same-length-7 : tie.Need-same-length-7
+same-length-7 c = search needs
+
+same-length-8 : tie.Need-same-length-8
+same-length-8 c = search needs
+
+returns-2 : tie.Need-returns-2
+returns-2 c = start-refused _ _ _ (c .before .before .before .before .start-refusal .ensures) _ _ _ _ (c .before .before .number .given .1) (c .refused .ensures)
+
+pub run-tree-spec : {M : Type 1} → statement M
+run-tree-spec =
+    tie.close
+    (tie.spec
+    start-refusal-requires
+    enum-told
+    slice-aggregate-run-file
+    run-file-requires
+    enum-known-number
+    refused-requires
+    same-length
+    same-length-2
+    same-length-3
+    same-length-4
+    returns
+    same-length-5
+    same-length-6
+    same-length-7
+    same-length-8
+    returns-2)

@@ -1,0 +1,124 @@
+-- The run of a whole file, by what reading it answered. Assumes nothing.
+use Prim.Native.Nat.{ℕ, _≤_, _<_}
+use mathlib.Core.Path.{_≡_, refl, sym, ap, _∙_}
+use mathlib.Core.List.{List}
+use native.Mathlib.Omega.{arith}
+use lib.ListN.{length, length-replicate}
+use Rattle.cells.specs.declared.BitPlace.{BitPlace}
+use Rattle.files.specs.Reading.{Got, got, refused}
+use Rattle.files.specs.Table.{treeTable}
+use Rattle.files.specs.Tree.{Template, treeRead}
+use Rattle.files.specs.Accepted.{treeChecked}
+use Rattle.tree.specs.Summary.{summaryOf, treeTold}
+use Rattle.tree.specs.Filled.{treeFilled}
+use Rattle.tree.specs.FilledLaws.{tree-table}
+use Rattle.tree.specs.Judged.{ReadFile, tree-told, checked-refused, judged-unclosed, judged-misnamed, judged-good, file as read-file}
+use Rattle.tree.specs.declared.Summary.{Summary}
+use Rattle.tree.specs.declared.TreeFile.{TreeFile}
+use Rattle.tree.specs.declared.TreeFile.the-variants.{Read, Refused}
+use Rattle.links.specs.Links.{linkedAll}
+use Rattle.links.specs.TreeSteps.{linkedFrom, Ready}
+use Rattle.rules.specs.Fit.{Fit}
+use Rattle.machines.specs.Machine.{Program, treeProgram, State}
+use Rattle.machines.specs.Runs.{Memory, memory, Ran, ran, refusedRun, startState, reported, programRun, onTree, treeRun}
+use Rattle.machines.specs.Slots.{slotAt}
+use Rattle.machines.specs.Start.{zeros, refusal, startRefusal, Startable, startable, started-go, started-refused}
+use Rattle.machines.specs.Steps.{ranFrom}
+use Rattle.machines.specs.declared.Run.{Run}
+use Rattle.machines.specs.declared.Start.{Start}
+use Rattle.machines.specs.declared.Start.the-variants as started
+use Rattle.tree_machine.specs.Fetch.{linkedProgram}
+use Rattle.tree_machine.specs.Step.{control, stateOf, firstRegs, firstState, Steppable}
+use Rattle.tree_machine.specs.Agree.{tree-run}
+
+pub zeros-length : (n : ℕ) → length (zeros n) ≡ n
+unfolding zeros
+zeros-length n = length-replicate n 0
+
+-- ---- the first state
+pub first-steppable : (s : List ℕ) (m : Memory) (p : BitPlace) → length s ≤ 65536 → length (m .globals) ≡ 256 → m .stack ≡ zeros 256 → m .store ≡ zeros 2048 → m .frames ≡ zeros 2048
+    → Steppable s m firstRegs (control 0 p 0)
+first-steppable s m p w lg ls lt lf =
+    record {
+      short = w;
+      fit = record { fit-sp = omega arith; fit-st = omega arith };
+      frames-fit = omega arith;
+      globals-long = lg;
+      stack-long = ap length ls ∙ zeros-length 256;
+      store-long = ap length lt ∙ zeros-length 2048;
+      frames-long = ap length lf ∙ zeros-length 2048;
+    }
+
+pub first-ran : (P : Program) (b : ℕ) (table g a t f : List ℕ) (p : BitPlace) (r : Ran) → p .0 ≡ slotAt table 0 0 → a ≡ zeros 256 → t ≡ zeros 2048 → f ≡ zeros 2048
+    → r ≡ ranFrom P b 0 (stateOf firstRegs (control 0 p 0) (memory g a t f)) → r ≡ ranFrom P b 0 (firstState table g)
+first-ran P b table g a t f p r e ea et ef h = h ∙ rw (e, ea, et, ef)
+
+first-is : (table g : List ℕ) → firstState table g ≡ startState g (slotAt table 0 0)
+unfolding startState zeros
+first-is table g = refl
+
+-- ---- the links of a file
+pub linked-ran : (s table L L₀ : List ℕ) (g : Got (List Template)) (b : ℕ) (x : State) (r : Ran) → L ≡ linkedFrom L₀ 0 g → L₀ ≡ zeros 104858
+    → r ≡ ranFrom (linkedProgram s L table) b 0 x → r ≡ ranFrom (linkedProgram s (linkedFrom (zeros 104858) 0 g) table) b 0 x
+linked-ran s table L L₀ g b x r e e₀ h = h ∙ rw (e, e₀)
+
+-- ---- a file that is accepted
+accepted-ran : (s table : List ℕ) (b : ℕ) (m : Memory) (r : Ran) (ts : List Template) (q : ℕ) → treeChecked s ≡ got ts q → treeRead s ≡ got ts q → table ≡ treeTable ts
+    → r ≡ ranFrom (linkedProgram s (linkedFrom (zeros 104858) 0 (treeRead s)) table) b 0 (firstState table (m .globals)) → r ≡ onTree b m (treeChecked s)
+unfolding onTree linkedFrom
+accepted-ran s table b m r ts q checked read tabled e =
+    e ∙ rw (checked, read, tabled)
+    (ap (ranFrom (linkedProgram s (linkedAll (zeros 104858) ts) (treeTable ts)) b 0) (first-is (treeTable ts) (m .globals))
+    ∙ tree-run s ts q checked (zeros 104858) (zeros-length 104858) b (m .globals))
+
+-- ---- a file s that was read
+module _ (s : List ℕ) (x : TreeFile) (m : Summary) (asked : x ≡ treeTold (treeRead s)) (there : x ≡ Read m) where
+  told : treeTold (treeRead s) ≡ Read m
+  told = sym asked ∙ there
+
+  file : ReadFile s m
+  file = tree-told s told
+
+  pub file-ready : (table : List ℕ) → table ≡ treeFilled s → Ready s table (m .count)
+  unfolding summaryOf
+  file-ready table filled = record {
+    templates = file .templates;
+    past = file .past;
+    read = file .is;
+    tabled = filled ∙ tree-table s (file .is);
+    counted = ap (λ (y : Summary). y .count) (sym (file .summary));
+  }
+
+  module _ (b : ℕ) (mem : Memory) where
+    pub file-unclosed : (r : Run) → m .unclosed < 64 → r ≡ refusal 6 (m .unclosed) → ran r mem ≡ onTree b mem (treeChecked s)
+    unfolding onTree refusedRun
+    file-unclosed r h e = rw (e, judged-unclosed s told h)
+
+    pub file-misnamed : (r : Run) → 64 ≤ m .unclosed → m .misnamed < 64 → r ≡ refusal 7 (m .misnamed) → ran r mem ≡ onTree b mem (treeChecked s)
+    unfolding onTree refusedRun
+    file-misnamed r k h e = rw (e, judged-misnamed s told k h)
+
+    pub file-ran : (table : List ℕ) (r : Ran) → 64 ≤ m .unclosed → 64 ≤ m .misnamed → table ≡ treeFilled s
+        → r ≡ ranFrom (linkedProgram s (linkedFrom (zeros 104858) 0 (treeRead s)) table) b 0 (firstState table (mem .globals)) → r ≡ onTree b mem (treeChecked s)
+    file-ran table r k h filled e =
+        let f = read-file s told in
+        accepted-ran s table b mem r (f .templates) (f .past) (judged-good s told k h) (f .is) (filled ∙ tree-table s (f .is)) e
+
+-- ---- a file that is refused 1 to 5
+pub file-refused : (s : List ℕ) (x : TreeFile) (b : ℕ) (m : Memory) (n : ℕ) (p : BitPlace) (r : Run) → x ≡ treeTold (treeRead s) → x ≡ Refused n p → r ≡ refusal n (p .0)
+    → ran r m ≡ onTree b m (treeChecked s)
+unfolding onTree refusedRun
+file-refused s x b m n p r e h k = rw (k, checked-refused s (sym e ∙ h))
+
+-- ---- the start
+module _ (b : ℕ) (m : Memory) (x : Start) (asked : x ≡ startRefusal 1000000 b m) where
+  pub may-start : x ≡ started.Go → Startable 1000000 b m
+  may-start h = startable 1000000 b m (sym asked ∙ h)
+
+  pub start-goes : (s : List ℕ) (r : Ran) → x ≡ started.Go → r ≡ onTree b m (treeChecked s) → r ≡ treeRun s b m
+  unfolding treeRun
+  start-goes s r h e = e ∙ sym (started-go 1000000 b m (onTree b m (treeChecked s)) (sym asked ∙ h))
+
+  pub start-refused : (s : List ℕ) (n p : ℕ) (r : Run) → x ≡ started.Refused n p → r ≡ refusal n p → ran r m ≡ treeRun s b m
+  unfolding treeRun
+  start-refused s n p r h e = rw e (sym (started-refused 1000000 b m (onTree b m (treeChecked s)) n p (sym asked ∙ h)))
