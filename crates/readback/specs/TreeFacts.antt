@@ -134,9 +134,10 @@ pub record TreeFacts (ts : List Template) : Type 0 where
   pub each : Each (TemplateFacts (length ts)) 0 ts
   pub fits : length (linearFile ts) < 262144
 
-pub tree-facts : (s : List ℕ) (ts : List Template) (q : ℕ) → treeRead s ≡ got ts q → TreeFacts ts
+-- the facts, and how long the linear file is at most: two bytes for five bits
+tree-read : (s : List ℕ) (ts : List Template) (q : ℕ) → treeRead s ≡ got ts q → TreeFacts ts × (5 * length (linearFile ts) ≤ 16 * length s)
 unfolding treeRead linearFile
-tree-facts s ts q e =
+tree-read s ts q e =
     let c = cond-led (leb (length s) 65536) _ 1 0 e in
     let small : length s ≤ 65536 = leb-true (length s) 65536 (c .0) in
     then-led (field s 0 8) _ (c .1)
@@ -156,4 +157,11 @@ tree-facts s ts q e =
       at-most-64 = omega (arith, leb-true T 64 (a .1));
       each = rw n (facts .each);
       fits = omega arith;
-    })))
+    },
+    omega arith)))
+
+pub tree-facts : (s : List ℕ) (ts : List Template) (q : ℕ) → treeRead s ≡ got ts q → TreeFacts ts
+tree-facts s ts q e = tree-read s ts q e .0
+
+pub tree-short : (s : List ℕ) (ts : List Template) (q : ℕ) → treeRead s ≡ got ts q → 5 * length (linearFile ts) ≤ 16 * length s
+tree-short s ts q e = tree-read s ts q e .1

@@ -1,0 +1,2 @@
+-- The laws that the proofs of the crate exporter share.
+pub mod Laws

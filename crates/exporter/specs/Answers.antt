@@ -1,0 +1,97 @@
+-- The answer of every run fits into its cell: it is read off a cell. Assumes nothing.
+use Prim.Native.Nat.{ℕ, _<_, _^_}
+use native.Mathlib.Omega.{arith}
+use mathlib.Core.Path.{_≡_, refl}
+use mathlib.Core.Bool.{Bool, true, false, cond}
+use mathlib.Core.Option.{Option, none, some}
+use lib.Dec.{eqb, leb}
+use lib.ListN.{length}
+use mathlib.Core.List.{List}
+use Rattle.cells.specs.Cells.{valueOf, tagOf, byTag}
+use Rattle.cells.specs.declared.Value.{Value}
+use Rattle.cells.specs.declared.Value.the-variants.{False, True, Null, Unspecified, Integer, Procedure, Pair, NoValue}
+use Rattle.files.specs.Reading.{Got, got, refused}
+use Rattle.files.specs.Tree.{Template}
+use Rattle.files.specs.Linear.{Linear, linearRead}
+use Rattle.files.specs.Accepted.{treeChecked}
+use Rattle.machines.specs.Machine.{Ending, halted, wrongly, spent, Ended}
+use Rattle.machines.specs.Runs.{Memory, Ran, ran, refusedRun, lowestUnfit, fitGlobals, rightLengths, started, endOf, reported, onTree, onLinear, treeRun, linearRun}
+use Rattle.machines.specs.declared.End.{End}
+use Rattle.machines.specs.declared.End.the-variants.{Halted, Wrong, OutOfBudget, Refused}
+
+-- the fields of a value fit into a cell; NoValue has none
+unfoldable pub FitsCell : Value → Type 0
+FitsCell False = Unit
+FitsCell True = Unit
+FitsCell Null = Unit
+FitsCell Unspecified = Unit
+FitsCell (Integer x) = Unit
+FitsCell (Procedure c) = (c .template < 2 ^ 8) × (c .env < 2 ^ 16) × (c .location < 2 ^ 16)
+FitsCell (Pair a b) = (a < 2 ^ 16) × (b < 2 ^ 16)
+FitsCell NoValue = Unit
+
+unfoldable pub AnswerFits : End → Type 0
+unfolding FitsCell
+AnswerFits (Halted v) = FitsCell v
+AnswerFits (Wrong n) = Unit
+AnswerFits OutOfBudget = Unit
+AnswerFits (Refused n p) = Unit
+
+unfoldable pub RanFits : Ran → Type 0
+unfolding AnswerFits
+RanFits (ran r m) = AnswerFits (r .end)
+
+either : {A : Type 0} (P : A → Type 0) (b : Bool) (x y : A) → P x → P y → P (cond b x y)
+either P true x y h k = h
+either P false x y h k = k
+
+value-fits : (c : ℕ) → FitsCell (valueOf c)
+unfolding valueOf FitsCell
+value-fits c =
+    either FitsCell (eqb (tagOf c) 1) _ _ tt
+    (either FitsCell (eqb (tagOf c) 2) _ _ tt
+    (either FitsCell (eqb (tagOf c) 3) _ _ tt
+    (either FitsCell (eqb (tagOf c) 4) _ _ tt
+    (either FitsCell (eqb (tagOf c) 6) _ _ tt
+    (either FitsCell (eqb (tagOf c) 7) _ _ (omega arith, omega arith, omega arith)
+    (either FitsCell (eqb (tagOf c) 8) _ _ (omega arith, omega arith) tt))))))
+
+end-fits : (e : Ending) (v : ℕ) → AnswerFits (endOf e v)
+unfolding endOf AnswerFits
+end-fits halted v = value-fits v
+end-fits (wrongly n) v = tt
+end-fits spent v = tt
+
+reported-fits : (e : Ended) → RanFits (reported e)
+unfolding reported RanFits
+reported-fits e = end-fits (e .ending) (e .state .now .regs .v)
+
+refused-fits : (n p : ℕ) (m : Memory) → RanFits (refusedRun n p m)
+unfolding refusedRun RanFits
+refused-fits n p m = tt
+
+unfit-fits : (u : Option ℕ) (m : Memory) (r : Ran) → RanFits r → RanFits (fitGlobals u m r)
+unfolding fitGlobals
+unfit-fits (some g) m r h = refused-fits 22 g m
+unfit-fits none m r h = h
+
+started-fits : (most b : ℕ) (m : Memory) (r : Ran) → RanFits r → RanFits (started most b m r)
+unfolding started
+started-fits most b m r h =
+    either RanFits (rightLengths m) _ _ (either RanFits (leb b most) _ _ (unfit-fits (lowestUnfit 0 (m .globals)) m r h) (refused-fits 21 0 m)) (refused-fits 20 0 m)
+
+pub tree-fits : (s : List ℕ) (b : ℕ) (m : Memory) → RanFits (treeRun s b m)
+unfolding treeRun
+tree-fits s b m = started-fits 1000000 b m _ (on (treeChecked s))
+  where
+    on : (g : Got (List Template)) → RanFits (onTree b m g)
+    on (got ts q) = reported-fits _
+    on (refused n p) = refused-fits n p m
+
+pub linear-fits : (s : List ℕ) (b : ℕ) (m : Memory) → RanFits (linearRun s b m)
+unfolding linearRun
+linear-fits s b m = started-fits 2000000 b m _ (on (linearRead s))
+  where
+    on : (g : Got (List Linear)) → RanFits (onLinear b m g)
+    on (got ts q) = reported-fits _
+    on (refused n p) = refused-fits n p m

@@ -1,0 +1,68 @@
+-- What the library's functions leave in the slices that C lends (include/exporter.h): the slots of a result, and nothing at all done where it is too short.
+use Prim.Native.Nat.{ℕ}
+use mathlib.Core.Bool.{cond}
+use mathlib.Core.List.{List, [], _∷_}
+use lib.Dec.{leb}
+use lib.ListN.{length}
+use lib.Seq.{sets}
+use Rattle.cells.specs.Cells.{cellOf}
+use Rattle.files.specs.Reading.{Got}
+use Rattle.flatten.specs.Flatten.{flattened, answered, written}
+use Rattle.flatten.specs.declared.Flattened.{Flattened}
+use Rattle.flatten.specs.declared.Flattened.the-variants.{Written}
+use Rattle.flatten.specs.declared.Flattened.the-variants.{Refused as FlatRefused}
+use Rattle.machines.specs.Runs.{Memory, memory, Ran, ran, numberOf}
+use Rattle.machines.specs.declared.End.{End}
+use Rattle.machines.specs.declared.End.the-variants.{Halted, Wrong, OutOfBudget, Refused}
+use Rattle.machines.specs.declared.Run.{Run}
+
+-- ---- flattening
+-- 0 and the length, or the refusal's number and the place
+unfoldable pub flattenSlots : Flattened → List ℕ
+flattenSlots (Written n) = 0 ∷ n ∷ []
+flattenSlots (FlatRefused n p) = n ∷ p ∷ []
+
+-- the result that held old, and the output that held out, after flattening s
+unfoldable pub flattenResult : Got (List ℕ) → List ℕ → List ℕ
+flattenResult g old = cond (leb 2 (length old)) (sets old 0 (flattenSlots (answered g))) old
+
+unfoldable pub flattenOutput : Got (List ℕ) → List ℕ → List ℕ → List ℕ
+flattenOutput g out old = cond (leb 2 (length old)) (written out g) out
+
+-- ---- runs
+-- how a run ended: 0 halted, 1 wrong, 2 out of budget, 3 refused
+unfoldable pub endSlot : End → ℕ
+endSlot (Halted v) = 0
+endSlot (Wrong n) = 1
+endSlot OutOfBudget = 2
+endSlot (Refused n p) = 3
+
+unfoldable pub placeSlot : End → ℕ
+placeSlot (Halted v) = 0
+placeSlot (Wrong n) = 0
+placeSlot OutOfBudget = 0
+placeSlot (Refused n p) = p
+
+-- the answer is cell 0 unless halted
+unfoldable pub answerSlot : End → ℕ
+answerSlot (Halted v) = cellOf v
+answerSlot (Wrong n) = 0
+answerSlot OutOfBudget = 0
+answerSlot (Refused n p) = 0
+
+abbrev pub endSlots : End → List ℕ
+endSlots e = endSlot e ∷ numberOf e ∷ placeSlot e ∷ answerSlot e ∷ []
+
+abbrev pub runSlots : Run → List ℕ
+runSlots r = endSlot (r .end) ∷ numberOf (r .end) ∷ placeSlot (r .end) ∷ answerSlot (r .end) ∷ r .steps ∷ r .stack ∷ r .store ∷ r .frames ∷ []
+
+-- what is left in the four memories and in the result
+pub data Exported : Type 0 where
+  exported : Memory → List ℕ → Exported
+
+unfoldable pub ranInto : List ℕ → Ran → Exported
+ranInto old (ran r m) = exported m (sets old 0 (runSlots r))
+
+-- a run with the memory m, and the result that held old
+unfoldable pub runExported : (Memory → Ran) → Memory → List ℕ → Exported
+runExported run m old = cond (leb 8 (length old)) (ranInto old (run m)) (exported m old)

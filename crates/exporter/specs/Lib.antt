@@ -1,0 +1,3 @@
+-- The specs of the crate exporter.
+pub mod Exporter
+pub mod Answers

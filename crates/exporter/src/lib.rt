@@ -1,0 +1,142 @@
+// The exporter's library for C (include/exporter.h).
+ghost use mathlib.Core.Path.{_≡_};
+ghost use mathlib.Core.List.{[], _∷_};
+ghost use Prim.Native.Nat.{_≤_};
+ghost use lib.ListN.{length};
+ghost use lib.Seq.{sets};
+ghost use Rattle.cells.specs.Cells.{cellOf};
+ghost use Rattle.flatten.specs.Flatten.{flattened};
+ghost use Rattle.machines.specs.Runs.{memory, treeRun, linearRun};
+ghost use Rattle.exporter.specs.Exporter.{endSlots, runSlots, flattenSlots, flattenOutput, flattenResult, exported, runExported};
+ghost use Rattle.exporter.specs.Answers.{FitsCell, AnswerFits};
+use cells::Value;
+use flatten::Flattened;
+use machines::End;
+use machines::Run;
+
+// The cell of an answer.
+fn answer_cell(v: Value) -> u64
+    requires { ⌜ FitsCell v ⌝ }
+    ensures { λ r. ⌜ r ≡ cellOf v ⌝ }
+{
+    match v {
+        Value::False => cells::FALSE,
+        Value::True => cells::TRUE,
+        Value::Null => cells::NULL,
+        Value::Unspecified => cells::UNSPECIFIED,
+        Value::Integer(x) => cells::int_cell(x),
+        Value::Procedure(c) => {
+            cells::closure_cell(c.template as u8, c.env as u16, c.location as u16)
+        }
+        Value::Pair(a, b) => cells::pair_cell(a as u16, b as u16),
+        Value::NoValue => 0,
+    }
+}
+
+// ---- slots from the first on
+
+fn put_two(result: &mut [u64], a: u64, b: u64)
+    requires { ⌜ 2 ≤ length (now result) ⌝ }
+    ensures { λ _. ⌜ now (result .exit) ≡ sets (now (result .entry)) 0 (a ∷ b ∷ []) ⌝ }
+{
+    result[0] = a;
+    result[1] = b;
+}
+
+fn put_flattened(result: &mut [u64], answer: Flattened)
+    requires { ⌜ 2 ≤ length (now result) ⌝ }
+    ensures { λ _. ⌜ now (result .exit) ≡ sets (now (result .entry)) 0 (flattenSlots answer) ⌝ }
+{
+    match answer {
+        Flattened::Written(n) => put_two(result, 0, n as u64),
+        Flattened::Refused(n, p) => put_two(result, n as u64, p as u64),
+    }
+}
+
+fn put_four(result: &mut [u64], end: u64, number: u64, place: u64, answer: u64)
+    requires { ⌜ 4 ≤ length (now result) ⌝ }
+    ensures { λ _. ⌜ now (result .exit) ≡ sets (now (result .entry)) 0 (end ∷ number ∷ place ∷ answer ∷ []) ⌝ }
+{
+    result[0] = end;
+    result[1] = number;
+    result[2] = place;
+    result[3] = answer;
+}
+
+fn put_end(result: &mut [u64], end: End)
+    requires { ⌜ 4 ≤ length (now result) ⌝ }
+    requires { ⌜ AnswerFits end ⌝ }
+    ensures { λ _. ⌜ now (result .exit) ≡ sets (now (result .entry)) 0 (endSlots end) ⌝ }
+{
+    match end {
+        End::Halted(v) => put_four(result, 0, 0, 0, answer_cell(v)),
+        End::Wrong(n) => put_four(result, 1, n as u64, 0, 0),
+        End::OutOfBudget => put_four(result, 2, 19, 0, 0),
+        End::Refused(n, p) => put_four(result, 3, n as u64, p as u64, 0),
+    }
+}
+
+fn put_run(result: &mut [u64], run: Run)
+    requires { ⌜ 8 ≤ length (now result) ⌝ }
+    requires { ⌜ AnswerFits (run .end) ⌝ }
+    ensures { λ _. ⌜ now (result .exit) ≡ sets (now (result .entry)) 0 (runSlots run) ⌝ }
+{
+    let end = run.end;
+    put_end(result, end);
+    result[4] = run.steps;
+    result[5] = run.stack as u64;
+    result[6] = run.store as u64;
+    result[7] = run.frames as u64;
+}
+
+// ---- the library's functions. A result that is too short: nothing at all is done.
+
+#[no_mangle]
+pub extern "C" fn exporter_flatten(file: &[u8], out: &mut [u8], result: &mut [u64])
+    ensures { λ _. ⌜ now (out .exit) ≡ flattenOutput (flattened (now (file .entry)) (length (now (out .entry)))) (now (out .entry)) (now (result .entry)) ⌝ }
+    ensures { λ _. ⌜ now (result .exit) ≡ flattenResult (flattened (now (file .entry)) (length (now (out .entry)))) (now (result .entry)) ⌝ }
+{
+    if result.len() < 2 {
+        return;
+    }
+    let answer = flatten::flatten(file, out);
+    put_flattened(result, answer);
+}
+
+#[no_mangle]
+pub extern "C" fn exporter_run_tree(
+    file: &[u8],
+    budget: u64,
+    globals: &mut [u64],
+    stack: &mut [u64],
+    store: &mut [u64],
+    frames: &mut [u64],
+    result: &mut [u64],
+)
+    ensures { λ _. ⌜ exported (memory (now (globals .exit)) (now (stack .exit)) (now (store .exit)) (now (frames .exit))) (now (result .exit)) ≡ runExported (treeRun (now (file .entry)) budget) (memory (now (globals .entry)) (now (stack .entry)) (now (store .entry)) (now (frames .entry))) (now (result .entry)) ⌝ }
+{
+    if result.len() < 8 {
+        return;
+    }
+    let run = tree_machine::run_tree(file, budget, globals, stack, store, frames);
+    put_run(result, run);
+}
+
+#[no_mangle]
+pub extern "C" fn exporter_run_linear(
+    file: &[u8],
+    budget: u64,
+    globals: &mut [u64],
+    stack: &mut [u64],
+    store: &mut [u64],
+    frames: &mut [u64],
+    result: &mut [u64],
+)
+    ensures { λ _. ⌜ exported (memory (now (globals .exit)) (now (stack .exit)) (now (store .exit)) (now (frames .exit))) (now (result .exit)) ≡ runExported (linearRun (now (file .entry)) budget) (memory (now (globals .entry)) (now (stack .entry)) (now (store .entry)) (now (frames .entry))) (now (result .entry)) ⌝ }
+{
+    if result.len() < 8 {
+        return;
+    }
+    let run = linear_machine::run_linear(file, budget, globals, stack, store, frames);
+    put_run(result, run);
+}

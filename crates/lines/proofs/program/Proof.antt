@@ -1,0 +1,50 @@
+-- `lines::program` meets its contract: the lines are copied where they fit. Assumes nothing.
+use borrow.Author.Needs.{needs}
+use native.Mathlib.Omega.{arith}
+use mathlib.Core.Path.{sym}
+use lib.Seq.{length-take-le}
+use Rattle.lines.proofs.Laws.{put-taken, lines-fit, lines-do-not-fit}
+use Rattle.lines.proofs.program.Statement.{statement}
+use Rattle.lines.proofs.program.Tie as tie
+
+slice-aggregate-put-lines : tie.Need-slice-aggregate-put-lines
+slice-aggregate-put-lines c = search needs
+
+put-lines-requires : tie.Need-put-lines-requires
+put-lines-requires c κs = search needs
+
+array-share-prefix-lines : tie.Need-array-share-prefix-lines
+array-share-prefix-lines c = search needs
+
+slice-aggregate-put-bytes : tie.Need-slice-aggregate-put-bytes
+slice-aggregate-put-bytes c = sym (length-take-le _ _ (omega (arith, c .before .before .before .before .put-lines .kept .0)))
+
+put-bytes-requires : tie.Need-put-bytes-requires
+put-bytes-requires c κs =
+    let l = length-take-le (c .before .before .before .before .put-lines .result) (c .before .before .before .before .put-lines .last .0) (omega (arith, c .before .before .before .before .put-lines .kept .0)) in
+    omega arith
+
+same-length : tie.Need-same-length
+same-length c = search needs
+
+returns : tie.Need-returns
+returns c =
+    let p = c .before .before .before .before .before .before .before .put-lines in
+    let q = rw (put-taken _ (p .ensures .0) (omega arith)) at (c .before .before .put-bytes .ensures) in
+    lines-fit _ q (omega (arith, p .ensures .0 .next, q .next))
+
+returns-2 : tie.Need-returns-2
+returns-2 c = lines-do-not-fit _ _ (omega arith)
+
+pub program-spec : {M : Type 1} → statement M
+program-spec =
+    tie.close
+    (tie.spec
+    slice-aggregate-put-lines
+    put-lines-requires
+    array-share-prefix-lines
+    slice-aggregate-put-bytes
+    put-bytes-requires
+    same-length
+    returns
+    returns-2)

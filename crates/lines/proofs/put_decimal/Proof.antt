@@ -1,0 +1,43 @@
+-- `lines::put_decimal` meets its contract: the kit's digits are the number's decimal, at most 20 of them. Assumes nothing.
+use borrow.Author.Needs.{needs}
+use native.Mathlib.Omega.{arith}
+use mathlib.Core.Path.{_∙_}
+use Rattle.lines.proofs.Decimal.{decimal-short, decimal-spelled}
+use Rattle.lines.proofs.put_decimal.Statement.{statement}
+use Rattle.lines.proofs.put_decimal.Tie as tie
+
+decimal-requires : tie.Need-decimal-requires
+decimal-requires c κs = search needs
+
+array-share-prefix-text : tie.Need-array-share-prefix-text
+array-share-prefix-text c = search needs
+
+slice-aggregate-put-bytes : tie.Need-slice-aggregate-put-bytes
+slice-aggregate-put-bytes c = search needs
+
+put-bytes-requires : tie.Need-put-bytes-requires
+put-bytes-requires c κs =
+    let d = c .before .before .decimal in
+    let s = decimal-short (d .result) (c .before .before .before .before .before .args .n) (c .before .before .before .before .before .fits .n .fits) (d .ensures .1 .0) in
+    omega arith
+
+same-length : tie.Need-same-length
+same-length c = search needs
+
+returns : tie.Need-returns
+returns c =
+    let d = c .before .before .before .before .before .decimal in
+    let start = c .before .before .before .before .before .before .before .before in
+    let s = decimal-short (d .result) (start .args .n) (start .fits .n .fits) (d .ensures .1 .0) in
+    (rw (d .ensures .1 .1 ∙ decimal-spelled _ _ (d .ensures .1 .0)) at (c .before .before .put-bytes .ensures), omega arith)
+
+pub put-decimal-spec : {M : Type 1} → statement M
+put-decimal-spec =
+    tie.close
+    (tie.spec
+    decimal-requires
+    array-share-prefix-text
+    slice-aggregate-put-bytes
+    put-bytes-requires
+    same-length
+    returns)

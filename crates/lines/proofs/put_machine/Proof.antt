@@ -1,0 +1,25 @@
+-- `lines::put_machine` meets its contract: the name with its blank, then the rest of the line. Assumes nothing.
+use borrow.Author.Needs.{needs}
+use native.Mathlib.Omega.{arith}
+use mathlib.Core.List.{append-assoc}
+use lib.ListN.{length-append}
+use Rattle.lines.specs.Lines.{machineLine}
+use Rattle.lines.proofs.Laws.{put-then, put-length}
+use Rattle.lines.proofs.put_machine.Statement.{statement}
+use Rattle.lines.proofs.put_machine.Tie as tie
+
+put-word-requires : tie.Need-put-word-requires
+put-word-requires c κs = search needs
+
+put-end-requires : tie.Need-put-end-requires
+put-end-requires c κs = omega (arith, simp length-append at (c .before .before .before .put-word .ensures .next), put-length (c .before .before .before .put-word .ensures))
+
+same-length : tie.Need-same-length
+same-length c = search needs
+
+returns : tie.Need-returns
+unfolding machineLine
+returns c = (simp append-assoc at (put-then (c .before .before .before .before .before .before .put-word .ensures) (c .before .before .put-end .ensures .0)), omega (arith, simp length-append at (c .before .before .before .before .before .before .put-word .ensures .next)))
+
+pub put-machine-spec : {M : Type 1} → statement M
+put-machine-spec = tie.close (tie.spec put-word-requires put-end-requires same-length returns)

@@ -1,0 +1,27 @@
+-- `lines::put_numbers` meets its contract: three words, each with what follows it. Assumes nothing.
+use borrow.Author.Needs.{needs}
+use native.Mathlib.Omega.{arith}
+use lib.ListN.{length-append}
+use Rattle.lines.proofs.Laws.{put-line, put-length}
+use Rattle.lines.proofs.put_numbers.Statement.{statement}
+use Rattle.lines.proofs.put_numbers.Tie as tie
+
+put-word-requires : tie.Need-put-word-requires
+put-word-requires c κs = search needs
+
+put-number-requires : tie.Need-put-number-requires
+put-number-requires c κs = omega (arith, simp length-append at (c .before .before .before .put-word .ensures .next), put-length (c .before .before .before .put-word .ensures))
+
+put-number-requires-2 : tie.Need-put-number-requires-2
+put-number-requires-2 c κs = omega (arith, simp length-append at (c .before .before .before .before .before .before .before .put-word .ensures .next), put-length (c .before .before .before .before .before .before .before .put-word .ensures), put-length (c .before .before .before .put-number .ensures .0))
+
+same-length : tie.Need-same-length
+same-length c = search needs
+
+returns : tie.Need-returns
+returns c = (put-line _ _ _ (c .before .before .before .before .before .before .before .before .before .before .put-word .ensures) (c .before .before .before .before .before .before .put-number .ensures .0) (c .before .before .put-number2 .ensures .0), omega (arith, simp length-append at (c .before .before .before .before .before .before .before .before .before .before .put-word .ensures .next)))
+
+pub put-numbers-spec : {M : Type 1} → statement M
+put-numbers-spec =
+    tie.close
+    (tie.spec put-word-requires put-number-requires put-number-requires-2 same-length returns)

@@ -1,0 +1,4 @@
+-- The specs of the crate lines.
+pub mod Lines
+pub mod Put
+pub mod Laws

@@ -1,0 +1,222 @@
+// The program of document 01: a sheet's lines.
+ghost use mathlib.Core.Path.{_≡_};
+ghost use mathlib.Core.List.{[], _∷_, _++_};
+ghost use Prim.Native.Nat.{_+_, _≤_};
+ghost use lib.ListN.{length};
+ghost use Rattle.lines.specs.Put.{Put};
+ghost use Rattle.lines.specs.Lines.{decimal, integer, answerWord, line, endWords, machineLine, linearLine};
+ghost use Rattle.lines.specs.Lines.{tabularRun, flatRun, acceptedLines, linearOf, sheetLines, programLines, programCount, programOutput};
+use cells::Value;
+use flatten::Flattened;
+use machines::End;
+use machines::Run;
+
+// ---- bytes into a buffer, from place at on; each answers the place after them
+
+fn put_bytes(out: &mut [u8], at: usize, bytes: &[u8]) -> usize
+    requires { ⌜ at + length (now bytes) ≤ length (now out) ⌝ }
+    ensures { λ r. ⌜ Put (now (out .entry)) at (now (out .exit)) r (now (bytes .entry)) ⌝ }
+{
+    let mut i: usize = 0;
+    while i < bytes.len() {
+        out[at + i] = bytes[i];
+        i = i + 1;
+    }
+    at + i
+}
+
+fn put_byte(out: &mut [u8], at: usize, byte: u8) -> usize
+    requires { ⌜ at + 1 ≤ length (now out) ⌝ }
+    ensures { λ r. ⌜ Put (now (out .entry)) at (now (out .exit)) r (byte ∷ []) ⌝ }
+{
+    out[at] = byte;
+    at + 1
+}
+
+fn put_decimal(out: &mut [u8], at: usize, n: u64) -> usize
+    requires { ⌜ at + 20 ≤ length (now out) ⌝ }
+    ensures { λ r. ⌜ Put (now (out .entry)) at (now (out .exit)) r (decimal n) ⌝ }
+    ensures { λ r. ⌜ r ≤ at + 20 ⌝ }
+{
+    let mut text = [0u8; 20];
+    let count = io::decimal(n, &mut text);
+    put_bytes(out, at, &text[..count])
+}
+
+// 32 bits in two's complement.
+fn put_integer(out: &mut [u8], at: usize, x: u32) -> usize
+    requires { ⌜ at + 21 ≤ length (now out) ⌝ }
+    ensures { λ r. ⌜ Put (now (out .entry)) at (now (out .exit)) r (integer x) ⌝ }
+    ensures { λ r. ⌜ r ≤ at + 21 ⌝ }
+{
+    if x < 0x8000_0000 {
+        return put_decimal(out, at, x as u64);
+    }
+    let next = put_byte(out, at, b'-');
+    put_decimal(out, next, 0x1_0000_0000 - x as u64)
+}
+
+fn put_answer(out: &mut [u8], at: usize, v: Value) -> usize
+    requires { ⌜ at + 21 ≤ length (now out) ⌝ }
+    ensures { λ r. ⌜ Put (now (out .entry)) at (now (out .exit)) r (answerWord v) ⌝ }
+    ensures { λ r. ⌜ r ≤ at + 21 ⌝ }
+{
+    match v {
+        Value::False => put_bytes(out, at, b"false"),
+        Value::True => put_bytes(out, at, b"true"),
+        Value::Null => put_bytes(out, at, b"null"),
+        Value::Unspecified => put_bytes(out, at, b"unspecified"),
+        Value::Integer(x) => put_integer(out, at, x),
+        Value::Procedure(_) => put_bytes(out, at, b"procedure"),
+        Value::Pair(_, _) => put_bytes(out, at, b"pair"),
+        Value::NoValue => put_bytes(out, at, b"none"),
+    }
+}
+
+// ---- words with what follows them, and lines
+
+fn put_word(out: &mut [u8], at: usize, word: &[u8]) -> usize
+    requires { ⌜ at + length (now word) + 1 ≤ length (now out) ⌝ }
+    ensures { λ r. ⌜ Put (now (out .entry)) at (now (out .exit)) r (now (word .entry) ++ (32 ∷ [])) ⌝ }
+{
+    let next = put_bytes(out, at, word);
+    put_byte(out, next, b' ')
+}
+
+// A number, and the blank or newline after it.
+fn put_number(out: &mut [u8], at: usize, n: u64, after: u8) -> usize
+    requires { ⌜ at + 21 ≤ length (now out) ⌝ }
+    ensures { λ r. ⌜ Put (now (out .entry)) at (now (out .exit)) r (decimal n ++ (after ∷ [])) ⌝ }
+    ensures { λ r. ⌜ r ≤ at + 21 ⌝ }
+{
+    let next = put_decimal(out, at, n);
+    put_byte(out, next, after)
+}
+
+fn put_linear(out: &mut [u8], at: usize, n: u64) -> usize
+    requires { ⌜ at + 28 ≤ length (now out) ⌝ }
+    ensures { λ r. ⌜ Put (now (out .entry)) at (now (out .exit)) r (linearLine n) ⌝ }
+    ensures { λ r. ⌜ r ≤ at + 28 ⌝ }
+{
+    let next = put_word(out, at, b"linear");
+    put_number(out, next, n, b'\n')
+}
+
+// A word and two numbers.
+fn put_numbers(out: &mut [u8], at: usize, word: &[u8], a: u64, b: u64) -> usize
+    requires { ⌜ at + length (now word) + 43 ≤ length (now out) ⌝ }
+    ensures { λ r. ⌜ Put (now (out .entry)) at (now (out .exit)) r (line (now (word .entry) ∷ decimal a ∷ decimal b ∷ [])) ⌝ }
+    ensures { λ r. ⌜ r ≤ at + length (now (word .entry)) + 43 ⌝ }
+{
+    let first = put_word(out, at, word);
+    let second = put_number(out, first, a, b' ');
+    put_number(out, second, b, b'\n')
+}
+
+fn put_halted(out: &mut [u8], at: usize, v: Value, steps: u64) -> usize
+    requires { ⌜ at + 50 ≤ length (now out) ⌝ }
+    ensures { λ r. ⌜ Put (now (out .entry)) at (now (out .exit)) r (line (endWords (End.Halted v) steps)) ⌝ }
+    ensures { λ r. ⌜ r ≤ at + 50 ⌝ }
+{
+    let first = put_word(out, at, b"halted");
+    let second = put_answer(out, first, v);
+    let third = put_byte(out, second, b' ');
+    put_number(out, third, steps, b'\n')
+}
+
+fn put_end(out: &mut [u8], at: usize, end: End, steps: u64) -> usize
+    requires { ⌜ at + 50 ≤ length (now out) ⌝ }
+    ensures { λ r. ⌜ Put (now (out .entry)) at (now (out .exit)) r (line (endWords end steps)) ⌝ }
+    ensures { λ r. ⌜ r ≤ at + 50 ⌝ }
+{
+    match end {
+        End::Halted(v) => put_halted(out, at, v, steps),
+        End::Wrong(n) => put_numbers(out, at, b"wrong", n as u64, steps),
+        End::OutOfBudget => put_numbers(out, at, b"wrong", 19, steps),
+        End::Refused(n, p) => put_numbers(out, at, b"refused", n as u64, p as u64),
+    }
+}
+
+// A machine's name and how its run ended.
+fn put_machine(out: &mut [u8], at: usize, name: &[u8], run: Run) -> usize
+    requires { ⌜ at + length (now name) + 51 ≤ length (now out) ⌝ }
+    ensures { λ r. ⌜ Put (now (out .entry)) at (now (out .exit)) r (machineLine (now (name .entry)) run) ⌝ }
+    ensures { λ r. ⌜ r ≤ at + length (now (name .entry)) + 51 ⌝ }
+{
+    let next = put_word(out, at, name);
+    let end = run.end;
+    put_end(out, next, end, run.steps)
+}
+
+// ---- the program
+
+fn tabular_run(sheet: &[u8]) -> Run
+    ensures { λ r. ⌜ r ≡ tabularRun (now (sheet .entry)) ⌝ }
+{
+    let mut globals = [cells::UNDEFINED; 256];
+    let mut stack = [0u64; 256];
+    let mut store = [0u64; 2048];
+    let mut frames = [0u64; 2048];
+    tree_machine::run_tree(sheet, 1_000_000, &mut globals, &mut stack, &mut store, &mut frames)
+}
+
+fn flat_run(linear: &[u8]) -> Run
+    ensures { λ r. ⌜ r ≡ flatRun (now (linear .entry)) ⌝ }
+{
+    let mut globals = [cells::UNDEFINED; 256];
+    let mut stack = [0u64; 256];
+    let mut store = [0u64; 2048];
+    let mut frames = [0u64; 2048];
+    linear_machine::run_linear(linear, 2_000_000, &mut globals, &mut stack, &mut store, &mut frames)
+}
+
+fn put_accepted(out: &mut [u8], sheet: &[u8], linear: &[u8]) -> usize
+    requires { ⌜ 256 ≤ length (now out) ⌝ }
+    ensures { λ r. ⌜ Put (now (out .entry)) 0 (now (out .exit)) r (acceptedLines (now (sheet .entry)) (now (linear .entry))) ⌝ }
+    ensures { λ r. ⌜ r ≤ 256 ⌝ }
+{
+    let tabular = tabular_run(sheet);
+    let flat = flat_run(linear);
+    let second = put_linear(out, 0, linear.len() as u64);
+    let third = put_machine(out, second, b"tabular", tabular);
+    put_machine(out, third, b"flat", flat)
+}
+
+fn put_sheet(out: &mut [u8], sheet: &[u8]) -> usize
+    requires { ⌜ 256 ≤ length (now out) ⌝ }
+    requires { ⌜ length (now sheet) ≤ 4096 ⌝ }
+    ensures { λ r. ⌜ Put (now (out .entry)) 0 (now (out .exit)) r (sheetLines (now (sheet .entry)) (linearOf (now (sheet .entry)))) ⌝ }
+    ensures { λ r. ⌜ r ≤ 256 ⌝ }
+{
+    let mut linear = [0u8; 16384];
+    match flatten::flatten(sheet, &mut linear) {
+        Flattened::Written(n) => put_accepted(out, sheet, &linear[..n]),
+        Flattened::Refused(n, p) => put_numbers(out, 0, b"refused", n as u64, p as u64),
+    }
+}
+
+fn put_lines(out: &mut [u8], sheet: &[u8]) -> usize
+    requires { ⌜ 256 ≤ length (now out) ⌝ }
+    ensures { λ r. ⌜ Put (now (out .entry)) 0 (now (out .exit)) r (programLines (now (sheet .entry))) ⌝ }
+    ensures { λ r. ⌜ r ≤ 256 ⌝ }
+{
+    if sheet.len() <= 4096 {
+        put_sheet(out, sheet)
+    } else {
+        put_numbers(out, 0, b"refused", 1, 0)
+    }
+}
+
+// The lines of a sheet, in the first bytes of out, and how many bytes they are; 0 and nothing written where they do not fit.
+pub fn program(sheet: &[u8], out: &mut [u8]) -> usize
+    ensures { λ r. ⌜ r ≡ programCount (programLines (now (sheet .entry))) (length (now (out .entry))) ⌝ }
+    ensures { λ r. ⌜ now (out .exit) ≡ programOutput (programLines (now (sheet .entry))) (now (out .entry)) ⌝ }
+{
+    let mut lines = [0u8; 256];
+    let count = put_lines(&mut lines, sheet);
+    if count <= out.len() {
+        put_bytes(out, 0, &lines[..count])
+    } else {
+        0
+    }
+}
