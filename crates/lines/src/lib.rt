@@ -157,7 +157,14 @@ fn tabular_run(sheet: &[u8]) -> Run
     let mut stack = [0u64; 256];
     let mut store = [0u64; 2048];
     let mut frames = [0u64; 2048];
-    tree_machine::run_tree(sheet, 1_000_000, &mut globals, &mut stack, &mut store, &mut frames)
+    tree_machine::run_tree(
+        sheet,
+        1_000_000,
+        &mut globals,
+        &mut stack,
+        &mut store,
+        &mut frames,
+    )
 }
 
 fn flat_run(linear: &[u8]) -> Run
@@ -167,7 +174,14 @@ fn flat_run(linear: &[u8]) -> Run
     let mut stack = [0u64; 256];
     let mut store = [0u64; 2048];
     let mut frames = [0u64; 2048];
-    linear_machine::run_linear(linear, 2_000_000, &mut globals, &mut stack, &mut store, &mut frames)
+    linear_machine::run_linear(
+        linear,
+        2_000_000,
+        &mut globals,
+        &mut stack,
+        &mut store,
+        &mut frames,
+    )
 }
 
 fn put_accepted(out: &mut [u8], sheet: &[u8], linear: &[u8]) -> usize

@@ -151,14 +151,15 @@ tree-read s ts q e =
     let g = templates-facts s small T (leb-true T 64 (a .1)) T 0 p (f .2) read in
     let n : length us ≡ T = g .0 in
     let facts : TemplatesFacts s T 0 p us r = g .1 in
-    rw (← e₁)
-    (record {
-      at-least-one = omega (arith, leb-true 1 T (a .0));
-      at-most-64 = omega (arith, leb-true T 64 (a .1));
-      each = rw n (facts .each);
-      fits = omega arith;
-    },
-    omega arith)))
+    rw (← e₁) (
+      record {
+        at-least-one = omega (arith, leb-true 1 T (a .0));
+        at-most-64 = omega (arith, leb-true T 64 (a .1));
+        each = rw n (facts .each);
+        fits = omega arith;
+      },
+      omega arith,
+    )))
 
 pub tree-facts : (s : List ℕ) (ts : List Template) (q : ℕ) → treeRead s ≡ got ts q → TreeFacts ts
 tree-facts s ts q e = tree-read s ts q e .0
