@@ -1,15 +1,14 @@
 -- What stands at a place of a list that is known to be read. Assumes nothing.
-use Prim.Native.Nat.{ℕ, zero, suc, _+_, _*_, _-_, _≤_, _<_}
-use native.Mathlib.Nat.{add-zero}
+use Prim.Native.Nat.{ℕ, zero, suc, _+_, _*_, _-_, _≤_}
 use native.Mathlib.Omega.{arith}
 use mathlib.Core.Path.{_≡_, refl, sym, ap, _∙_}
-use mathlib.Core.List.{List, [], _∷_}
+use mathlib.Core.List.{List}
 use lib.ListN.{length}
 use Rattle.fields.specs.Field.{fieldAt, fieldRead}
 use Rattle.fields.specs.Laws.{read-cases}
 use Rattle.files.specs.Codes.{shapeOf}
 use Rattle.files.specs.Code.{Code, done, Instr, unless-i, cont-i, simple, put}
-use Rattle.files.specs.Reading.{Got, got, refused, Head, stop, item, bad, Deep, bottom, below, withField, withList, withDeep, shaped, headAt, before, after, deepOf, listAt}
+use Rattle.files.specs.Reading.{Got, got, refused, Head, stop, item, bad, withField, withList, withDeep, shaped, headAt, before, after, deepOf, listAt}
 use Rattle.files.specs.ReadingLaws.{list-step}
 use Rattle.files.specs.Heads.{deep-down}
 use Rattle.emit.specs.Written.{operandsAt}

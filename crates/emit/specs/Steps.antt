@@ -1,16 +1,16 @@
 -- What the writer does at each step. Assumes nothing.
-use Prim.Native.Nat.{ℕ, zero, suc, _+_, _*_, _-_, _≤_, _<_}
+use Prim.Native.Nat.{ℕ, _+_, _*_, _-_, _≤_, _<_}
 use native.Mathlib.Numerals.{add-three}
 use native.Mathlib.Omega.{arith}
 use mathlib.Core.Path.{_≡_, refl, sym, ap, _∙_}
-use mathlib.Core.Bool.{Bool, true, false}
-use mathlib.Core.List.{List, [], _∷_, _++_}
+use mathlib.Core.Bool.{false}
+use mathlib.Core.List.{List, [], _∷_}
 use lib.ListN.{length, set}
 use lib.Seq.{sets}
 use lib.Dec.{eqb}
 use Rattle.cells.specs.declared.BitPlace.{BitPlace}
 use Rattle.fields.specs.Field.{fieldAt}
-use Rattle.files.specs.Code.{Code, done, Instr, put}
+use Rattle.files.specs.Code.{Code, done, Instr}
 use Rattle.files.specs.Reading.{Got, got, refused, deepOf, listAt}
 use Rattle.files.specs.ReadingLaws.{some-bits, head-past, deep-past}
 use Rattle.files.specs.Flat.{offset, flat}
@@ -22,7 +22,7 @@ use Rattle.emit.specs.declared.Measured.{Measured}
 use Rattle.emit.specs.declared.Wrote.{Wrote}
 use Rattle.emit.specs.Written.{gap, jumpBytes, armsBytes, savedBytes, frontBytes, backBytes, operandsAt, measuredOf, wroteAs}
 use Rattle.emit.specs.ToWrite.{ToWrite, ArmsToWrite, SavedToWrite, ItemToWrite, ArmsDone, SavedDone, ItemDone, itemBytes, restFront, restBack}
-use Rattle.emit.specs.Stores.{sets-append, sets-four, operands-length, jump-length, arms-length, put-length, simple-bytes, fits-jumps, fits-arms, fits-saved, fits-rest, rest-written}
+use Rattle.emit.specs.Stores.{sets-four, operands-length, jump-length, arms-length, put-length, simple-bytes, fits-jumps, fits-arms, fits-saved, fits-rest, rest-written}
 use Rattle.emit.specs.Known.{shapeHere, Arms, arms, Saved, saved, Simple, without-lists, Turn, list-within, list-end, list-turn}
 
 -- ---- a list that was read

@@ -1,5 +1,5 @@
 -- Runs of stores, and what an instruction leaves of a list's flat code to write. Assumes nothing.
-use Prim.Native.Nat.{ℕ, zero, suc, _+_, _*_, _-_, _/_, _%_, _≤_, _<_}
+use Prim.Native.Nat.{ℕ, zero, suc, _+_, _-_, _≤_, _<_}
 use native.Mathlib.Nat.{add-zero, zero-add, add-suc, suc-add}
 use native.Mathlib.Numerals.{add-one}
 use native.Mathlib.Omega.{arith}
@@ -9,10 +9,10 @@ use mathlib.Core.List.{List, [], _∷_, _++_, append-assoc, append-nil}
 use borrow.Author.Tests.{leb-true, eqb-true}
 use lib.ListN.{length, set, getD, length-append}
 use lib.Seq.{sets}
-use lib.Dec.{leb, eqb}
+use lib.Dec.{eqb}
 use Rattle.fields.specs.Field.{fieldAt}
 use Rattle.files.specs.Codes.{shapeOf}
-use Rattle.files.specs.Code.{Code, done, neutral, return, call, unless-false, make-cont, Instr, neutral-i, return-i, call-i, unless-i, cont-i, put, simple}
+use Rattle.files.specs.Code.{Code, Instr, neutral-i, return-i, call-i, unless-i, cont-i, put, simple}
 use Rattle.files.specs.Grammar.{isClosed}
 use Rattle.files.specs.Flat.{offset, conditional, flat, fitsOffset, armsFit, offsetsFit}
 use Rattle.files.specs.RowFilled.{set-sets}

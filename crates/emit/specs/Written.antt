@@ -3,7 +3,6 @@ use Prim.Native.Nat.{ℕ, zero, suc, _+_, _/_, _%_}
 use mathlib.Core.Bool.{Bool, true, false, cond}
 use mathlib.Core.List.{List, [], _∷_, _++_}
 use lib.ListN.{length}
-use Rattle.cells.specs.declared.BitPlace.{BitPlace}
 use Rattle.fields.specs.Field.{fieldAt}
 use Rattle.files.specs.Code.{Code, Instr, neutral-i, return-i, call-i, unless-i, cont-i}
 use Rattle.files.specs.Grammar.{isClosed}

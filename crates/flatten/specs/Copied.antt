@@ -7,7 +7,7 @@ use mathlib.Core.Path.{_≡_, refl, sym, ap, _∙_}
 use mathlib.Core.Bool.{Bool, true, false, cond, _&&_}
 use mathlib.Core.List.{List, [], _∷_, _++_}
 use borrow.Author.Tests.{eqb-true}
-use lib.ListN.{length, getD, drop, set, length-append}
+use lib.ListN.{length, getD, drop, set}
 use lib.Seq.{sets}
 use lib.Dec.{eqb, ltb}
 use lib.Pow.{pow-pos, high, shl-lt, shl-exact}
@@ -18,7 +18,7 @@ use Rattle.files.specs.Entries.{Entry, constant, global, template, then, field,
 use Rattle.files.specs.EntriesLaws.{then-field}
 use Rattle.files.specs.PaddingSteps.{bit-field}
 use Rattle.files.specs.Linear.{bitsOf, entryBits, entriesBits, byteOf, bytesFrom, bytesOf}
-use Rattle.tree.specs.Parts.{Before, before-got, got-value}
+use Rattle.tree.specs.Parts.{before-got, got-value}
 
 -- the n bits at p
 unfoldable pub bitsFrom : List ℕ → ℕ → ℕ → List ℕ

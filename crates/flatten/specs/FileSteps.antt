@@ -1,23 +1,21 @@
 -- What the writer of the templates does at each step, and the flattener by what was read. Assumes nothing.
-use Prim.Native.Nat.{ℕ, zero, suc, _+_, _*_, _-_, _≤_, _<_}
+use Prim.Native.Nat.{ℕ, suc, _+_, _*_, _-_, _≤_, _<_}
 use native.Mathlib.Nat.{add-zero, zero-add, sub-zero}
 use native.Mathlib.Omega.{arith}
 use mathlib.Core.Path.{_≡_, refl, sym, ap, _∙_}
 use mathlib.Core.Bool.{Bool, true, false, cond}
 use mathlib.Core.List.{List, [], _∷_, _++_, append-assoc}
-use mathlib.Core.Option.{Option, none, some}
+use mathlib.Core.Option.{none, some}
 use borrow.Author.Tests.{le-leb, lt-leb}
-use lib.ListN.{length, getD, set, drop, length-append}
+use lib.ListN.{length, getD, set, length-append}
 use lib.Seq.{sets, sets-eq, getD-append-seam}
-use lib.Dec.{leb}
-use Rattle.cells.specs.declared.BitPlace.{BitPlace}
-use Rattle.files.specs.Reading.{Got, got, refused}
-use Rattle.files.specs.Entries.{then, field}
+use Rattle.files.specs.Reading.{got, refused}
+use Rattle.files.specs.Entries.{then}
 use Rattle.files.specs.Grammar.{lowest}
 use Rattle.files.specs.Flat.{offsetTemplate}
 use Rattle.files.specs.Accepted.{flatChecked}
 use Rattle.files.specs.Linear.{templateBytes, templatesBytes, linearFile}
-use Rattle.files.specs.Tree.{Template, templateAt, templatesAt, treeRead}
+use Rattle.files.specs.Tree.{Template, templatesAt, treeRead}
 use Rattle.files.specs.Table.{treeTable}
 use Rattle.files.specs.TableLaws.{Few, treeEntries, row-start, tree-slot}
 use Rattle.files.specs.AllGot.{tree-read}
@@ -27,7 +25,7 @@ use Rattle.tree.specs.Summary.{summaryOf, treeTold}
 use Rattle.tree.specs.Filled.{treeFilled}
 use Rattle.tree.specs.FilledLaws.{tree-table}
 use Rattle.tree.specs.Parts.{got-value, TemplatesParts, templates-parts, templates-count, FileParts, tree-parts}
-use Rattle.tree.specs.Judged.{ReadFile, file, judged-near, judged-flat}
+use Rattle.tree.specs.Judged.{file, judged-near, judged-flat}
 use Rattle.emit.specs.Stores.{sets-append}
 use Rattle.flatten.specs.declared.Past.{Past}
 use Rattle.flatten.specs.declared.Flattened.{Flattened}

@@ -1,29 +1,26 @@
 -- What the writer of a template does at each step. Assumes nothing.
-use Prim.Native.Nat.{ℕ, zero, suc, _+_, _*_, _-_, _/_, _%_, _≤_, _<_}
+use Prim.Native.Nat.{ℕ, _+_, _*_, _-_, _/_, _≤_, _<_}
 use native.Mathlib.Omega.{arith}
 use mathlib.Core.Path.{_≡_, refl, sym, ap, _∙_}
-use mathlib.Core.Bool.{true}
-use mathlib.Core.List.{List, [], _∷_, _++_}
+use mathlib.Core.List.{List, [], _∷_}
 use lib.ListN.{length, getD, set}
 use lib.Seq.{sets}
 use Rattle.cells.specs.declared.BitPlace.{BitPlace}
 use Rattle.fields.specs.Field.{fieldAt}
 use Rattle.fields.specs.Laws.{read-cases}
 use Rattle.files.specs.Code.{Code}
-use Rattle.files.specs.Reading.{Got, got, refused, listAt}
+use Rattle.files.specs.Reading.{got, listAt}
 use Rattle.files.specs.ReadingLaws.{list-bits, flat-bits}
-use Rattle.files.specs.Entries.{fieldGot, field, entriesAt}
+use Rattle.files.specs.Entries.{fieldGot, field}
 use Rattle.files.specs.EntriesLaws.{entries-read}
 use Rattle.files.specs.Flat.{flat}
 use Rattle.files.specs.Linear.{entriesBits, bytesOf, threeBytes, templateBytes}
-use Rattle.files.specs.Tree.{Template, templateAt}
 use Rattle.tree.specs.Parts.{got-value, TemplateParts, template-parts}
 use Rattle.tree.specs.SummaryLaws.{bytes-length, template-length}
 use Rattle.emit.specs.declared.Measured.{Measured}
 use Rattle.emit.specs.Written.{measuredOf}
 use Rattle.emit.specs.ToWrite.{ToWrite}
 use Rattle.emit.specs.Stores.{sets-four}
-use Rattle.flatten.specs.declared.Past.{Past}
 use Rattle.flatten.specs.Copied.{bitsFrom, bits-length, entries-copied}
 use Rattle.flatten.specs.ToFlatten.{TemplateToWrite, TemplateDone}
 

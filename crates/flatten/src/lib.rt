@@ -119,12 +119,14 @@ pub fn flatten(s: &[u8], out: &mut [u8]) -> Flattened
             if sum.far < 64 {
                 return Flattened::Refused(8, sum.far as usize);
             }
-            if out.len() < sum.size {
-                return Flattened::Refused(9, sum.size);
+            let size = sum.size;
+            if out.len() < size {
+                return Flattened::Refused(9, size);
             }
-            out[0] = sum.count;
-            write_templates(s, &table, sum.count as usize, out);
-            Flattened::Written(sum.size)
+            let count = sum.count;
+            out[0] = count;
+            write_templates(s, &table, count as usize, out);
+            Flattened::Written(size)
         }
         TreeFile::Refused(no, place) => Flattened::Refused(no, place.0),
     }

@@ -1,3 +1,5 @@
+-- The cycle of calls {write_conditional, write_instr, write_list, write_make_cont} meets its contracts: a level falls at each list inside an
+-- instruction, and the unread bits within a list. Assumes nothing.
 use lib.ListN.{length-set}
 use Rattle.fields.specs.Laws.{field-small}
 use Rattle.files.specs.Codes.{shapeOf}
@@ -34,12 +36,8 @@ use Rattle.emit.proofs.put_offset.Reads as put-offset-reads
 use Rattle.emit.proofs.write_simple.Reads as write-simple-reads
 use Rattle.fields.proofs.bits_at.Reads as bits-at-reads
 use Rattle.lists.proofs.shape_of.Reads as shape-of-reads
-use Rattle.emit.proofs.+write_conditional+write_instr+write_list+write_make_cont.{
-  statement,
-}
-use Rattle.emit.proofs.+write_conditional+write_instr+write_list+write_make_cont.Tie.{
-  close,
-}
+use Rattle.emit.proofs.+write_conditional+write_instr+write_list+write_make_cont.{statement}
+use Rattle.emit.proofs.+write_conditional+write_instr+write_list+write_make_cont.Tie.{close}
 
 abbrev μ-write-conditional : Measures 3 write-conditional-kinds.ps ℕ
 μ-write-conditional κs a = 3 * a .1 .1 .1 .1 .0 + 3
@@ -138,7 +136,7 @@ write-conditional-add-put-offset : (t : ℕ) → write-conditional-lts.Need-add-
 write-conditional-add-put-offset t c = omega (arith, arms-near (c .before .before .before .before .before .before .before .before .before .before .before .pre .1 .4) _ _ _ (c .before .before .before .before .before .before .before .measure .ensures) (c .before .before .before .before .before .measure2 .ensures) (c .before .before .before .before .gap .ensures))
 
 write-conditional-put-offset-requires : (t : ℕ) → write-conditional-lts.Need-put-offset-requires (write-conditional-calls t) (write-conditional-at t) write-conditional.Post
-write-conditional-put-offset-requires t c κs = (omega (arith, arms-room (c .before .before .before .before .before .before .before .before .before .before .before .pre .1 .4) _ _ _ (c .before .before .before .before .before .before .before .measure .ensures) (c .before .before .before .before .before .measure2 .ensures) (c .before .before .before .before .gap .ensures), c .before .before .before .before .before .before .before .before .before .before .before .pre .1 .4 .room, c .before .before .before .before .before .before .before .before .before .before .before .pre .1 .3), arms-near (c .before .before .before .before .before .before .before .before .before .before .before .pre .1 .4) _ _ _ (c .before .before .before .before .before .before .before .measure .ensures) (c .before .before .before .before .before .measure2 .ensures) (c .before .before .before .before .gap .ensures))
+write-conditional-put-offset-requires t c κs = (omega (arith, arms-room (c .before .before .before .before .before .before .before .before .before .before .before .pre .1 .4) _ _ _ (c .before .before .before .before .before .before .before .measure .ensures) (c .before .before .before .before .before .measure2 .ensures) (c .before .before .before .before .gap .ensures), c .before .before .before .before .before .before .before .before .before .before .before .pre .1 .4 .room, c .before .before .before .before .before .before .before .before .before .before .before .pre .1 .3), omega (arith, arms-near (c .before .before .before .before .before .before .before .before .before .before .before .pre .1 .4) _ _ _ (c .before .before .before .before .before .before .before .measure .ensures) (c .before .before .before .before .before .measure2 .ensures) (c .before .before .before .before .gap .ensures)))
 
 write-conditional-add-write-list : (t : ℕ) → write-conditional-lts.Need-add-write-list (write-conditional-calls t) (write-conditional-at t) write-conditional.Post
 write-conditional-add-write-list t c = omega (arith, arms-room (c .before .before .before .before .before .before .before .before .before .before .before .before .before .before .before .pre .1 .4) _ _ _ (c .before .before .before .before .before .before .before .before .before .before .before .measure .ensures) (c .before .before .before .before .before .before .before .before .before .measure2 .ensures) (c .before .before .before .before .before .before .before .before .gap .ensures), c .before .before .before .before .before .before .before .before .before .before .before .before .before .before .before .pre .1 .4 .room, c .before .before .before .before .before .before .before .before .before .before .before .before .before .before .before .pre .1 .3)

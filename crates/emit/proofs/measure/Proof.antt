@@ -1,30 +1,23 @@
+-- `emit::measure` meets its contract: what is read is told, and what is refused was not read. Assumes nothing.
 use mathlib.Core.Path.{sym, _∙_}
 use Rattle.lists.specs.ReadLaws.{listed-done, listed-refused}
 use Rattle.emit.specs.Steps.{measured-done, refused-got}
 use borrow.Author.Needs.{needs}
 use Rattle.emit.proofs.measure.Statement.{statement}
 use Rattle.emit.proofs.measure.Tie as tie
-use Rattle.emit.proofs.measure.Reads as reads
-use Rattle.emit.proofs.measure.Lts as lts
-use Rattle.lists.proofs.read_list.Reads as read-list-reads
 
--- src/lib.rt:37:11
 read-list-requires : tie.Need-read-list-requires
 read-list-requires c κs = c .before .before .pre
 
--- src/lib.rt:38:22
 enum-known-next : tie.Need-enum-known-next
 enum-known-next c = search needs
 
--- src/lib.rt:43:28
 enum-known-next-2 : tie.Need-enum-known-next-2
 enum-known-next-2 c = search needs
 
--- src/lib.rt:33:1
 returns : tie.Need-returns
 returns c = λ k q e. let l = listed-done _ _ _ _ _ (sym (c .before .before .before .before .read-list .ensures) ∙ c .before .before .next .given .1) in measured-done _ _ _ _ (sym (l .1) ∙ e) (l .2)
 
--- src/lib.rt:33:1
 returns-2 : tie.Need-returns-2
 returns-2 c = λ k q e. let l = listed-refused _ _ _ _ _ (sym (c .before .before .before .read-list .ensures) ∙ c .before .next2 .given .1) in absurd (refused-got (sym l ∙ e))
 

@@ -1,8 +1,8 @@
+-- `emit::write_simple` meets its contract: the loop's invariant: what is left of the operands goes into what is left of the output. Assumes nothing.
 use Prim.Native.Nat.{_+_, _*_, _-_, _≤_}
 use native.Mathlib.Nat.{add-sub-cancel-left}
-use native.Mathlib.Numerals.{add-one}
 use native.Mathlib.Omega.{arith}
-use mathlib.Core.Path.{_≡_, refl, sym, _∙_}
+use mathlib.Core.Path.{_≡_, refl, _∙_}
 use lib.ListN.{length, length-set}
 use lib.Seq.{sets}
 use Rattle.emit.specs.Written.{operandsAt}
@@ -10,9 +10,6 @@ use Rattle.emit.specs.Stores.{operands-none, operands-on, simple-written
 use borrow.Author.Needs.{needs}
 use Rattle.emit.proofs.write_simple.Statement.{statement}
 use Rattle.emit.proofs.write_simple.Tie as tie
-use Rattle.emit.proofs.write_simple.Reads as reads
-use Rattle.emit.proofs.write_simple.Lts as lts
-use Rattle.fields.proofs.bits_at.Reads as bits-at-reads
 
 abbrev Inv-loop : tie.InvT-loop
 Inv-loop s p n out₀ front at₀ f₀ end out at f = (f ≤ end) × (end ≤ length out) × (at + 8 * (end - f) ≤ 8 * length s) × (length out ≡ length out₀)
@@ -21,67 +18,51 @@ Inv-loop s p n out₀ front at₀ f₀ end out at f = (f ≤ end) × (end ≤ le
 abbrev μ-loop : tie.MeasureT-loop
 μ-loop s p n out₀ front at₀ f₀ end out at f = end - f
 
--- src/lib.rt:84:18
 bits-at-requires : tie.Need-bits-at-requires Inv-loop μ-loop
 bits-at-requires c κs = search needs
 
--- src/lib.rt:84:18
 cast-out : tie.Need-cast-out Inv-loop μ-loop
 cast-out c = search needs
 
--- src/lib.rt:84:5
 slice-write-out : tie.Need-slice-write-out Inv-loop μ-loop
 slice-write-out c = search needs
 
--- src/lib.rt:85:18
 add-at : tie.Need-add-at Inv-loop μ-loop
 add-at c = search needs
 
--- src/lib.rt:86:17
 add-f : tie.Need-add-f Inv-loop μ-loop
 add-f c = search needs
 
--- src/lib.rt:87:15
 add-end : tie.Need-add-end Inv-loop μ-loop
 add-end c = search needs
 
--- src/lib.rt:88:5
 loop-holds : tie.Need-loop-holds Inv-loop μ-loop
 loop-holds c = (search needs, simp length-set (omega arith), omega arith, refl, rw (add-sub-cancel-left) refl)
 
--- src/lib.rt:89:18
 bits-at-requires-2 : tie.Need-bits-at-requires-2 Inv-loop μ-loop
 bits-at-requires-2 c κs = search needs
 
--- src/lib.rt:89:18
 cast-out-2 : tie.Need-cast-out-2 Inv-loop μ-loop
 cast-out-2 c = search needs
 
--- src/lib.rt:89:9
 slice-write-out-2 : tie.Need-slice-write-out-2 Inv-loop μ-loop
 slice-write-out-2 c = search needs
 
--- src/lib.rt:90:9
 add-at-2 : tie.Need-add-at-2 Inv-loop μ-loop
 add-at-2 c = search needs
 
--- src/lib.rt:91:9
 add-f-2 : tie.Need-add-f-2 Inv-loop μ-loop
 add-f-2 c = search needs
 
--- src/lib.rt:88:5
 loop-less : tie.Need-loop-less Inv-loop μ-loop
 loop-less c = search needs
 
--- src/lib.rt:88:5
 loop-again : tie.Need-loop-again Inv-loop μ-loop
 loop-again c = let i = c .before .before .loop .inv in (search needs, search needs, omega arith, simp length-set (simp length-set at (i .3)), i .4 ∙ operands-on _ _ _ _ _ _ (c .before .loop-test .taken) (c .bits-at2 .ensures .0))
 
--- src/lib.rt:80:1
 same-length : tie.Need-same-length Inv-loop μ-loop
 same-length c = simp length-set at (c .before .loop .inv .3)
 
--- src/lib.rt:80:1
 returns : tie.Need-returns Inv-loop μ-loop
 returns c = let i = c .before .loop .inv in let a = c .before .before .before .before .before .args in simple-written (operandsAt (a .s .now) (a .p + 5) (a .n)) (a .out .now) _ (a .front) (c .before .before .bits-at .ensures .0) (i .4 ∙ rw (operands-none _ _ _ _ (c .loop-test .left)) refl)
 

@@ -1,14 +1,12 @@
-use Prim.Native.Nat.{_+_, _*_, _-_, _≤_}
+-- `flatten::write_templates` meets its contract: the loop's invariant: the templates from `own` on go into what is left of the output. Assumes nothing.
+use Prim.Native.Nat.{_-_, _≤_}
 use native.Mathlib.Omega.{arith}
-use mathlib.Core.Path.{_≡_, refl, sym, _∙_}
+use mathlib.Core.Path.{_≡_, refl, _∙_}
 use lib.ListN.{length}
 use Rattle.flatten.specs.FileSteps.{Left, left-all, left-none, leftTemplate, left-next}
 use borrow.Author.Needs.{needs}
 use Rattle.flatten.proofs.write_templates.Statement.{statement}
 use Rattle.flatten.proofs.write_templates.Tie as tie
-use Rattle.flatten.proofs.write_templates.Reads as reads
-use Rattle.flatten.proofs.write_templates.Lts as lts
-use Rattle.flatten.proofs.write_template.Reads as write-template-reads
 
 abbrev Inv-loop : tie.InvT-loop
 Inv-loop s table count out₀ own₀ here₀ front₀ out own here front = (own ≤ count) × (length out ≡ length out₀) × Left s table count (length out₀) own (here .0) front out₀ out
@@ -16,31 +14,24 @@ Inv-loop s table count out₀ own₀ here₀ front₀ out own here front = (own 
 abbrev μ-loop : tie.MeasureT-loop
 μ-loop s table count out₀ own₀ here₀ front₀ out own here front = count - own
 
--- src/lib.rt:89:5
 loop-holds : tie.Need-loop-holds Inv-loop μ-loop
 loop-holds c = (search needs, refl, left-all _ _ _ _ _ (c .before .before .before .pre .2))
 
--- src/lib.rt:90:13
 write-template-requires : tie.Need-write-template-requires Inv-loop μ-loop
 write-template-requires c κs = let p = c .before .before .before .before .before .before .pre in (p .0, p .1, omega (arith, c .before .loop-test .taken, c .before .before .loop .inv .2 .now .few), leftTemplate _ _ _ _ _ _ _ _ _ (c .before .before .loop .inv .2) (c .before .loop-test .taken) _ (omega (arith, c .before .before .loop .inv .1)))
 
--- src/lib.rt:94:9
 add-own : tie.Need-add-own Inv-loop μ-loop
 add-own c = search needs
 
--- src/lib.rt:89:5
 loop-less : tie.Need-loop-less Inv-loop μ-loop
 loop-less c = search needs
 
--- src/lib.rt:89:5
 loop-again : tie.Need-loop-again Inv-loop μ-loop
 loop-again c = (search needs, c .before .before .before .write-template .kept .1 .1 .1 .1 .0 ∙ c .before .before .before .before .before .before .loop .inv .1, left-next _ _ _ _ _ _ _ _ _ (c .before .before .before .before .before .before .loop .inv .2) (c .before .before .before .before .before .loop-test .taken) (length (c .before .before .before .before .before .before .loop .out)) (omega (arith, c .before .before .before .before .before .before .loop .inv .1)) (c .before .before .before .write-template .ensures (leftTemplate _ _ _ _ _ _ _ _ _ (c .before .before .before .before .before .before .loop .inv .2) (c .before .before .before .before .before .loop-test .taken) (length (c .before .before .before .before .before .before .loop .out)) (omega (arith, c .before .before .before .before .before .before .loop .inv .1)))))
 
--- src/lib.rt:82:1
 same-length : tie.Need-same-length Inv-loop μ-loop
 same-length c = c .before .loop .inv .1
 
--- src/lib.rt:82:1
 returns : tie.Need-returns Inv-loop μ-loop
 returns c = left-none _ _ _ _ _ _ _ _ _ (c .before .loop .inv .2) (c .loop-test .left)
 
