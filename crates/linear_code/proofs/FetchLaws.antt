@@ -1,23 +1,18 @@
 -- What stands at a place, one law for each outcome. Assumes nothing.
-use Prim.Native.Nat.{ℕ, zero, suc, _+_, _*_, _-_, _<_, _≤_}
+use Prim.Native.Nat.{ℕ, zero, suc, _+_, _*_, _-_, _/_, _%_, _<_, _≤_}
 use mathlib.Core.Path.{_≡_, refl, sym, ap, _∙_}
 use mathlib.Core.Bool.{Bool, true, false, cond}
 use mathlib.Core.List.{List, [], _∷_}
-use mathlib.Core.Option.{Option, none, some}
 use native.Mathlib.Omega.{arith}
 use native.Mathlib.Nat.{add-zero, sub-zero, zero-sub, suc-sub-suc}
 use lib.Dec.{leb, eqb}
 use lib.ListN.{length, getD, take, drop, length-take, length-drop, drop-of-length-le, List·getD-eq-default}
 use lib.Seq.{take-nil, drop-cons, drop-drop, getD-take, getD-drop}
-use borrow.Author.Tests.{le-leb, lt-leb, eq-eqb, ne-eqb}
-use Rattle.files.specs.Codes.{operands}
+use borrow.Author.Tests.{lt-ltb, le-ltb, le-leb, lt-leb, eq-eqb, ne-eqb}
 use Rattle.runs.specs.Runs.{part}
-use Rattle.rules.specs.declared.Plain.{Plain}
 use Rattle.machines.specs.Fetched.{Fetched, plain, returns, calls, branches, saves, jumps, bad, plainly, callIn, branchIn, contIn, jumpIn}
-use Rattle.machines.specs.Slots.{slotAt, slotResolve, resolvedAs}
-use Rattle.machines.specs.declared.Resolved.{Resolved}
-use Rattle.machines.specs.declared.Resolved.the-variants.{Fit, Unfit}
-use Rattle.linear_code.specs.Bytes.{neutralBytes, codeBytes, decodeBytes, codeFrom, fetchBytes, Within}
+use Rattle.machines.specs.Slots.{slotAt, slotResolve}
+use Rattle.linear_code.specs.Bytes.{operandCount, neutralBytes, codeBytes, decodeBytes, codeFrom, fetchBytes, codeStart, codeLength, Within, AllWithin}
 
 -- ---- cut
 pub call-cut : (w : List ℕ) → length w < 1 → bad ≡ callIn [] w
@@ -107,34 +102,44 @@ module _ (s : List ℕ) (i left : ℕ) (fits : i + left ≤ length s) where
         rw (offset-is (omega arith), ← part-at 2 h)
         (save-whole q (part s i left) (rw part-length h))
 
--- ---- a neutral code, by what resolving it answered
-pub asked : (slot : ℕ → ℕ) (op : ℕ) (w : List ℕ) (x : Resolved) (a b : ℕ) → x ≡ resolvedAs (operands op) (slotResolve slot op a b) → a ≡ getD w 0 0 → b ≡ getD w 1 0
-    → x ≡ resolvedAs (operands op) (slotResolve slot op (getD w 0 0) (getD w 1 0))
-asked slot op w x a b e h k = rw (← h, ← k) e
+-- ---- how many operands
+module _ (op : ℕ) where
+  pub under-six : op < 6 → 0 ≡ operandCount op
+  unfolding operandCount
+  under-six h = rw (lt-ltb op 6 h)
 
-module _ (slot : ℕ → ℕ) (q op : ℕ) (w : List ℕ) (x : Resolved) (e : x ≡ resolvedAs (operands op) (slotResolve slot op (getD w 0 0) (getD w 1 0))) where
-  pub plain-unfit : x ≡ Unfit → bad ≡ neutralBytes slot q op w
-  unfolding neutralBytes plainly resolvedAs
-  plain-unfit k = by (slotResolve slot op (getD w 0 0) (getD w 1 0)) (leb (operands op) (length w)) e
-    where
-      by : (o : Option Plain) (b : Bool) → x ≡ resolvedAs (operands op) o → bad ≡ cond b (plainly o (q + (1 + operands op))) bad
-      by none true i = refl
-      by none false i = refl
-      by (some p) b i = let z : _≡_ {A = ℕ} 0 1 = cc in absurd (omega arith)
+  module _ (h₁ : 6 ≤ op) where
+    pub under-ten : op < 10 → 1 ≡ operandCount op
+    unfolding operandCount
+    under-ten h = rw (le-ltb op 6 h₁, lt-ltb op 10 h)
 
-  module _ (p : Plain) (n : ℕ) (k : x ≡ Fit p n) where
-    resolved : (o : Option Plain) → x ≡ resolvedAs (operands op) o → (o ≡ some p) × (operands op ≡ n)
-    unfolding resolvedAs
-    resolved none i = let z : _≡_ {A = ℕ} 0 1 = cc in absurd (omega arith)
-    resolved (some p′) i = (cc, cc)
+    module _ (h₂ : 10 ≤ op) where
+      pub under-twelve : op < 12 → 2 ≡ operandCount op
+      unfolding operandCount
+      under-twelve h = rw (le-ltb op 6 h₁, le-ltb op 10 h₂, lt-ltb op 12 h)
 
-    pub plain-cut : length w < n → bad ≡ neutralBytes slot q op w
-    unfolding neutralBytes
-    plain-cut h = let r = resolved _ e in rw (lt-leb (operands op) (length w) (omega arith))
+      module _ (h₃ : 12 ≤ op) where
+        pub thirteen : op ≡ 13 → 1 ≡ operandCount op
+        unfolding operandCount
+        thirteen e = rw (e)
 
-    pub plain-whole : n ≤ length w → plain p (q + (1 + n)) ≡ neutralBytes slot q op w
-    unfolding neutralBytes plainly
-    plain-whole h = let r = resolved _ e in rw (le-leb (operands op) (length w) (omega arith), r .0, r .1)
+        pub sixteen : (op ≡ 13 → ⊥) → op ≡ 16 → 1 ≡ operandCount op
+        unfolding operandCount
+        sixteen h₄ e = rw (e)
+
+        pub no-operand : (op ≡ 13 → ⊥) → (op ≡ 16 → ⊥) → 0 ≡ operandCount op
+        unfolding operandCount
+        no-operand h₄ h₅ = rw (le-ltb op 6 h₁, le-ltb op 10 h₂, le-ltb op 12 h₃, ne-eqb op 13 h₄, ne-eqb op 16 h₅)
+
+-- ---- a neutral code
+module _ (slot : ℕ → ℕ) (q op n : ℕ) (w : List ℕ) (e : n ≡ operandCount op) where
+  pub neutral-cut : length w < n → bad ≡ neutralBytes slot q op w
+  unfolding neutralBytes
+  neutral-cut h = rw (lt-leb (operandCount op) (length w) (omega arith))
+
+  pub neutral-whole : (a b : ℕ) → a ≡ getD w 0 0 → b ≡ getD w 1 0 → n ≤ length w → plainly (slotResolve slot op a b) (q + (1 + n)) ≡ neutralBytes slot q op w
+  unfolding neutralBytes
+  neutral-whole a b i j h = rw (le-leb (operandCount op) (length w) (omega arith), i, j, e)
 
 -- ---- a place of a template's code
 drop-take : (k n : ℕ) (l : List ℕ) → drop k (take n l) ≡ take (n - k) (drop k l)
@@ -180,3 +185,13 @@ module _ (s table : List ℕ) (t start len q : ℕ) (k : Within s start len) whe
   pub fetch-past-absent : start ≡ 0 → (q ≡ 0 → ⊥) → bad ≡ fetchBytes s table t start len q
   unfolding fetchBytes codeFrom decodeBytes
   fetch-past-absent z y = rw (z, drop-of-length-le {A = ℕ} (1 ∷ []) {i = q} (omega arith))
+
+-- ---- a place of a template, whose slot 0 is x
+module _ (s table : List ℕ) (t x : ℕ) (e : x ≡ slotAt table t 0) where
+  pub code-within : AllWithin s table → Within s (x % 0x100000000) (x / 0x100000000)
+  unfolding codeStart codeLength
+  code-within w = rw e (w .within t)
+
+  pub code-fetched : (q : ℕ) (y : Fetched) → y ≡ fetchBytes s table t (x % 0x100000000) (x / 0x100000000) q → y ≡ fetchBytes s table t (codeStart table t) (codeLength table t) q
+  unfolding codeStart codeLength
+  code-fetched q y h = h ∙ rw e

@@ -13,7 +13,7 @@ use Rattle.files.specs.Codes.{shapeOf, isNeutral, operands}
 use Rattle.files.specs.Entries.{Entry}
 use Rattle.machines.specs.Fetched.{Fetched, bad, plainly, resolve, neutralIn, callIn, branchIn, contIn, jumpIn, decode}
 use Rattle.machines.specs.Slots.{slotResolve, RowStands, slot-resolve}
-use Rattle.linear_code.specs.Bytes.{neutralBytes, codeBytes, decodeBytes, AllBytes}
+use Rattle.linear_code.specs.Bytes.{operandCount, neutralBytes, codeBytes, decodeBytes, AllBytes}
 
 either-bad : (b : Bool) → cond b bad bad ≡ bad
 either-bad true = refl
@@ -35,14 +35,14 @@ module _ (slot : ℕ → ℕ) (es : List Entry) (row : RowStands slot es) (q : �
   abbrev Uses : ℕ → List ℕ → Type 0
   Uses op w = slotResolve slot op (getD w 0 0) (getD w 1 0) ≡ slotResolve slot op (getD (take (operands op) w) 0 0) (getD (take (operands op) w) 1 0)
 
-  neutral-bytes : (op : ℕ) (w : List ℕ) → AllBytes w → Uses op w → neutralBytes slot q op w ≡ neutralIn es q op w
+  neutral-bytes : (op : ℕ) (w : List ℕ) → AllBytes w → operandCount op ≡ operands op → Uses op w → neutralBytes slot q op w ≡ neutralIn es q op w
   unfolding neutralBytes neutralIn
-  neutral-bytes op w h e =
-      rw (e ∙ slot-resolve slot es op (take (operands op) w) row (first-byte (operands op) w h))
+  neutral-bytes op w h n e =
+      rw (n, e ∙ slot-resolve slot es op (take (operands op) w) row (first-byte (operands op) w h))
 
   not-neutral : (op : ℕ) (w : List ℕ) → slotResolve slot op (getD w 0 0) (getD w 1 0) ≡ none → neutralBytes slot q op w ≡ bad
   unfolding neutralBytes plainly
-  not-neutral op w e = rw e (either-bad (leb (operands op) (length w)))
+  not-neutral op w e = rw e (either-bad (leb (operandCount op) (length w)))
 
   one-operand : (w : List ℕ) → getD w 0 0 ≡ getD (take 1 w) 0 0
   one-operand w = sym (getD-take 1 w 0 0 (omega arith))
@@ -62,30 +62,30 @@ module _ (slot : ℕ → ℕ) (es : List Entry) (row : RowStands slot es) (q : �
       (not-neutral op w (no-neutral op (getD w 0 0) (getD w 1 0) h))
 
   code-bytes : (op : ℕ) (w : List ℕ) → AllBytes w → codeBytes slot q op w ≡ decode es q (op ∷ w)
-  unfolding codeBytes decode isNeutral operands shapeOf slotResolve callIn branchIn contIn jumpIn
+  unfolding codeBytes decode isNeutral operandCount operands shapeOf slotResolve callIn branchIn contIn jumpIn
   code-bytes zero w h = not-neutral 0 w refl
   code-bytes (suc zero) w h = refl
   code-bytes (suc (suc zero)) w h = refl
   code-bytes (suc (suc (suc zero))) w h = refl
   code-bytes (suc (suc (suc (suc zero)))) w h = refl
   code-bytes (suc (suc (suc (suc (suc zero))))) w h = refl
-  code-bytes (suc (suc (suc (suc (suc (suc zero)))))) w h = neutral-bytes 6 w h (rw (one-operand w))
-  code-bytes (suc (suc (suc (suc (suc (suc (suc zero))))))) w h = neutral-bytes 7 w h (rw (one-operand w))
-  code-bytes (suc (suc (suc (suc (suc (suc (suc (suc zero)))))))) w h = neutral-bytes 8 w h (rw (one-operand w))
-  code-bytes (suc (suc (suc (suc (suc (suc (suc (suc (suc zero))))))))) w h = neutral-bytes 9 w h (rw (one-operand w))
-  code-bytes (suc (suc (suc (suc (suc (suc (suc (suc (suc (suc zero)))))))))) w h = neutral-bytes 10 w h (rw (two-operands w 0 (omega arith), two-operands w 1 (omega arith)))
-  code-bytes (suc (suc (suc (suc (suc (suc (suc (suc (suc (suc (suc zero))))))))))) w h = neutral-bytes 11 w h (rw (two-operands w 0 (omega arith), two-operands w 1 (omega arith)))
-  code-bytes (suc (suc (suc (suc (suc (suc (suc (suc (suc (suc (suc (suc zero)))))))))))) w h = neutral-bytes 12 w h refl
-  code-bytes (suc (suc (suc (suc (suc (suc (suc (suc (suc (suc (suc (suc (suc zero))))))))))))) w h = neutral-bytes 13 w h (rw (one-operand w))
+  code-bytes (suc (suc (suc (suc (suc (suc zero)))))) w h = neutral-bytes 6 w h refl (rw (one-operand w))
+  code-bytes (suc (suc (suc (suc (suc (suc (suc zero))))))) w h = neutral-bytes 7 w h refl (rw (one-operand w))
+  code-bytes (suc (suc (suc (suc (suc (suc (suc (suc zero)))))))) w h = neutral-bytes 8 w h refl (rw (one-operand w))
+  code-bytes (suc (suc (suc (suc (suc (suc (suc (suc (suc zero))))))))) w h = neutral-bytes 9 w h refl (rw (one-operand w))
+  code-bytes (suc (suc (suc (suc (suc (suc (suc (suc (suc (suc zero)))))))))) w h = neutral-bytes 10 w h refl (rw (two-operands w 0 (omega arith), two-operands w 1 (omega arith)))
+  code-bytes (suc (suc (suc (suc (suc (suc (suc (suc (suc (suc (suc zero))))))))))) w h = neutral-bytes 11 w h refl (rw (two-operands w 0 (omega arith), two-operands w 1 (omega arith)))
+  code-bytes (suc (suc (suc (suc (suc (suc (suc (suc (suc (suc (suc (suc zero)))))))))))) w h = neutral-bytes 12 w h refl refl
+  code-bytes (suc (suc (suc (suc (suc (suc (suc (suc (suc (suc (suc (suc (suc zero))))))))))))) w h = neutral-bytes 13 w h refl (rw (one-operand w))
   code-bytes (suc (suc (suc (suc (suc (suc (suc (suc (suc (suc (suc (suc (suc (suc zero)))))))))))))) w h = not-neutral 14 w refl
-  code-bytes (suc (suc (suc (suc (suc (suc (suc (suc (suc (suc (suc (suc (suc (suc (suc zero))))))))))))))) w h = neutral-bytes 15 w h refl
-  code-bytes (suc (suc (suc (suc (suc (suc (suc (suc (suc (suc (suc (suc (suc (suc (suc (suc zero)))))))))))))))) w h = neutral-bytes 16 w h (rw (one-operand w))
+  code-bytes (suc (suc (suc (suc (suc (suc (suc (suc (suc (suc (suc (suc (suc (suc (suc zero))))))))))))))) w h = neutral-bytes 15 w h refl refl
+  code-bytes (suc (suc (suc (suc (suc (suc (suc (suc (suc (suc (suc (suc (suc (suc (suc (suc zero)))))))))))))))) w h = neutral-bytes 16 w h refl (rw (one-operand w))
   code-bytes (suc (suc (suc (suc (suc (suc (suc (suc (suc (suc (suc (suc (suc (suc (suc (suc (suc zero))))))))))))))))) w h = not-neutral 17 w refl
-  code-bytes (suc (suc (suc (suc (suc (suc (suc (suc (suc (suc (suc (suc (suc (suc (suc (suc (suc (suc zero)))))))))))))))))) w h = neutral-bytes 18 w h refl
-  code-bytes (suc (suc (suc (suc (suc (suc (suc (suc (suc (suc (suc (suc (suc (suc (suc (suc (suc (suc (suc zero))))))))))))))))))) w h = neutral-bytes 19 w h refl
-  code-bytes (suc (suc (suc (suc (suc (suc (suc (suc (suc (suc (suc (suc (suc (suc (suc (suc (suc (suc (suc (suc zero)))))))))))))))))))) w h = neutral-bytes 20 w h refl
-  code-bytes (suc (suc (suc (suc (suc (suc (suc (suc (suc (suc (suc (suc (suc (suc (suc (suc (suc (suc (suc (suc (suc zero))))))))))))))))))))) w h = neutral-bytes 21 w h refl
-  code-bytes (suc (suc (suc (suc (suc (suc (suc (suc (suc (suc (suc (suc (suc (suc (suc (suc (suc (suc (suc (suc (suc (suc zero)))))))))))))))))))))) w h = neutral-bytes 22 w h refl
+  code-bytes (suc (suc (suc (suc (suc (suc (suc (suc (suc (suc (suc (suc (suc (suc (suc (suc (suc (suc zero)))))))))))))))))) w h = neutral-bytes 18 w h refl refl
+  code-bytes (suc (suc (suc (suc (suc (suc (suc (suc (suc (suc (suc (suc (suc (suc (suc (suc (suc (suc (suc zero))))))))))))))))))) w h = neutral-bytes 19 w h refl refl
+  code-bytes (suc (suc (suc (suc (suc (suc (suc (suc (suc (suc (suc (suc (suc (suc (suc (suc (suc (suc (suc (suc zero)))))))))))))))))))) w h = neutral-bytes 20 w h refl refl
+  code-bytes (suc (suc (suc (suc (suc (suc (suc (suc (suc (suc (suc (suc (suc (suc (suc (suc (suc (suc (suc (suc (suc zero))))))))))))))))))))) w h = neutral-bytes 21 w h refl refl
+  code-bytes (suc (suc (suc (suc (suc (suc (suc (suc (suc (suc (suc (suc (suc (suc (suc (suc (suc (suc (suc (suc (suc (suc zero)))))))))))))))))))))) w h = neutral-bytes 22 w h refl refl
   code-bytes (suc (suc (suc (suc (suc (suc (suc (suc (suc (suc (suc (suc (suc (suc (suc (suc (suc (suc (suc (suc (suc (suc (suc n))))))))))))))))))))))) w h = beyond (suc (suc (suc (suc (suc (suc (suc (suc (suc (suc (suc (suc (suc (suc (suc (suc (suc (suc (suc (suc (suc (suc (suc n))))))))))))))))))))))) w (omega arith) (sixes 9 n)
 
   -- THE LAW

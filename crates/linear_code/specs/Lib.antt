@@ -2,4 +2,3 @@
 pub mod Bytes
 pub mod BytesLaws
 pub mod ProgramLaws
-pub mod Fetch

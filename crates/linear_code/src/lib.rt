@@ -1,27 +1,17 @@
 // What stands at a place of linear code (document 01, 'Codes').
 use cells::BytePlace;
-use machines::Resolved;
-use rules::Plain;
+use machines::CodePlace;
+use machines::Instruction;
 ghost use mathlib.Core.Path.{_≡_};
-ghost use mathlib.Core.List.{[]};
-ghost use Prim.Native.Nat.{_+_, _*_, _≤_, _<_};
+ghost use mathlib.Core.Bool.{true};
+ghost use mathlib.Core.List.{List, []};
+ghost use Prim.Native.Nat.{ℕ, _+_, _*_, _≤_, _<_};
 ghost use lib.ListN.{length, getD};
 ghost use Rattle.runs.specs.Runs.{part};
 ghost use Rattle.machines.specs.Fetched.{callIn, branchIn, contIn, jumpIn};
 ghost use Rattle.machines.specs.Slots.{slotAt};
-ghost use Rattle.linear_code.specs.Bytes.{neutralBytes, fetchBytes, Within};
-ghost use Rattle.linear_code.specs.Fetch.{fetchedAs, Savable};
-
-// What stands at a code place. The places in it are where to go on; of a make-cont the saved place, and then the rest's.
-pub enum LinearFetched {
-    Plain(Plain, BytePlace),
-    Return,
-    Call(u8),
-    Branch(BytePlace, BytePlace),
-    Save(u8, BytePlace, BytePlace),
-    Jump(BytePlace),
-    Bad,
-}
+ghost use Rattle.machines.specs.Instruction.{fetchedAs, Places};
+ghost use Rattle.linear_code.specs.Bytes.{operandCount, neutralBytes, fetchBytes, codeStart, codeLength, Within, AllWithin};
 
 // Byte k of the `left` bytes at i, 0 past them.
 fn operand(file: &[u8], i: usize, left: usize, k: usize) -> u8
@@ -38,113 +28,121 @@ fn offset(file: &[u8], i: usize) -> usize
     256 * (file[i] as usize) + file[i + 1] as usize
 }
 
+// How many operand bytes a neutral code has; 0 where it is none.
+fn operand_count(op: u8) -> usize
+    ensures { λ r. ⌜ r ≡ operandCount op ⌝ }
+{
+    if op < 6 {
+        return 0;
+    }
+    if op < 10 {
+        return 1;
+    }
+    if op < 12 {
+        return 2;
+    }
+    if op == 13 {
+        return 1;
+    }
+    if op == 16 { 1 } else { 0 }
+}
+
 // Each of the next five is given the instruction's place, and the bytes after its code: `left` of them at i.
 
-fn fetch_call(file: &[u8], i: usize, left: usize) -> LinearFetched
+fn fetch_call(file: &[u8], i: usize, left: usize) -> Instruction
     requires { ⌜ i + left ≤ length (now file) ⌝ }
-    ensures { λ r. ⌜ (fetchedAs r ≡ callIn [] (part (now (file .entry)) i left)) × Savable r ⌝ }
+    ensures { λ r. ⌜ ((slot : ℕ → ℕ) → fetchedAs slot r ≡ callIn [] (part (now (file .entry)) i left)) × Places true r ⌝ }
 {
     if left < 1 {
-        LinearFetched::Bad
+        Instruction::Bad
     } else {
-        LinearFetched::Call(file[i])
+        Instruction::Call(file[i])
     }
 }
 
-fn fetch_branch(file: &[u8], i: usize, left: usize, place: usize) -> LinearFetched
+fn fetch_branch(file: &[u8], i: usize, left: usize, place: usize) -> Instruction
     requires { ⌜ (i + left ≤ length (now file)) × (place ≤ 262144) ⌝ }
-    ensures { λ r. ⌜ (fetchedAs r ≡ branchIn [] place (part (now (file .entry)) i left)) × Savable r ⌝ }
+    ensures { λ r. ⌜ ((slot : ℕ → ℕ) → fetchedAs slot r ≡ branchIn [] place (part (now (file .entry)) i left)) × Places true r ⌝ }
 {
     if left < 2 {
-        LinearFetched::Bad
-    } else {
-        LinearFetched::Branch(BytePlace(place + 3), BytePlace(place + 3 + offset(file, i)))
+        return Instruction::Bad;
     }
+    let first = CodePlace::Linear(BytePlace(place + 3));
+    let second = CodePlace::Linear(BytePlace(place + 3 + offset(file, i)));
+    Instruction::Branch(first, second)
 }
 
-fn fetch_save(file: &[u8], i: usize, left: usize, place: usize) -> LinearFetched
+fn fetch_save(file: &[u8], i: usize, left: usize, place: usize) -> Instruction
     requires { ⌜ (i + left ≤ length (now file)) × (place ≤ 262144) ⌝ }
-    ensures { λ r. ⌜ (fetchedAs r ≡ contIn [] place (part (now (file .entry)) i left)) × Savable r ⌝ }
+    ensures { λ r. ⌜ ((slot : ℕ → ℕ) → fetchedAs slot r ≡ contIn [] place (part (now (file .entry)) i left)) × Places true r ⌝ }
 {
     if left < 3 {
-        LinearFetched::Bad
-    } else {
-        LinearFetched::Save(
-            file[i + 2],
-            BytePlace(place + 4 + offset(file, i)),
-            BytePlace(place + 4),
-        )
+        return Instruction::Bad;
     }
+    let saved = CodePlace::Linear(BytePlace(place + 4 + offset(file, i)));
+    let rest = CodePlace::Linear(BytePlace(place + 4));
+    Instruction::Save(file[i + 2], saved, rest)
 }
 
-fn fetch_jump(file: &[u8], i: usize, left: usize, place: usize) -> LinearFetched
+fn fetch_jump(file: &[u8], i: usize, left: usize, place: usize) -> Instruction
     requires { ⌜ (i + left ≤ length (now file)) × (place ≤ 262144) ⌝ }
-    ensures { λ r. ⌜ (fetchedAs r ≡ jumpIn [] place (part (now (file .entry)) i left)) × Savable r ⌝ }
+    ensures { λ r. ⌜ ((slot : ℕ → ℕ) → fetchedAs slot r ≡ jumpIn [] place (part (now (file .entry)) i left)) × Places true r ⌝ }
 {
     if left < 2 {
-        LinearFetched::Bad
+        Instruction::Bad
     } else {
-        LinearFetched::Jump(BytePlace(place + 3 + offset(file, i)))
+        Instruction::Jump(CodePlace::Linear(BytePlace(place + 3 + offset(file, i))))
     }
 }
 
-fn fetch_plain(
-    file: &[u8],
-    table: &[u64],
-    template: u8,
-    i: usize,
-    left: usize,
-    place: usize,
-    op: u8,
-) -> LinearFetched
+fn fetch_neutral(file: &[u8], i: usize, left: usize, place: usize, op: u8) -> Instruction
     requires { ⌜ (i + left ≤ length (now file)) × (place ≤ 262144) ⌝ }
-    ensures { λ r. ⌜ (fetchedAs r ≡ neutralBytes (slotAt (now (table .entry)) template) place op (part (now (file .entry)) i left)) × Savable r ⌝ }
+    ensures { λ r. ⌜ ((slot : ℕ → ℕ) → fetchedAs slot r ≡ neutralBytes slot place op (part (now (file .entry)) i left)) × Places true r ⌝ }
 {
+    let count = operand_count(op);
+    if left < count {
+        return Instruction::Bad;
+    }
     let a = operand(file, i, left, 0);
     let b = operand(file, i, left, 1);
-    match machines::resolve(table, template, op, a, b) {
-        Resolved::Unfit => LinearFetched::Bad,
-        Resolved::Fit(instruction, operands) => {
-            if left < operands {
-                LinearFetched::Bad
-            } else {
-                LinearFetched::Plain(instruction, BytePlace(place + (1 + operands)))
-            }
-        }
-    }
+    Instruction::Neutral(op, a, b, CodePlace::Linear(BytePlace(place + (1 + count))))
 }
 
-// What stands at a place of a template, whose code is the `len` bytes at `start`.
-pub fn fetch(
-    file: &[u8],
-    table: &[u64],
-    template: u8,
-    start: usize,
-    len: usize,
-    at: BytePlace,
-) -> LinearFetched
+// What stands at a place of the `len` bytes of code at `start`.
+fn fetch_code(file: &[u8], start: usize, len: usize, at: BytePlace) -> Instruction
     requires { ⌜ Within (now file) start len × (length (now file) ≤ 262144) ⌝ }
-    ensures { λ r. ⌜ (fetchedAs r ≡ fetchBytes (now (file .entry)) (now (table .entry)) template start len (at .0)) × Savable r ⌝ }
+    ensures { λ r. ⌜ ((table : List ℕ) (t : ℕ) → fetchedAs (slotAt table t) r ≡ fetchBytes (now (file .entry)) table t start len (at .0)) × Places true r ⌝ }
 {
     let place = at.0;
     if len <= place {
         if start != 0 {
-            return LinearFetched::Bad;
+            return Instruction::Bad;
         }
         if place != 0 {
-            return LinearFetched::Bad;
+            return Instruction::Bad;
         }
-        return LinearFetched::Return;
+        return Instruction::Return;
     }
     let i = start + place + 1;
     let left = len - place - 1;
     let op = file[start + place];
     match op {
-        1 => LinearFetched::Return,
+        1 => Instruction::Return,
         2 => fetch_call(file, i, left),
         3 => fetch_branch(file, i, left, place),
         4 => fetch_save(file, i, left, place),
         5 => fetch_jump(file, i, left, place),
-        _ => fetch_plain(file, table, template, i, left, place, op),
+        _ => fetch_neutral(file, i, left, place, op),
     }
+}
+
+// What stands at a place of a template.
+pub fn fetch(file: &[u8], table: &[u64], template: u8, at: BytePlace) -> Instruction
+    requires { ⌜ AllWithin (now file) (now table) ⌝ }
+    ensures { λ r. ⌜ (fetchedAs (slotAt (now (table .entry)) template) r ≡ fetchBytes (now (file .entry)) (now (table .entry)) template (codeStart (now (table .entry)) template) (codeLength (now (table .entry)) template) (at .0)) × Places true r ⌝ }
+{
+    let slot = machines::slot_at(table, template, 0);
+    let start = (slot % 0x1_0000_0000) as usize;
+    let len = (slot / 0x1_0000_0000) as usize;
+    fetch_code(file, start, len, at)
 }

@@ -5,7 +5,6 @@ use mathlib.Core.List.{List}
 use native.Mathlib.Omega.{arith}
 use lib.ListN.{length, length-replicate}
 use Rattle.cells.specs.declared.BitPlace.{BitPlace}
-use Rattle.cells.specs.declared.BytePlace.{BytePlace}
 use Rattle.files.specs.Reading.{Got, got, refused}
 use Rattle.files.specs.Linear.{Linear, linearRead}
 use Rattle.files.specs.Table.{linearTable}
@@ -13,8 +12,6 @@ use Rattle.linear.specs.Filled.{linearTold, linearFilled}
 use Rattle.linear.specs.LinearTable.{linear-table}
 use Rattle.linear.specs.declared.LinearFile.{LinearFile}
 use Rattle.linear.specs.declared.LinearFile.the-variants.{Read, Refused}
-use Rattle.rules.specs.Fit.{Fit}
-use Rattle.rules.specs.declared.Regs.{Regs}
 use Rattle.machines.specs.Machine.{Program, linearProgram, State, noCounts, run}
 use Rattle.machines.specs.Runs.{Memory, memory, Ran, ran, refusedRun, startState, reported, programRun, onLinear, linearRun}
 use Rattle.machines.specs.Start.{zeros, refusal, startRefusal, Startable, startable, started-go, started-refused}
@@ -24,8 +21,6 @@ use Rattle.machines.specs.declared.Start.{Start}
 use Rattle.machines.specs.declared.Start.the-variants as started
 use Rattle.linear_code.specs.Bytes.{bytesProgram, AllBytes, AllWithin}
 use Rattle.linear_code.specs.ProgramLaws.{table-within, program-is}
-use Rattle.linear_machine.specs.Step.{stateOf, enteredAt, firstRegs, firstState, Entered, Ready}
-use Rattle.linear_machine.specs.declared.Control.{Control}
 
 -- ---- what reading answered
 record WasRead (g : Got (List Linear)) : Type 0 where
@@ -50,29 +45,6 @@ zeros-length n = length-replicate n 0
 pub table-long : (table : List ℕ) → table ≡ zeros 16384 → length table ≡ 16384
 table-long table e = ap length e ∙ zeros-length 16384
 
--- ---- the first state
-pub first-ready : (s table : List ℕ) (m : Memory) (c : Control) → AllWithin s table → c ≡ enteredAt table 0 (record { 0 = 0 }) 0 → length (m .globals) ≡ 256 → m .stack ≡ zeros 256
-    → m .store ≡ zeros 2048 → m .frames ≡ zeros 2048 → Ready s table m firstRegs c
-first-ready s table m c w e lg ls lt lf =
-    record {
-      all-within = w;
-      entered = rw e (record { start-is = refl; len-is = refl });
-      fit = record { fit-sp = omega arith; fit-st = omega arith };
-      frames-fit = rw e (omega arith);
-      globals-long = lg;
-      stack-long = ap length ls ∙ zeros-length 256;
-      store-long = ap length lt ∙ zeros-length 2048;
-      frames-long = ap length lf ∙ zeros-length 2048;
-    }
-
-pub first-ran : (P : Program) (b : ℕ) (table g a t f : List ℕ) (c : Control) (r : Ran) → c ≡ enteredAt table 0 (record { 0 = 0 }) 0 → a ≡ zeros 256 → t ≡ zeros 2048 → f ≡ zeros 2048
-    → r ≡ ranFrom P b 0 (stateOf firstRegs c (memory g a t f)) → r ≡ ranFrom P b 0 (firstState table g)
-first-ran P b table g a t f c r e ea et ef h = h ∙ rw (e, ea, et, ef)
-
-first-is : (table g : List ℕ) → firstState table g ≡ startState g 0
-unfolding startState zeros
-first-is table g = refl
-
 -- ---- a file s that was read, x the answer; table is what the table was before and table′ after
 module _ (s table table′ : List ℕ) (x : LinearFile) (asked : x ≡ linearTold (linearRead s)) (was : table ≡ zeros 16384) (filled : table′ ≡ linearFilled s table) (n : ℕ)
     (there : x ≡ Read n) where
@@ -86,12 +58,10 @@ module _ (s table table′ : List ℕ) (x : LinearFile) (asked : x ≡ linearTol
   pub file-within : AllWithin s table′
   file-within = rw table-is (table-within s (file .is))
 
-  pub file-ran : (b : ℕ) (m : Memory) (r : Ran) → AllBytes s → r ≡ ranFrom (bytesProgram s table′) b 0 (firstState table′ (m .globals)) → r ≡ onLinear b m (linearRead s)
+  pub file-ran : (b : ℕ) (m : Memory) (r : Ran) → AllBytes s → r ≡ ranFrom (bytesProgram s table′) b 0 (startState (m .globals) 0) → r ≡ onLinear b m (linearRead s)
   unfolding onLinear programRun
   file-ran b m r bytes h =
-      h ∙ rw (table-is, file .is, program-is s (file .is) bytes)
-      (ap (ranFrom (linearProgram (file .templates)) b 0) (first-is (linearTable (file .templates)) (m .globals))
-      ∙ whole-budget (linearProgram (file .templates)) b (startState (m .globals) 0))
+      h ∙ rw (table-is, file .is, program-is s (file .is) bytes) (whole-budget (linearProgram (file .templates)) b (startState (m .globals) 0))
 
 -- ---- a file that is refused
 pub file-refused : (s : List ℕ) (x : LinearFile) (b : ℕ) (m : Memory) (n : ℕ) (p : BitPlace) (r : Run) → x ≡ linearTold (linearRead s) → x ≡ Refused n p → r ≡ refusal n (p .0)

@@ -109,5 +109,5 @@ module _ (s : List ℕ) {ts : List Template} {q : ℕ} (read : treeRead s ≡ go
     template-stands = list-stands-there s 15 _ _ _ (template-there .2 .list)
 
     -- THE LAW: its links are there
-    pub template-links : (L : List ℕ) → length L ≡ 104858 → Linked (linkedAll L ts) (getD ts i d .start) 0 0 (getD ts i d .code)
-    template-links L long = laid-linked s L (parts .count) 0 (parts .first) ts i d (omega (arith, short)) laid h
+    pub template-links : (L : List ℕ) → 8 * length s ≤ 5 * length L → Linked (linkedAll L ts) (getD ts i d .start) 0 0 (getD ts i d .code)
+    template-links L long = laid-linked s L (parts .count) 0 (parts .first) ts i d long laid h

@@ -7,7 +7,6 @@ use native.Mathlib.Omega.{arith}
 use lib.Dec.{eqb}
 use borrow.Author.Tests.{ne-eqb}
 use Rattle.cells.specs.Cells.{tagOf}
-use Rattle.files.specs.Codes.{operands, shapeOf}
 use Rattle.rules.specs.declared.Plain.{Plain}
 use Rattle.machines.specs.Slots.{markedAs, slotResolve, resolvedAs}
 use Rattle.machines.specs.declared.Marked.{Marked}
@@ -17,7 +16,7 @@ use Rattle.machines.specs.declared.Resolved.the-variants.{Fit, Unfit}
 
 -- the answer x to code k
 abbrev pub Answers : (ℕ → ℕ) → ℕ → ℕ → ℕ → Resolved → Type 0
-Answers slot k a b x = x ≡ resolvedAs (operands k) (slotResolve slot k a b)
+Answers slot k a b x = x ≡ resolvedAs (slotResolve slot k a b)
 
 pub coded : (slot : ℕ → ℕ) (op k a b : ℕ) (x : Resolved) → op ≡ k → Answers slot k a b x → Answers slot op a b x
 coded slot op k a b x e h = rw e h
@@ -47,18 +46,18 @@ no-code slot op a b h₁ h₂ h₃ h₄ h₅ h₆ h₇ h₈ h₉ i₁ i₂ i₃ 
 
 -- a slot x that was looked at for a tag, with the answer m
 module _ (f : ℕ → Plain) (tag x : ℕ) (m : Marked) (e : m ≡ markedAs tag x) where
-  pub marked-number : (n : ℕ) → m ≡ Number n → Fit (f n) 1 ≡ resolvedAs 1 (cond (eqb (tagOf x) tag) (some (f (x % 256))) none)
+  pub marked-number : (n : ℕ) → m ≡ Number n → Fit (f n) ≡ resolvedAs (cond (eqb (tagOf x) tag) (some (f (x % 256))) none)
   unfolding markedAs resolvedAs
   marked-number n k = by (eqb (tagOf x) tag) e
     where
-      by : (b : Bool) → m ≡ cond b (Number (x % 256)) Other → Fit (f n) 1 ≡ resolvedAs 1 (cond b (some (f (x % 256))) none)
+      by : (b : Bool) → m ≡ cond b (Number (x % 256)) Other → Fit (f n) ≡ resolvedAs (cond b (some (f (x % 256))) none)
       by true i = let j : n ≡ x % 256 = cc in rw j
       by false i = let z : _≡_ {A = ℕ} 0 1 = cc in absurd (omega arith)
 
-  pub marked-other : m ≡ Other → Unfit ≡ resolvedAs 1 (cond (eqb (tagOf x) tag) (some (f (x % 256))) none)
+  pub marked-other : m ≡ Other → Unfit ≡ resolvedAs (cond (eqb (tagOf x) tag) (some (f (x % 256))) none)
   unfolding markedAs resolvedAs
   marked-other k = by (eqb (tagOf x) tag) e
     where
-      by : (b : Bool) → m ≡ cond b (Number (x % 256)) Other → Unfit ≡ resolvedAs 1 (cond b (some (f (x % 256))) none)
+      by : (b : Bool) → m ≡ cond b (Number (x % 256)) Other → Unfit ≡ resolvedAs (cond b (some (f (x % 256))) none)
       by true i = let z : _≡_ {A = ℕ} 0 1 = cc in absurd (omega arith)
       by false i = refl

@@ -10,7 +10,6 @@ use lib.Dec.{leb, eqb}
 use lib.ListN.{getD}
 use borrow.Author.Tests.{le-leb, lt-leb, eq-eqb, ne-eqb, eqb-true, eqb-false}
 use Rattle.cells.specs.Cells.{tagOf, intCell}
-use Rattle.files.specs.Codes.{operands, shapeOf}
 use Rattle.files.specs.Entries.{Entry, constant, global, template}
 use Rattle.files.specs.EntriesLaws.{EntryOk, EntriesOk}
 use Rattle.files.specs.Grammar.{entryOf}
@@ -58,10 +57,10 @@ slotResolve slot op a b =
     (cond (eqb op 21) (some Eqv)
     (cond (eqb op 22) (some Add) none))))))))))))))
 
--- how resolving is told: with the code's number of operand bytes
-unfoldable pub resolvedAs : ℕ → Option Plain → Resolved
-resolvedAs n none = Unfit
-resolvedAs n (some i) = Fit i n
+-- how resolving is told
+unfoldable pub resolvedAs : Option Plain → Resolved
+resolvedAs none = Unfit
+resolvedAs (some i) = Fit i
 
 -- what slot x holds under a tag
 unfoldable pub markedAs : ℕ → ℕ → Marked

@@ -1,10 +1,11 @@
 // The two machines (document 01, 'Rules').
+use cells::BitPlace;
+use cells::BytePlace;
 use cells::Value;
 use rules::Plain;
 ghost use mathlib.Core.Path.{_≡_};
 ghost use lib.ListN.{length};
 ghost use Rattle.machines.specs.Runs.{memory, lowestUnfit};
-ghost use Rattle.files.specs.Codes.{operands};
 ghost use Rattle.machines.specs.Slots.{slotLiteral, slotAt, slotResolve, resolvedAs, markedAs};
 ghost use Rattle.machines.specs.Start.{zeros, refusal, globalsRefusal, startRefusal};
 
@@ -97,9 +98,28 @@ pub fn clear_all(stack: &mut [u64], store: &mut [u64], frames: &mut [u64])
     runs::clear(frames, 0, 2048);
 }
 
-// A neutral code with its operands and its entry resolved: the instruction and its number of operand bytes; or an unfit entry, or no neutral code.
+// A code place: a bit number in a tree file, or a byte number within its template's code in a linear file.
+pub enum CodePlace {
+    Tree(BitPlace),
+    Linear(BytePlace),
+}
+
+// What stands at a code place. The places in it are where to go on; of a make-cont the saved place, and then the rest's.
+pub enum Instruction {
+    // a neutral code and two operands, of which it may have fewer
+    Neutral(u8, u8, u8, CodePlace),
+    Return,
+    Call(u8),
+    Branch(CodePlace, CodePlace),
+    Save(u8, CodePlace, CodePlace),
+    Jump(CodePlace),
+    // 16
+    Bad,
+}
+
+// A neutral code with its operands and its entry resolved; or an unfit entry, or no neutral code.
 pub enum Resolved {
-    Fit(Plain, usize),
+    Fit(Plain),
     Unfit,
 }
 
@@ -128,14 +148,14 @@ fn under_tag(slot: u64, tag: u64) -> Marked
 }
 
 fn literal(slot: u64) -> Resolved
-    ensures { λ r. ⌜ r ≡ resolvedAs 1 (slotLiteral slot) ⌝ }
+    ensures { λ r. ⌜ r ≡ resolvedAs (slotLiteral slot) ⌝ }
 {
     let tag = cells::tag_of(slot);
     if tag == 0 {
         return Resolved::Unfit;
     }
     if tag <= 6 {
-        Resolved::Fit(Plain::Literal(slot), 1)
+        Resolved::Fit(Plain::Literal(slot))
     } else {
         Resolved::Unfit
     }
@@ -143,33 +163,33 @@ fn literal(slot: u64) -> Resolved
 
 // A code with operands a and b, of which it may have fewer, in a template.
 pub fn resolve(table: &[u64], template: u8, op: u8, a: u8, b: u8) -> Resolved
-    ensures { λ r. ⌜ r ≡ resolvedAs (operands op) (slotResolve (slotAt (now (table .entry)) template) op a b) ⌝ }
+    ensures { λ r. ⌜ r ≡ resolvedAs (slotResolve (slotAt (now (table .entry)) template) op a b) ⌝ }
 {
     match op {
         6 => literal(slot_at(table, template, a)),
         7 => match under_tag(slot_at(table, template, a), 12) {
-            Marked::Number(t) => Resolved::Fit(Plain::Closure(t), 1),
+            Marked::Number(t) => Resolved::Fit(Plain::Closure(t)),
             Marked::Other => Resolved::Unfit,
         },
         8 => match under_tag(slot_at(table, template, a), 11) {
-            Marked::Number(g) => Resolved::Fit(Plain::Global(g), 1),
+            Marked::Number(g) => Resolved::Fit(Plain::Global(g)),
             Marked::Other => Resolved::Unfit,
         },
         9 => match under_tag(slot_at(table, template, a), 11) {
-            Marked::Number(g) => Resolved::Fit(Plain::SetGlobal(g), 1),
+            Marked::Number(g) => Resolved::Fit(Plain::SetGlobal(g)),
             Marked::Other => Resolved::Unfit,
         },
-        10 => Resolved::Fit(Plain::Local(a, b), 2),
-        11 => Resolved::Fit(Plain::SetLocal(a, b), 2),
-        12 => Resolved::Fit(Plain::Push, 0),
-        13 => Resolved::Fit(Plain::MakeEnv(a), 1),
-        15 => Resolved::Fit(Plain::Unspecified, 0),
-        16 => Resolved::Fit(Plain::CheckArgs(a), 1),
-        18 => Resolved::Fit(Plain::Cons, 0),
-        19 => Resolved::Fit(Plain::Car, 0),
-        20 => Resolved::Fit(Plain::Cdr, 0),
-        21 => Resolved::Fit(Plain::Eqv, 0),
-        22 => Resolved::Fit(Plain::Add, 0),
+        10 => Resolved::Fit(Plain::Local(a, b)),
+        11 => Resolved::Fit(Plain::SetLocal(a, b)),
+        12 => Resolved::Fit(Plain::Push),
+        13 => Resolved::Fit(Plain::MakeEnv(a)),
+        15 => Resolved::Fit(Plain::Unspecified),
+        16 => Resolved::Fit(Plain::CheckArgs(a)),
+        18 => Resolved::Fit(Plain::Cons),
+        19 => Resolved::Fit(Plain::Car),
+        20 => Resolved::Fit(Plain::Cdr),
+        21 => Resolved::Fit(Plain::Eqv),
+        22 => Resolved::Fit(Plain::Add),
         _ => Resolved::Unfit,
     }
 }

@@ -22,7 +22,7 @@ use Rattle.rules.specs.Rules.{Data, Back, noFrame, backTo, plainRule, callRule,
 use Rattle.rules.specs.Related.{ResR, okR, wrongR, BackR, noneB, someB}
 use Rattle.rules.specs.Frames.{FramesR, noneF, Same, Savable, keep-same, back-same}
 use Rattle.rules.specs.Clean.{Bound, plain-bound, call-template, call-bound, make-cont-bound, return-template, return-bound}
-use Rattle.tree_machine.specs.Fetch.{linkedProgram}
+use Rattle.tree_code.specs.Fetch.{linkedProgram}
 use Rattle.tree_machine.specs.Look.{seen, Leads}
 use Rattle.tree_machine.specs.Places.{Standing, fetches, starts-agree, start-stands, standing-fits}
 
@@ -61,7 +61,7 @@ ran-step R b n x = by (step R x)
     by halt = refl
     by (stop m) = refl
 
-module _ (s : List ℕ) (ts : List Template) (q : ℕ) (accepted : treeChecked s ≡ got ts q) (L₀ : List ℕ) (long : length L₀ ≡ 104858) where
+module _ (s : List ℕ) (ts : List Template) (q : ℕ) (accepted : treeChecked s ≡ got ts q) (L₀ : List ℕ) (long : 8 * length s ≤ 5 * length L₀) where
   abbrev P : Program
   P = linkedProgram s (linkedAll L₀ ts) (treeTable ts)
 

@@ -1,5 +1,5 @@
 -- The run of a whole file, by what reading it answered. Assumes nothing.
-use Prim.Native.Nat.{ℕ, _≤_, _<_}
+use Prim.Native.Nat.{ℕ, _*_, _≤_, _<_}
 use mathlib.Core.Path.{_≡_, refl, sym, ap, _∙_}
 use mathlib.Core.List.{List}
 use native.Mathlib.Omega.{arith}
@@ -27,49 +27,22 @@ use Rattle.machines.specs.Steps.{ranFrom}
 use Rattle.machines.specs.declared.Run.{Run}
 use Rattle.machines.specs.declared.Start.{Start}
 use Rattle.machines.specs.declared.Start.the-variants as started
-use Rattle.tree_machine.specs.Fetch.{linkedProgram}
-use Rattle.tree_machine.specs.Step.{control, stateOf, firstRegs, firstState, Steppable}
+use Rattle.tree_code.specs.Fetch.{linkedProgram}
 use Rattle.tree_machine.specs.Agree.{tree-run}
 
 pub zeros-length : (n : ℕ) → length (zeros n) ≡ n
 unfolding zeros
 zeros-length n = length-replicate n 0
 
--- ---- the first state
-pub first-steppable : (s : List ℕ) (m : Memory) (p : BitPlace) → length s ≤ 65536 → length (m .globals) ≡ 256 → m .stack ≡ zeros 256 → m .store ≡ zeros 2048 → m .frames ≡ zeros 2048
-    → Steppable s m firstRegs (control 0 p 0)
-first-steppable s m p w lg ls lt lf =
-    record {
-      short = w;
-      fit = record { fit-sp = omega arith; fit-st = omega arith };
-      frames-fit = omega arith;
-      globals-long = lg;
-      stack-long = ap length ls ∙ zeros-length 256;
-      store-long = ap length lt ∙ zeros-length 2048;
-      frames-long = ap length lf ∙ zeros-length 2048;
-    }
-
-pub first-ran : (P : Program) (b : ℕ) (table g a t f : List ℕ) (p : BitPlace) (r : Ran) → p .0 ≡ slotAt table 0 0 → a ≡ zeros 256 → t ≡ zeros 2048 → f ≡ zeros 2048
-    → r ≡ ranFrom P b 0 (stateOf firstRegs (control 0 p 0) (memory g a t f)) → r ≡ ranFrom P b 0 (firstState table g)
-first-ran P b table g a t f p r e ea et ef h = h ∙ rw (e, ea, et, ef)
-
-first-is : (table g : List ℕ) → firstState table g ≡ startState g (slotAt table 0 0)
-unfolding startState zeros
-first-is table g = refl
-
--- ---- the links of a file
-pub linked-ran : (s table L L₀ : List ℕ) (g : Got (List Template)) (b : ℕ) (x : State) (r : Ran) → L ≡ linkedFrom L₀ 0 g → L₀ ≡ zeros 104858
-    → r ≡ ranFrom (linkedProgram s L table) b 0 x → r ≡ ranFrom (linkedProgram s (linkedFrom (zeros 104858) 0 g) table) b 0 x
-linked-ran s table L L₀ g b x r e e₀ h = h ∙ rw (e, e₀)
-
--- ---- a file that is accepted
-accepted-ran : (s table : List ℕ) (b : ℕ) (m : Memory) (r : Ran) (ts : List Template) (q : ℕ) → treeChecked s ≡ got ts q → treeRead s ≡ got ts q → table ≡ treeTable ts
-    → r ≡ ranFrom (linkedProgram s (linkedFrom (zeros 104858) 0 (treeRead s)) table) b 0 (firstState table (m .globals)) → r ≡ onTree b m (treeChecked s)
+-- ---- a file that is accepted, with its links
+pub linked-ran : (s table L L₀ : List ℕ) (count b start : ℕ) (m : Memory) (r : Ran) → Ready s table count → treeChecked s ≡ treeRead s → 8 * length s ≤ 5 * length L₀
+    → L ≡ linkedFrom L₀ 0 (treeRead s) → start ≡ slotAt table 0 0 → r ≡ ranFrom (linkedProgram s L table) b 0 (startState (m .globals) start) → r ≡ onTree b m (treeChecked s)
 unfolding onTree linkedFrom
-accepted-ran s table b m r ts q checked read tabled e =
-    e ∙ rw (checked, read, tabled)
-    (ap (ranFrom (linkedProgram s (linkedAll (zeros 104858) ts) (treeTable ts)) b 0) (first-is (treeTable ts) (m .globals))
-    ∙ tree-run s ts q checked (zeros 104858) (zeros-length 104858) b (m .globals))
+linked-ran s table L L₀ count b start m r k good long e i h =
+    h ∙ rw (e, i, good, k .read, k .tabled) (tree-run s (k .templates) (k .past) (good ∙ k .read) L₀ long b (m .globals))
+
+pub zeros-hold : (s : List ℕ) (n : ℕ) → 8 * length s ≤ 5 * n → 8 * length s ≤ 5 * length (zeros n)
+zeros-hold s n h = rw (zeros-length n) h
 
 -- ---- a file s that was read
 module _ (s : List ℕ) (x : TreeFile) (m : Summary) (asked : x ≡ treeTold (treeRead s)) (there : x ≡ Read m) where
@@ -98,11 +71,8 @@ module _ (s : List ℕ) (x : TreeFile) (m : Summary) (asked : x ≡ treeTold (tr
     unfolding onTree refusedRun
     file-misnamed r k h e = rw (e, judged-misnamed s told k h)
 
-    pub file-ran : (table : List ℕ) (r : Ran) → 64 ≤ m .unclosed → 64 ≤ m .misnamed → table ≡ treeFilled s
-        → r ≡ ranFrom (linkedProgram s (linkedFrom (zeros 104858) 0 (treeRead s)) table) b 0 (firstState table (mem .globals)) → r ≡ onTree b mem (treeChecked s)
-    file-ran table r k h filled e =
-        let f = read-file s told in
-        accepted-ran s table b mem r (f .templates) (f .past) (judged-good s told k h) (f .is) (filled ∙ tree-table s (f .is)) e
+  pub file-good : 64 ≤ m .unclosed → 64 ≤ m .misnamed → treeChecked s ≡ treeRead s
+  file-good k h = judged-good s told k h ∙ sym (read-file s told .is)
 
 -- ---- a file that is refused 1 to 5
 pub file-refused : (s : List ℕ) (x : TreeFile) (b : ℕ) (m : Memory) (n : ℕ) (p : BitPlace) (r : Run) → x ≡ treeTold (treeRead s) → x ≡ Refused n p → r ≡ refusal n (p .0)

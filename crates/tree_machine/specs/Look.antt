@@ -22,7 +22,7 @@ use Rattle.links.specs.Stands.{Reads, Operands, Takes, Stands}
 use Rattle.machines.specs.Fetched.{Fetched, plain, returns, calls, branches, saves, jumps, bad, plainly, resolve, openCount, first, look}
 use Rattle.machines.specs.Slots.{slotAt, slotResolve}
 use Rattle.rules.specs.declared.Plain.{Plain}
-use Rattle.tree_machine.specs.Fetch.{isEnd, settled, withRead, shapedAs, instructionAt}
+use Rattle.tree_code.specs.Fetch.{isEnd, settled, withRead, shapedAs, instructionAt}
 use Rattle.tree_machine.specs.Real.{fits, false-true, Arms, open-arms, closed-arms, arms, Saved, open-saved, closed-saved, saved, after-neutral}
 use Rattle.tree_machine.specs.Real.{Real, first-real, real-within, arms-fit, saved-fits, none-real}
 

@@ -23,7 +23,7 @@ use Rattle.machines.specs.Fetched.{Fetched, plain, returns, calls, branches, sa
 use Rattle.machines.specs.Slots.{slotAt, slotResolve, RowStands, row-stands, slot-resolve}
 use Rattle.tree.specs.Parts.{before-got, got-value}
 use Rattle.rules.specs.Clean.{by-lt}
-use Rattle.tree_machine.specs.Fetch.{settled, instructionAt, fetchedAt}
+use Rattle.tree_code.specs.Fetch.{settled, instructionAt, fetchedAt}
 use Rattle.tree_machine.specs.Real.{fits, false-true, Real, first-real, real-within}
 use Rattle.tree_machine.specs.Look.{seen, Leads, Found, look-found}
 
@@ -103,7 +103,7 @@ module _ (s : List ℕ) (ts : List Template) (q : ℕ) (accepted : treeChecked s
       (omega (arith, f .within, short s (known .read)))
       (λ n l. tree-slot ts few t n noTemplate h l)
 
-  module _ (L₀ : List ℕ) (long : length L₀ ≡ 104858) where
+  module _ (L₀ : List ℕ) (long : 8 * length s ≤ 5 * length L₀) where
     real-fetches : (t p : ℕ) → t < length ts → Real false (getD ts t noTemplate .start) (getD ts t noTemplate .code) p
         → Fetches s (linkedAll L₀ ts) (treeTable ts) ts t p (treeAt ts t p)
     unfolding treeAt fetchedAt fits

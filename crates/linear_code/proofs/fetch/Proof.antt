@@ -1,127 +1,23 @@
+use Rattle.linear_code.proofs.FetchLaws.{code-within, code-fetched}
 use borrow.Author.Needs.{needs}
-use Rattle.linear_code.specs.Bytes.{codeBytes}
-use mathlib.Core.Path.{refl}
-use Rattle.linear_code.proofs.FetchLaws.{fetch-code, fetch-neutral, fetch-past, fetch-absent, fetch-past-absent}
-use Rattle.linear_code.specs.Fetch.{fetchedAs, Savable}
 use Rattle.linear_code.proofs.fetch.Statement.{statement}
 use Rattle.linear_code.proofs.fetch.Tie as tie
 use Rattle.linear_code.proofs.fetch.Reads as reads
 use Rattle.linear_code.proofs.fetch.Lts as lts
-use Rattle.linear_code.proofs.fetch_branch.Reads as fetch-branch-reads
-use Rattle.linear_code.proofs.fetch_call.Reads as fetch-call-reads
-use Rattle.linear_code.proofs.fetch_jump.Reads as fetch-jump-reads
-use Rattle.linear_code.proofs.fetch_plain.Reads as fetch-plain-reads
-use Rattle.linear_code.proofs.fetch_save.Reads as fetch-save-reads
+use Rattle.linear_code.proofs.fetch_code.Reads as fetch-code-reads
+use Rattle.machines.proofs.slot_at.Reads as slot-at-reads
 
--- src/lib.rt:117:13
+-- src/lib.rt:144:9
+slot-at-requires : tie.Need-slot-at-requires
+slot-at-requires c κs = search needs
+
+-- src/lib.rt:147:5
+fetch-code-requires : tie.Need-fetch-code-requires
+fetch-code-requires c κs = let a = c .before .before .before .pre in (code-within _ _ _ _ (c .slot-at .ensures) a, a .short)
+
+-- src/lib.rt:140:1
 returns : tie.Need-returns
-unfolding fetchedAs Savable
-returns c = (fetch-past _ _ _ _ _ _ (c .before .before .before .before .pre .0) (c .before .if1 .taken) (c .if2 .taken), tt)
-
--- src/lib.rt:120:13
-returns-2 : tie.Need-returns-2
-unfolding fetchedAs Savable
-returns-2 c = (fetch-past-absent _ _ _ _ _ _ (c .before .before .before .before .before .pre .0) (c .before .if2 .left) (c .if3 .taken), tt)
-
--- src/lib.rt:122:9
-returns-3 : tie.Need-returns-3
-unfolding fetchedAs Savable
-returns-3 c = (fetch-absent _ _ _ _ _ _ (c .before .before .before .before .before .pre .0) (c .before .if2 .left) (c .if3 .left), tt)
-
--- src/lib.rt:124:13
-add-i : tie.Need-add-i
-add-i c = search needs
-
--- src/lib.rt:124:13
-add-i-2 : tie.Need-add-i-2
-add-i-2 c = search needs
-
--- src/lib.rt:125:16
-sub-left : tie.Need-sub-left
-sub-left c = search needs
-
--- src/lib.rt:125:16
-sub-left-2 : tie.Need-sub-left-2
-sub-left-2 c = search needs
-
--- src/lib.rt:126:19
-add-op : tie.Need-add-op
-add-op c = search needs
-
--- src/lib.rt:126:14
-shared-slice-read-op : tie.Need-shared-slice-read-op
-shared-slice-read-op c = search needs
-
--- src/lib.rt:129:14
-fetch-call-requires : tie.Need-fetch-call-requires
-fetch-call-requires c κs = search needs
-
--- src/lib.rt:130:14
-fetch-branch-requires : tie.Need-fetch-branch-requires
-fetch-branch-requires c κs = search needs
-
--- src/lib.rt:131:14
-fetch-save-requires : tie.Need-fetch-save-requires
-fetch-save-requires c κs = search needs
-
--- src/lib.rt:132:14
-fetch-jump-requires : tie.Need-fetch-jump-requires
-fetch-jump-requires c κs = search needs
-
--- src/lib.rt:133:14
-fetch-plain-requires : tie.Need-fetch-plain-requires
-fetch-plain-requires c κs = search needs
-
--- src/lib.rt:110:1
-returns-4 : tie.Need-returns-4
-unfolding fetchedAs Savable codeBytes
-returns-4 c = let p = c .before .before .before .before .before .args in (fetch-code (p .file .now) (p .table .now) (p .template) (p .start) (p .len) (p .at .0) (c .before .before .before .before .before .pre .0) _ 1 (c .before .before .if1 .left) (c .match .keys1) refl, tt)
-
--- src/lib.rt:110:1
-returns-5 : tie.Need-returns-5
-unfolding codeBytes
-returns-5 c = let p = c .before .before .before .before .before .before .args in (fetch-code (p .file .now) (p .table .now) (p .template) (p .start) (p .len) (p .at .0) (c .before .before .before .before .before .before .pre .0) _ 2 (c .before .before .before .if1 .left) (c .before .match .keys2) (c .fetch-call .ensures .0), c .fetch-call .ensures .1)
-
--- src/lib.rt:110:1
-returns-6 : tie.Need-returns-6
-unfolding codeBytes
-returns-6 c = let p = c .before .before .before .before .before .before .args in (fetch-code (p .file .now) (p .table .now) (p .template) (p .start) (p .len) (p .at .0) (c .before .before .before .before .before .before .pre .0) _ 3 (c .before .before .before .if1 .left) (c .before .match .keys3) (c .fetch-branch .ensures .0), c .fetch-branch .ensures .1)
-
--- src/lib.rt:110:1
-returns-7 : tie.Need-returns-7
-unfolding codeBytes
-returns-7 c = let p = c .before .before .before .before .before .before .args in (fetch-code (p .file .now) (p .table .now) (p .template) (p .start) (p .len) (p .at .0) (c .before .before .before .before .before .before .pre .0) _ 4 (c .before .before .before .if1 .left) (c .before .match .keys4) (c .fetch-save .ensures .0), c .fetch-save .ensures .1)
-
--- src/lib.rt:110:1
-returns-8 : tie.Need-returns-8
-unfolding codeBytes
-returns-8 c = let p = c .before .before .before .before .before .before .args in (fetch-code (p .file .now) (p .table .now) (p .template) (p .start) (p .len) (p .at .0) (c .before .before .before .before .before .before .pre .0) _ 5 (c .before .before .before .if1 .left) (c .before .match .keys5) (c .fetch-jump .ensures .0), c .fetch-jump .ensures .1)
-
--- src/lib.rt:110:1
-returns-9 : tie.Need-returns-9
-returns-9 c = let p = c .before .before .before .before .before .before .args in let n = c .before .match .rest in (fetch-neutral (p .file .now) (p .table .now) (p .template) (p .start) (p .len) (p .at .0) (c .before .before .before .before .before .before .pre .0) _ _ (c .before .before .before .if1 .left) refl (n .0 .0 .0 .0 .1) (n .0 .0 .0 .1) (n .0 .0 .1) (n .0 .1) (n .1) (c .fetch-plain .ensures .0), c .fetch-plain .ensures .1)
+returns c = (code-fetched _ _ _ _ (c .before .slot-at .ensures) _ _ (c .fetch-code .ensures .0 _ _), c .fetch-code .ensures .1)
 
 pub fetch-spec : {M : Type 1} → statement M
-fetch-spec =
-    tie.close
-    (tie.spec
-    returns
-    returns-2
-    returns-3
-    add-i
-    add-i-2
-    sub-left
-    sub-left-2
-    add-op
-    shared-slice-read-op
-    fetch-call-requires
-    fetch-branch-requires
-    fetch-save-requires
-    fetch-jump-requires
-    fetch-plain-requires
-    returns-4
-    returns-5
-    returns-6
-    returns-7
-    returns-8
-    returns-9)
+fetch-spec = tie.close (tie.spec slot-at-requires fetch-code-requires returns)

@@ -1,6 +1,6 @@
 use borrow.Author.Needs.{needs}
 use Rattle.linear_code.proofs.FetchLaws.{part-length, call-cut, call-there}
-use Rattle.linear_code.specs.Fetch.{fetchedAs, Savable}
+use Rattle.machines.specs.Instruction.{number, isLinear, fetchedAs, Places}
 use Rattle.linear_code.proofs.fetch_call.Statement.{statement}
 use Rattle.linear_code.proofs.fetch_call.Tie as tie
 use Rattle.linear_code.proofs.fetch_call.Reads as reads
@@ -12,13 +12,13 @@ shared-slice-read-t7 c = search needs
 
 -- src/lib.rt:43:1
 returns : tie.Need-returns
-unfolding fetchedAs Savable
-returns c = (call-cut _ (rw (part-length _ _ _ (c .before .pre)) (c .if1 .taken)), tt)
+unfolding fetchedAs Places
+returns c = (λ slot. call-cut _ (rw (part-length _ _ _ (c .before .pre)) (c .if1 .taken)), tt)
 
 -- src/lib.rt:43:1
 returns-2 : tie.Need-returns-2
-unfolding fetchedAs Savable
-returns-2 c = (call-there _ _ _ (c .before .before .pre) (c .before .if1 .left), tt)
+unfolding fetchedAs Places
+returns-2 c = (λ slot. call-there _ _ _ (c .before .before .pre) (c .before .if1 .left), tt)
 
 pub fetch-call-spec : {M : Type 1} → statement M
 fetch-call-spec = tie.close (tie.spec shared-slice-read-t7 returns returns-2)

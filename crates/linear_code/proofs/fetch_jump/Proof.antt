@@ -1,6 +1,7 @@
+use mathlib.Core.Path.{refl}
 use borrow.Author.Needs.{needs}
 use Rattle.linear_code.proofs.FetchLaws.{part-length, jump-cut, jump-there}
-use Rattle.linear_code.specs.Fetch.{fetchedAs, Savable}
+use Rattle.machines.specs.Instruction.{number, isLinear, fetchedAs, Places}
 use Rattle.linear_code.proofs.fetch_jump.Statement.{statement}
 use Rattle.linear_code.proofs.fetch_jump.Tie as tie
 use Rattle.linear_code.proofs.fetch_jump.Reads as reads
@@ -21,13 +22,13 @@ add-t9 c = search needs
 
 -- src/lib.rt:80:1
 returns : tie.Need-returns
-unfolding fetchedAs Savable
-returns c = (jump-cut _ _ (rw (part-length _ _ _ (c .before .before .pre .0)) (c .if1 .taken)), tt)
+unfolding fetchedAs Places
+returns c = (λ slot. jump-cut _ _ (rw (part-length _ _ _ (c .before .before .pre .0)) (c .if1 .taken)), tt)
 
 -- src/lib.rt:80:1
 returns-2 : tie.Need-returns-2
-unfolding fetchedAs Savable
-returns-2 c = (jump-there _ _ _ (c .before .before .before .pre .0) _ _ (c .offset .ensures .0) (c .before .if1 .left), tt)
+unfolding number isLinear fetchedAs Places
+returns-2 c = (λ slot. jump-there _ _ _ (c .before .before .before .pre .0) _ _ (c .offset .ensures .0) (c .before .if1 .left), refl)
 
 pub fetch-jump-spec : {M : Type 1} → statement M
 fetch-jump-spec = tie.close (tie.spec add-t7 offset-requires add-t9 returns returns-2)

@@ -8,7 +8,7 @@ use Rattle.linear_machine.proofs.run_file.Tie as tie
 use Rattle.linear_machine.proofs.run_file.Reads as reads
 use Rattle.linear_machine.proofs.run_file.Lts as lts
 use Rattle.linear.proofs.read_linear.Reads as read-linear-reads
-use Rattle.linear_machine.proofs.run_first.Reads as run-first-reads
+use Rattle.linear_machine.proofs.run_read.Reads as run-read-reads
 use Rattle.machines.proofs.refused.Reads as refused-reads
 
 -- src/lib.rt:335:11
@@ -20,8 +20,8 @@ enum-told : tie.Need-enum-told
 enum-told c = search needs
 
 -- src/lib.rt:337:13
-run-first-requires : tie.Need-run-first-requires
-run-first-requires c κs = (c .before .before .before .before .before .before .before .before .before .before .before .before .before .before .before .before .before .pre .0, file-within _ _ _ _ (c .before .before .before .before .before .before .before .before .before .read-linear .ensures .0) (c .before .before .before .before .before .before .before .before .before .before .before .before .before .before .before .before .before .pre .1) (c .before .before .before .before .before .before .before .before .before .read-linear .ensures .1) _ (c .before .before .before .before .before .enum-told .given .1))
+run-read-requires : tie.Need-run-read-requires
+run-read-requires c κs = (c .before .before .before .before .before .before .before .before .before .before .before .before .before .before .before .before .before .pre .0, file-within _ _ _ _ (c .before .before .before .before .before .before .before .before .before .read-linear .ensures .0) (c .before .before .before .before .before .before .before .before .before .before .before .before .before .before .before .before .before .pre .1) (c .before .before .before .before .before .before .before .before .before .read-linear .ensures .1) _ (c .before .before .before .before .before .enum-told .given .1))
 
 -- src/lib.rt:339:29
 enum-known-number : tie.Need-enum-known-number
@@ -53,7 +53,7 @@ same-length-5 c = search needs
 
 -- src/lib.rt:331:1
 returns : tie.Need-returns
-returns c = file-ran _ _ _ _ (c .before .before .before .before .before .before .before .before .before .before .before .before .before .before .before .before .before .before .read-linear .ensures .0) (c .before .before .before .before .before .before .before .before .before .before .before .before .before .before .before .before .before .before .before .before .before .before .before .before .before .before .pre .1) (c .before .before .before .before .before .before .before .before .before .before .before .before .before .before .before .before .before .before .read-linear .ensures .1) _ (c .before .before .before .before .before .before .before .before .before .before .before .before .before .before .enum-told .given .1) _ _ _ (λ i. omega (arith, c .before .before .before .before .before .before .before .before .before .before .before .before .before .before .before .before .before .before .before .before .before .before .before .before .before .shared-slice-known .given i)) (c .before .before .before .before .before .before .before .before .run-first .ensures)
+returns c = file-ran _ _ _ _ (c .before .before .before .before .before .before .before .before .before .before .before .before .before .before .before .before .before .before .read-linear .ensures .0) (c .before .before .before .before .before .before .before .before .before .before .before .before .before .before .before .before .before .before .before .before .before .before .before .before .before .before .pre .1) (c .before .before .before .before .before .before .before .before .before .before .before .before .before .before .before .before .before .before .read-linear .ensures .1) _ (c .before .before .before .before .before .before .before .before .before .before .before .before .before .before .enum-told .given .1) _ _ _ (λ i. omega (arith, c .before .before .before .before .before .before .before .before .before .before .before .before .before .before .before .before .before .before .before .before .before .before .before .before .before .shared-slice-known .given i)) (c .before .before .before .before .before .before .before .before .run-read .ensures)
 
 -- src/lib.rt:331:1
 same-length-6 : tie.Need-same-length-6
@@ -69,7 +69,7 @@ run-file-spec =
     (tie.spec
     read-linear-requires
     enum-told
-    run-first-requires
+    run-read-requires
     enum-known-number
     refused-requires
     same-length

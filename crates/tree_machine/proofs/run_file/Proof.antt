@@ -1,7 +1,7 @@
 -- `tree_machine::run_file` meets its contract. Assumes nothing.
 use Rattle.machines.specs.Start.{zeros}
 use lib.ListN.{length}
-use Rattle.tree_machine.specs.FileLaws.{zeros-length, file-ready, file-unclosed, file-misnamed, file-ran, file-refused}
+use Rattle.tree_machine.specs.FileLaws.{zeros-length, file-ready, file-unclosed, file-misnamed, file-good, file-refused}
 use mathlib.Core.Path.{_≡_, refl, sym, ap, _∙_}
 use borrow.Author.Needs.{needs}
 use Rattle.tree_machine.proofs.run_file.Statement.{statement}
@@ -38,11 +38,11 @@ same-length-2 c = search needs
 returns-2 : tie.Need-returns-2
 returns-2 c = file-misnamed _ _ _ (c .before .before .before .before .before .before .before .before .before .before .before .read-tree .ensures .0) (c .before .before .before .before .before .before .before .sum .given .1) _ _ _ (c .before .before .before .before .if1 .left) (c .before .before .if2 .taken) (c .refused2 .ensures)
 
-cast-run-linked : tie.Need-cast-run-linked
-cast-run-linked c = search needs
+cast-run-read : tie.Need-cast-run-read
+cast-run-read c = search needs
 
-run-linked-requires : tie.Need-run-linked-requires
-run-linked-requires c κs = (c .before .before .before .before .before .before .before .before .before .before .before .before .before .before .before .before .before .before .before .before .before .before .before .pre .0, file-ready _ _ _ (c .before .before .before .before .before .before .before .before .before .before .before .before .before .before .before .read-tree .ensures .0) (c .before .before .before .before .before .before .before .before .before .before .before .sum .given .1) _ (c .before .before .before .before .before .before .before .before .before .before .before .before .before .before .before .read-tree .ensures .1), c .before .before .before .before .before .before .before .before .before .before .before .before .before .before .before .read-tree .kept .1 .0 ∙ ap length (c .before .before .before .before .before .before .before .before .before .before .before .before .before .before .before .before .before .before .before .before .before .before .before .pre .1) ∙ zeros-length 16384)
+run-read-requires : tie.Need-run-read-requires
+run-read-requires c κs = (c .before .before .before .before .before .before .before .before .before .before .before .before .before .before .before .before .before .before .before .before .before .before .before .pre .0, file-ready _ _ _ (c .before .before .before .before .before .before .before .before .before .before .before .before .before .before .before .read-tree .ensures .0) (c .before .before .before .before .before .before .before .before .before .before .before .sum .given .1) _ (c .before .before .before .before .before .before .before .before .before .before .before .before .before .before .before .read-tree .ensures .1), c .before .before .before .before .before .before .before .before .before .before .before .before .before .before .before .read-tree .kept .1 .0 ∙ ap length (c .before .before .before .before .before .before .before .before .before .before .before .before .before .before .before .before .before .before .before .before .before .before .before .pre .1) ∙ zeros-length 16384, file-good _ _ _ (c .before .before .before .before .before .before .before .before .before .before .before .before .before .before .before .read-tree .ensures .0) (c .before .before .before .before .before .before .before .before .before .before .before .sum .given .1) (c .before .before .before .before .before .before .before .before .if1 .left) (c .before .before .before .before .before .before .if2 .left))
 
 enum-known-number : tie.Need-enum-known-number
 enum-known-number c = search needs
@@ -66,7 +66,7 @@ same-length-7 : tie.Need-same-length-7
 same-length-7 c = search needs
 
 returns-3 : tie.Need-returns-3
-returns-3 c = file-ran _ _ _ (c .before .before .before .before .before .before .before .before .before .before .before .before .before .before .before .before .before .before .before .before .before .before .before .before .read-tree .ensures .0) (c .before .before .before .before .before .before .before .before .before .before .before .before .before .before .before .before .before .before .before .before .sum .given .1) _ _ _ _ (c .before .before .before .before .before .before .before .before .before .before .before .before .before .before .before .before .before .if1 .left) (c .before .before .before .before .before .before .before .before .before .before .before .before .before .before .before .if2 .left) (c .before .before .before .before .before .before .before .before .before .before .before .before .before .before .before .before .before .before .before .before .before .before .before .before .read-tree .ensures .1) (c .before .before .before .before .before .before .before .before .run-linked .ensures)
+returns-3 c = c .before .before .before .before .before .before .before .before .run-read .ensures
 
 same-length-8 : tie.Need-same-length-8
 same-length-8 c = search needs
@@ -88,8 +88,8 @@ run-file-spec =
     refused-requires-2
     same-length-2
     returns-2
-    cast-run-linked
-    run-linked-requires
+    cast-run-read
+    run-read-requires
     enum-known-number
     refused-requires-3
     same-length-3

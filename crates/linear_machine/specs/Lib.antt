@@ -1,2 +1,0 @@
--- The specs of the crate linear_machine.
-pub mod Step

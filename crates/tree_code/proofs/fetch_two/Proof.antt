@@ -1,0 +1,65 @@
+-- `tree_code::fetch_two` meets its contract. Assumes nothing.
+use Rattle.machines.specs.Instruction.{Places, isLinear}
+use Rattle.tree_code.specs.FetchSteps.{operand-cut, second-cut, two-read}
+use Rattle.lists.specs.ReadLaws.{read-below}
+use native.Mathlib.Omega.{arith}
+use mathlib.Core.Path.{refl, sym, _∙_}
+use borrow.Author.Needs.{needs}
+use Rattle.tree_code.proofs.fetch_two.Statement.{statement}
+use Rattle.tree_code.proofs.fetch_two.Tie as tie
+
+read-field-requires : tie.Need-read-field-requires
+read-field-requires c κs = search needs
+
+enum-known-a : tie.Need-enum-known-a
+enum-known-a c = search needs
+
+enum-told : tie.Need-enum-told
+enum-told c = search needs
+
+returns : tie.Need-returns
+unfolding Places
+returns c = (λ L table t p. operand-cut _ L table t p _ _ 3 (omega arith) (omega arith) (sym (c .before .before .read-field .ensures) ∙ c .enum-told .given .1), tt)
+
+read-field-requires-2 : tie.Need-read-field-requires-2
+read-field-requires-2 c κs = search needs
+
+enum-known-b : tie.Need-enum-known-b
+enum-known-b c = search needs
+
+enum-told-2 : tie.Need-enum-told-2
+enum-told-2 c = search needs
+
+returns-2 : tie.Need-returns-2
+unfolding Places
+returns-2 c = (λ L table t p. second-cut _ L table t p _ _ _ _ (sym (c .before .before .before .before .before .before .read-field .ensures) ∙ c .before .before .before .before .a .given .1) (sym (c .before .before .read-field2 .ensures) ∙ c .enum-told2 .given .1), tt)
+
+cast-t10 : tie.Need-cast-t10
+cast-t10 c = search needs
+
+cast-t11 : tie.Need-cast-t11
+cast-t11 c = omega (arith, read-below _ _ 8 _ _ (sym (c .before .before .before .before .before .before .before .read-field .ensures) ∙ c .before .before .before .before .before .a .given .1))
+
+cast-t12 : tie.Need-cast-t12
+cast-t12 c = omega (arith, read-below _ _ 8 _ _ (sym (c .before .before .before .read-field2 .ensures) ∙ c .before .b .given .1))
+
+returns-3 : tie.Need-returns-3
+unfolding Places isLinear
+returns-3 c = (λ L table t p. two-read _ L table t p _ _ _ _ (sym (c .before .before .before .before .before .before .before .read-field .ensures) ∙ c .before .before .before .before .before .a .given .1) _ _ (sym (c .before .before .before .read-field2 .ensures) ∙ c .before .b .given .1), refl)
+
+pub fetch-two-spec : {M : Type 1} → statement M
+fetch-two-spec =
+    tie.close
+    (tie.spec
+    read-field-requires
+    enum-known-a
+    enum-told
+    returns
+    read-field-requires-2
+    enum-known-b
+    enum-told-2
+    returns-2
+    cast-t10
+    cast-t11
+    cast-t12
+    returns-3)
