@@ -259,6 +259,34 @@ static void flattener_sheet(Sheet *s, size_t length, bool deep)
     }
 }
 
+/* Sheets for whole runs */
+
+static void shortest(Sheet *s)
+{
+    sheet_begin(s, 1);
+    put_field(s, 8, 0);
+    put0(s, RETURN);
+    put0(s, END);
+}
+
+/* A sheet as long as sheets go, of lists as deep as they go, run again and again until the budget is spent: every step of it costs the
+   tree machine most, and so do its links. */
+static void longest(Sheet *s)
+{
+    size_t from, block = 0;
+    begin_loop(s, 2);
+    begin_body(s);
+    while (s->bits + block + 64 <= 8 * (size_t)EXPORTER_TREE_FILE) {
+        from = s->bits;
+        put_block(s, true);
+        block = s->bits - from;
+    }
+    while (s->bits + 5 + 64 <= 8 * (size_t)EXPORTER_TREE_FILE)
+        put0(s, UNSPECIFIED);
+    put_loop(s, 1);
+    put0(s, END);
+}
+
 /* Measuring */
 
 typedef struct {
@@ -364,6 +392,28 @@ static void bench_machines(const char *name, void write(Sheet *))
     fflush(stdout);
 }
 
+static void print_microseconds(Times t, uint64_t steps)
+{
+    double all = 1e-3 * (double)steps;
+    printf("%10.1f %9.1f", t.library * all, t.plain * all);
+}
+
+/* Reading the file, its table and links, clearing the memories, and the steps. */
+static void bench_whole(const char *name, void write(Sheet *))
+{
+    static Sheet s;
+    uint64_t result[EXPORTER_RUN_SLOTS];
+    write(&s);
+    size_t linear_length = flatten_once(&s);
+    time_run(plain_run_linear, linear, linear_length, EXPORTER_TREE_BUDGET, result);
+    printf("%-16s%6zu %8llu", name, sheet_length(&s), (unsigned long long)result[EXPORTER_STEPS]);
+    print_microseconds(time_machine(exporter_run_linear, plain_run_linear, linear, linear_length, EXPORTER_TREE_BUDGET), result[EXPORTER_STEPS]);
+    time_run(plain_run_tree, s.bytes, sheet_length(&s), EXPORTER_TREE_BUDGET, result);
+    print_microseconds(time_machine(exporter_run_tree, plain_run_tree, s.bytes, sheet_length(&s), EXPORTER_TREE_BUDGET), result[EXPORTER_STEPS]);
+    printf("\n");
+    fflush(stdout);
+}
+
 static void bench_flattener(const char *name, size_t length, bool deep)
 {
     static Sheet s;
@@ -386,6 +436,10 @@ int main(void)
     bench_machines("nested conditionals", nested_conditionals);
     bench_machines("conts and returns", conts);
     bench_machines("sums of 8", sums);
+    printf("\nmicroseconds for a whole run        linear machine         tree machine\n");
+    printf("           bytes    steps     library     plain   library     plain\n");
+    bench_whole("shortest", shortest);
+    bench_whole("longest, deepest", longest);
     printf("\nnanoseconds for a byte of the sheet, flattener\n");
     printf("           bytes        library    plain  ratio\n");
     bench_flattener("mixed", 4096, false);

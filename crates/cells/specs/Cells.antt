@@ -1,7 +1,7 @@
 -- Cells (document 01, 'Cells'): 64 bits, from the highest a tag of 4 bits, then the fields, then zeros.
 use Prim.Native.Nat.{ℕ, _+_, _*_, _/_, _%_, _<_, _^_}
 use mathlib.Core.Path.{_≡_}
-use mathlib.Core.Bool.{Bool, true, false, cond, _&&_}
+use mathlib.Core.Bool.{Bool, cond, _&&_}
 use lib.Dec.{leb, eqb}
 use Rattle.cells.specs.declared.Closure.{Closure}
 use Rattle.cells.specs.declared.Value.{Value}

@@ -1,13 +1,11 @@
 -- The answer of every run fits into its cell: it is read off a cell. Assumes nothing.
 use Prim.Native.Nat.{ℕ, _<_, _^_}
 use native.Mathlib.Omega.{arith}
-use mathlib.Core.Path.{_≡_, refl}
 use mathlib.Core.Bool.{Bool, true, false, cond}
 use mathlib.Core.Option.{Option, none, some}
 use lib.Dec.{eqb, leb}
-use lib.ListN.{length}
 use mathlib.Core.List.{List}
-use Rattle.cells.specs.Cells.{valueOf, tagOf, byTag}
+use Rattle.cells.specs.Cells.{valueOf, tagOf}
 use Rattle.cells.specs.declared.Value.{Value}
 use Rattle.cells.specs.declared.Value.the-variants.{False, True, Null, Unspecified, Integer, Procedure, Pair, NoValue}
 use Rattle.files.specs.Reading.{Got, got, refused}

@@ -7,11 +7,11 @@ use lib.ListN.{length}
 use lib.Seq.{sets}
 use Rattle.cells.specs.Cells.{cellOf}
 use Rattle.files.specs.Reading.{Got}
-use Rattle.flatten.specs.Flatten.{flattened, answered, written}
+use Rattle.flatten.specs.Flatten.{answered, written}
 use Rattle.flatten.specs.declared.Flattened.{Flattened}
 use Rattle.flatten.specs.declared.Flattened.the-variants.{Written}
 use Rattle.flatten.specs.declared.Flattened.the-variants.{Refused as FlatRefused}
-use Rattle.machines.specs.Runs.{Memory, memory, Ran, ran, numberOf}
+use Rattle.machines.specs.Runs.{Memory, Ran, ran, numberOf}
 use Rattle.machines.specs.declared.End.{End}
 use Rattle.machines.specs.declared.End.the-variants.{Halted, Wrong, OutOfBudget, Refused}
 use Rattle.machines.specs.declared.Run.{Run}

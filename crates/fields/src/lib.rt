@@ -18,13 +18,25 @@ fn byte_at(s: &[u8], i: usize) -> u32
     if i < s.len() { s[i] as u32 } else { 0 }
 }
 
+// The two bytes at i, one test where both are there.
+fn two_at(s: &[u8], i: usize) -> u32
+    requires { ⌜ i ≤ 262144 ⌝ }
+    ensures { λ r. ⌜ (r ≡ getD (now (s .entry)) i 0 * 256 + getD (now (s .entry)) (i + 1) 0) × (getD (now (s .entry)) (i + 1) 0 < 256) × (r < 65536) ⌝ }
+{
+    if i + 1 < s.len() {
+        s[i] as u32 * 256 + s[i + 1] as u32
+    } else {
+        byte_at(s, i) * 256
+    }
+}
+
 // The number that `width` bits are, at most 8: they lie in two bytes.
 pub fn bits_at(s: &[u8], p: usize, width: usize) -> u32
     requires { ⌜ (length (now s) ≤ 262144) × ((width ≤ 8) × (p + width ≤ 8 * length (now s))) ⌝ }
     ensures { λ r. ⌜ (r ≡ fieldAt (now (s .entry)) p width) × (r < 256) ⌝ }
 {
     let i = p / 8;
-    let two = byte_at(s, i) * 256 + byte_at(s, i + 1);
+    let two = two_at(s, i);
     (two >> (16 - p % 8 - width)) % (1u32 << width)
 }
 

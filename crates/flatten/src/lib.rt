@@ -2,8 +2,7 @@
 use cells::BitPlace;
 use tree::TreeFile;
 ghost use mathlib.Core.Path.{_≡_};
-ghost use mathlib.Core.List.{List};
-ghost use Prim.Native.Nat.{ℕ, _+_, _*_, _-_, _/_, _≤_, _<_};
+ghost use Prim.Native.Nat.{_+_, _*_, _-_, _/_, _≤_, _<_};
 ghost use lib.ListN.{length};
 ghost use lib.Seq.{sets};
 ghost use Rattle.files.specs.Linear.{byteOf, bytesOf, threeBytes, templatesBytes};

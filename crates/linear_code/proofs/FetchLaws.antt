@@ -1,16 +1,14 @@
 -- What stands at a place, one law for each outcome. Assumes nothing.
 use Prim.Native.Nat.{ℕ, zero, suc, _+_, _*_, _-_, _/_, _%_, _<_, _≤_}
 use mathlib.Core.Path.{_≡_, refl, sym, ap, _∙_}
-use mathlib.Core.Bool.{Bool, true, false, cond}
 use mathlib.Core.List.{List, [], _∷_}
 use native.Mathlib.Omega.{arith}
 use native.Mathlib.Nat.{add-zero, sub-zero, zero-sub, suc-sub-suc}
-use lib.Dec.{leb, eqb}
 use lib.ListN.{length, getD, take, drop, length-take, length-drop, drop-of-length-le, List·getD-eq-default}
 use lib.Seq.{take-nil, drop-cons, drop-drop, getD-take, getD-drop}
-use borrow.Author.Tests.{lt-ltb, le-ltb, le-leb, lt-leb, eq-eqb, ne-eqb}
+use borrow.Author.Tests.{lt-ltb, le-ltb, le-leb, lt-leb, ne-eqb}
 use Rattle.runs.specs.Runs.{part}
-use Rattle.machines.specs.Fetched.{Fetched, plain, returns, calls, branches, saves, jumps, bad, plainly, callIn, branchIn, contIn, jumpIn}
+use Rattle.machines.specs.Fetched.{Fetched, returns, calls, branches, saves, jumps, bad, plainly, callIn, branchIn, contIn, jumpIn}
 use Rattle.machines.specs.Slots.{slotAt, slotResolve}
 use Rattle.linear_code.specs.Bytes.{operandCount, neutralBytes, codeBytes, decodeBytes, codeFrom, fetchBytes, codeStart, codeLength, Within, AllWithin}
 

@@ -1,11 +1,11 @@
 -- Linear code as a machine reads it: a file's bytes, and a run's table of it (files, Table).
-use Prim.Native.Nat.{ℕ, suc, _+_, _*_, _/_, _%_, _<_, _≤_}
+use Prim.Native.Nat.{ℕ, _+_, _/_, _%_, _<_, _≤_}
 use mathlib.Core.Path.{_≡_}
-use mathlib.Core.Bool.{Bool, true, false, cond}
+use mathlib.Core.Bool.{cond}
 use mathlib.Core.List.{List, [], _∷_}
 use lib.Dec.{ltb, leb, eqb}
 use lib.ListN.{length, getD, take, drop}
-use Rattle.machines.specs.Fetched.{Fetched, plain, returns, calls, branches, saves, jumps, bad, plainly, callIn, branchIn, contIn, jumpIn}
+use Rattle.machines.specs.Fetched.{Fetched, returns, bad, plainly, callIn, branchIn, contIn, jumpIn}
 use Rattle.machines.specs.Machine.{Program}
 use Rattle.machines.specs.Slots.{slotAt, slotResolve}
 

@@ -1,17 +1,17 @@
 -- What the bytes and the table's slots say is what the entries say. Assumes nothing.
-use Prim.Native.Nat.{ℕ, zero, suc, _+_, _*_, _<_, _≤_}
-use mathlib.Core.Path.{_≡_, refl, sym, ap, _∙_}
-use mathlib.Core.Bool.{Bool, true, false, cond, _&&_}
+use Prim.Native.Nat.{ℕ, zero, suc, _<_, _≤_}
+use mathlib.Core.Path.{_≡_, refl, sym, _∙_}
+use mathlib.Core.Bool.{Bool, true, false, cond}
 use mathlib.Core.List.{List, [], _∷_}
-use mathlib.Core.Option.{Option, none, some}
+use mathlib.Core.Option.{none}
 use native.Mathlib.Omega.{arith}
-use lib.Dec.{leb, eqb}
-use lib.ListN.{length, getD, take, drop, replicate}
-use lib.Seq.{getD-take, getD-drop}
+use lib.Dec.{leb}
+use lib.ListN.{length, getD, take, replicate}
+use lib.Seq.{getD-take}
 use borrow.Author.Tests.{ne-eqb, le-leb}
 use Rattle.files.specs.Codes.{shapeOf, isNeutral, operands}
 use Rattle.files.specs.Entries.{Entry}
-use Rattle.machines.specs.Fetched.{Fetched, bad, plainly, resolve, neutralIn, callIn, branchIn, contIn, jumpIn, decode}
+use Rattle.machines.specs.Fetched.{bad, plainly, neutralIn, callIn, branchIn, contIn, jumpIn, decode}
 use Rattle.machines.specs.Slots.{slotResolve, RowStands, slot-resolve}
 use Rattle.linear_code.specs.Bytes.{operandCount, neutralBytes, codeBytes, decodeBytes, AllBytes}
 

@@ -1,25 +1,23 @@
 -- The bytes of a linear file that is accepted, and its table, are the program that its templates are. Assumes nothing.
-use Prim.Native.Nat.{ℕ, zero, suc, _+_, _*_, _/_, _%_, _<_, _≤_}
+use Prim.Native.Nat.{ℕ, zero, suc, _+_, _*_, _/_, _<_, _≤_}
 use mathlib.Core.Path.{_≡_, refl, sym, ap, _∙_, fun-ext}
-use mathlib.Core.Bool.{Bool, true, false, cond, _&&_}
+use mathlib.Core.Bool.{Bool, true, false, _&&_}
 use mathlib.Core.List.{List, [], _∷_}
 use native.Mathlib.Omega.{arith}
-use native.Mathlib.Nat.{add-zero}
 use lib.Dec.{leb, ltb}
 use lib.ListN.{length, getD, take, drop, length-take, length-drop, List·getD-eq-default}
-use lib.Seq.{getD-take, getD-drop}
+use lib.Seq.{getD-drop}
 use borrow.Author.Tests.{leb-true, ltb-true, ltb-false, ne-eqb}
-use Rattle.cells.specs.Cells.{tagOf}
-use Rattle.files.specs.Reading.{Got, got, refused}
+use Rattle.files.specs.Reading.{got, refused}
 use Rattle.files.specs.Entries.{Entry, then, field, valid, entriesAt, toByte, zeroBits, nothingMore}
 use Rattle.files.specs.EntriesLaws.{EntriesOk, then-field, entries-read}
 use Rattle.files.specs.Grammar.{entryOf}
 use Rattle.files.specs.Linear.{Linear, codeAt, linearAt, linearsAt, linearRead}
 use Rattle.files.specs.Table.{rowOf, linearTable}
 use Rattle.files.specs.TableLaws.{Few, row-start, linearStart, linearEntries, linear-slot, linear-beyond}
-use Rattle.files.specs.AllGot.{AllGot, got-all, then-all, cond-all, valid-all, nothing-all, zero-all, Templates, linear-read}
-use Rattle.machines.specs.Fetched.{Fetched, decode, noLinear, linearAt as fetchLinear}
-use Rattle.machines.specs.Machine.{Program, linearProgram}
+use Rattle.files.specs.AllGot.{AllGot, got-all, then-all, cond-all, nothing-all, zero-all, linear-read}
+use Rattle.machines.specs.Fetched.{Fetched, noLinear, linearAt as fetchLinear}
+use Rattle.machines.specs.Machine.{linearProgram}
 use Rattle.machines.specs.Slots.{slotAt, Stands, RowStands, row-stands}
 use Rattle.linear_code.specs.Bytes.{codeFrom, fetchBytes, codeStart, codeLength, bytesProgram, Within, AllWithin, AllBytes}
 use Rattle.linear_code.specs.BytesLaws.{decode-bytes}

@@ -1,9 +1,9 @@
 -- The run of a whole file, by what reading it answered. Assumes nothing.
-use Prim.Native.Nat.{ℕ, _≤_}
+use Prim.Native.Nat.{ℕ}
 use mathlib.Core.Path.{_≡_, refl, sym, ap, _∙_}
 use mathlib.Core.List.{List}
 use native.Mathlib.Omega.{arith}
-use lib.ListN.{length, length-replicate}
+use lib.ListN.{length}
 use Rattle.cells.specs.declared.BitPlace.{BitPlace}
 use Rattle.files.specs.Reading.{Got, got, refused}
 use Rattle.files.specs.Linear.{Linear, linearRead}
@@ -12,13 +12,11 @@ use Rattle.linear.specs.Filled.{linearTold, linearFilled}
 use Rattle.linear.specs.LinearTable.{linear-table}
 use Rattle.linear.specs.declared.LinearFile.{LinearFile}
 use Rattle.linear.specs.declared.LinearFile.the-variants.{Read, Refused}
-use Rattle.machines.specs.Machine.{Program, linearProgram, State, noCounts, run}
-use Rattle.machines.specs.Runs.{Memory, memory, Ran, ran, refusedRun, startState, reported, programRun, onLinear, linearRun}
-use Rattle.machines.specs.Start.{zeros, refusal, startRefusal, Startable, startable, started-go, started-refused}
+use Rattle.machines.specs.Machine.{linearProgram}
+use Rattle.machines.specs.Runs.{Memory, Ran, ran, refusedRun, startState, programRun, onLinear}
+use Rattle.machines.specs.Start.{zeros, zeros-length, refusal}
 use Rattle.machines.specs.Steps.{ranFrom, whole-budget}
 use Rattle.machines.specs.declared.Run.{Run}
-use Rattle.machines.specs.declared.Start.{Start}
-use Rattle.machines.specs.declared.Start.the-variants as started
 use Rattle.linear_code.specs.Bytes.{bytesProgram, AllBytes, AllWithin}
 use Rattle.linear_code.specs.ProgramLaws.{table-within, program-is}
 
@@ -37,10 +35,6 @@ was-refused : (g : Got (List Linear)) (n : ℕ) (p : BitPlace) → Refused n p �
 unfolding linearTold
 was-refused (got ts q) n p e = let z : _≡_ {A = ℕ} 0 1 = cc in absurd (omega arith)
 was-refused (refused m q) n p e = let k : _≡_ {A = BitPlace} p (record { 0 = q }) = cc in let i : n ≡ m = cc in rw (i, k)
-
-zeros-length : (n : ℕ) → length (zeros n) ≡ n
-unfolding zeros
-zeros-length n = length-replicate n 0
 
 pub table-long : (table : List ℕ) → table ≡ zeros 16384 → length table ≡ 16384
 table-long table e = ap length e ∙ zeros-length 16384
@@ -68,16 +62,3 @@ pub file-refused : (s : List ℕ) (x : LinearFile) (b : ℕ) (m : Memory) (n : �
     → ran r m ≡ onLinear b m (linearRead s)
 unfolding onLinear refusedRun
 file-refused s x b m n p r e h k = rw (k, was-refused (linearRead s) n p (sym h ∙ e))
-
--- ---- the start
-module _ (b : ℕ) (m : Memory) (x : Start) (asked : x ≡ startRefusal 2000000 b m) where
-  pub may-start : x ≡ started.Go → Startable 2000000 b m
-  may-start h = startable 2000000 b m (sym asked ∙ h)
-
-  pub start-goes : (s : List ℕ) (r : Ran) → x ≡ started.Go → r ≡ onLinear b m (linearRead s) → r ≡ linearRun s b m
-  unfolding linearRun
-  start-goes s r h e = e ∙ sym (started-go 2000000 b m (onLinear b m (linearRead s)) (sym asked ∙ h))
-
-  pub start-refused : (s : List ℕ) (n p : ℕ) (r : Run) → x ≡ started.Refused n p → r ≡ refusal n p → ran r m ≡ linearRun s b m
-  unfolding linearRun
-  start-refused s n p r h e = rw e (sym (started-refused 2000000 b m (onLinear b m (linearRead s)) n p (sym asked ∙ h)))

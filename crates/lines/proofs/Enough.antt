@@ -2,7 +2,6 @@
 use Prim.Native.Nat.{ℕ, _≤_}
 use native.Mathlib.Omega.{arith}
 use mathlib.Core.Path.{_≡_, refl}
-use mathlib.Core.Bool.{Bool, true, false, cond}
 use mathlib.Core.List.{List}
 use borrow.Author.Tests.{le-leb}
 use lib.ListN.{length, take, drop}
@@ -15,7 +14,6 @@ use Rattle.files.specs.Linear.{linearFile}
 use Rattle.readback.specs.TreeFacts.{tree-short}
 use Rattle.readback.specs.ReadBack.{checked-read, flat-checked}
 use Rattle.flatten.specs.Flatten.{intoBytes, flattened, answered, written}
-use Rattle.flatten.specs.declared.Flattened.{Flattened}
 use Rattle.flatten.specs.declared.Flattened.the-variants.{Written, Refused}
 use Rattle.lines.specs.Lines.{linearOf, refusedLine, acceptedLines, sheetLines}
 

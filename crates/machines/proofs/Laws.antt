@@ -1,13 +1,13 @@
 -- Laws for the loop over the globals, and for a list that is zeroed whole. Assumes nothing.
-use Prim.Native.Nat.{ℕ, suc, _+_, _<_, _≤_}
-use mathlib.Core.Path.{_≡_, refl, sym, ap, _∙_}
+use Prim.Native.Nat.{ℕ, _+_, _<_, _≤_}
+use mathlib.Core.Path.{_≡_, sym, ap, _∙_}
 use mathlib.Core.Bool.{Bool, true, false}
 use mathlib.Core.List.{List, append-nil}
 use mathlib.Core.Option.{Option, none, some}
 use native.Mathlib.Omega.{arith}
 use native.Mathlib.Numerals.{add-one}
-use lib.ListN.{length, getD, drop, replicate, length-replicate, drop-of-length-le}
-use lib.Seq.{sets, sets-eq, drop-cons}
+use lib.ListN.{length, getD, drop, length-replicate, drop-of-length-le}
+use lib.Seq.{sets-eq, drop-cons}
 use Rattle.cells.specs.Cells.{startingGlobal}
 use Rattle.runs.specs.Runs.{zeroed}
 use Rattle.machines.specs.Runs.{lowestUnfit}

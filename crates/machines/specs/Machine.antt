@@ -1,15 +1,13 @@
 -- One machine for every form of code: a program says what stands at a code place, the data rules do the rest.
 use Prim.Native.Nat.{ℕ, zero, suc, _+_}
-use mathlib.Core.Bool.{Bool, true, false, cond}
+use mathlib.Core.Bool.{cond}
 use mathlib.Core.List.{List}
 use Rattle.files.specs.Tree.{Template}
 use Rattle.files.specs.Linear.{Linear}
-use Rattle.files.specs.Code.{Code}
-use Rattle.rules.specs.State.{Mem, Held, Res, ok, wrong}
+use Rattle.rules.specs.State.{Held, Res, ok, wrong}
 use Rattle.rules.specs.Rules.{Data, plainRule, callRule, makeContRule, Back, noFrame, backTo, returnRule, isFalse}
 use Rattle.rules.specs.declared.Regs.{Regs}
-use Rattle.rules.specs.declared.Plain.{Plain}
-use Rattle.machines.specs.Fetched.{Fetched, plain, returns, calls, branches, saves, jumps, bad, noTemplate, noLinear, treeAt, linearAt}
+use Rattle.machines.specs.Fetched.{Fetched, plain, returns, calls, branches, saves, jumps, bad, noTemplate, treeAt, linearAt}
 use lib.ListN.{getD}
 
 -- what stands at a place of a template, and where a template's code begins

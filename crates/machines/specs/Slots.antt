@@ -1,14 +1,14 @@
 -- An instruction with its entry resolved by the slot that the run's table has of it (files, Table), and that this is what the entries say.
 -- Assumes nothing.
 use Prim.Native.Nat.{ℕ, zero, suc, _+_, _*_, _%_, _^_, _<_, _≤_}
-use mathlib.Core.Path.{_≡_, refl, sym, ap, _∙_}
+use mathlib.Core.Path.{_≡_, refl, _∙_}
 use mathlib.Core.Bool.{Bool, true, false, cond}
 use mathlib.Core.List.{List, [], _∷_}
 use mathlib.Core.Option.{Option, none, some}
 use native.Mathlib.Omega.{arith}
 use lib.Dec.{leb, eqb}
 use lib.ListN.{getD}
-use borrow.Author.Tests.{le-leb, lt-leb, eq-eqb, ne-eqb, eqb-true, eqb-false}
+use borrow.Author.Tests.{le-leb, ne-eqb, eqb-false}
 use Rattle.cells.specs.Cells.{tagOf, intCell}
 use Rattle.files.specs.Entries.{Entry, constant, global, template}
 use Rattle.files.specs.EntriesLaws.{EntryOk, EntriesOk}

@@ -1,14 +1,13 @@
 -- What is refused before a run looks at its file, and what is known where nothing is. Assumes nothing.
-use Prim.Native.Nat.{ℕ, zero, suc, _+_, _≤_}
-use mathlib.Core.Path.{_≡_, refl}
+use Prim.Native.Nat.{ℕ, _≤_}
+use mathlib.Core.Path.{_≡_, refl, sym, _∙_}
 use mathlib.Core.Bool.{Bool, true, false, cond, _&&_}
 use mathlib.Core.Option.{Option, none, some}
-use mathlib.Core.List.{List, [], _∷_}
-use native.Mathlib.Omega.{arith}
+use mathlib.Core.List.{List}
 use lib.Dec.{leb, eqb}
-use lib.ListN.{length, replicate}
+use lib.ListN.{length, replicate, length-replicate}
 use borrow.Author.Tests.{leb-true, eqb-true}
-use Rattle.machines.specs.Runs.{Memory, memory, Ran, ran, refusedRun, rightLengths, lowestUnfit, fitGlobals, started}
+use Rattle.machines.specs.Runs.{Memory, Ran, ran, refusedRun, rightLengths, lowestUnfit, fitGlobals, started}
 use Rattle.machines.specs.declared.Run.{Run}
 use Rattle.machines.specs.declared.End.the-variants.{Refused as EndRefused}
 use Rattle.machines.specs.declared.Start.{Start}
@@ -17,6 +16,10 @@ use Rattle.machines.specs.declared.Start.the-variants.{Go, Refused}
 -- n cells that are not in use
 unfoldable pub zeros : ℕ → List ℕ
 zeros n = replicate n 0
+
+pub zeros-length : (n : ℕ) → length (zeros n) ≡ n
+unfolding zeros
+zeros-length n = length-replicate n 0
 
 -- what a refused run returns
 abbrev pub refusal : ℕ → ℕ → Run
@@ -105,3 +108,14 @@ startable most b m e =
           frames-long = eqb-true (length (m .frames)) 2048 k;
           budget-fits = leb-true b most o;
         })
+
+-- ---- a run that x was answered of at its start
+module _ (most b : ℕ) (m : Memory) (x : Start) (asked : x ≡ startRefusal most b m) where
+  pub may-start : x ≡ Go → Startable most b m
+  may-start h = startable most b m (sym asked ∙ h)
+
+  pub start-goes : (r r′ : Ran) → x ≡ Go → r ≡ r′ → r ≡ started most b m r′
+  start-goes r r′ h e = e ∙ sym (started-go most b m r′ (sym asked ∙ h))
+
+  pub start-refused : (r : Ran) (n p : ℕ) (y : Run) → x ≡ Refused n p → y ≡ refusal n p → ran y m ≡ started most b m r
+  start-refused r n p y h e = rw e (sym (started-refused most b m r n p (sym asked ∙ h)))

@@ -1,8 +1,8 @@
 -- A run told as it is reported, step by step: jumps and first arms need not be counted for that. Assumes nothing.
 use Prim.Native.Nat.{ℕ, zero, suc, _+_, _-_, _<_, _≤_}
-use mathlib.Core.Path.{_≡_, refl, sym, ap, _∙_}
+use mathlib.Core.Path.{_≡_, refl, ap, _∙_}
 use native.Mathlib.Omega.{arith}
-use native.Mathlib.Nat.{sub-self, sub-zero}
+use native.Mathlib.Nat.{sub-zero}
 use native.Mathlib.Numerals.{add-one}
 use Rattle.cells.specs.Cells.{valueOf}
 use Rattle.machines.specs.Machine.{Program, State, Step, go, halt, stop, Counts, noCounts, counted, here, step, Ended, next, run}

@@ -1,18 +1,18 @@
 -- A run, one law for each way that a turn of the loop goes. Assumes nothing.
 use Prim.Native.Nat.{ℕ, _+_, _-_, _<_, _≤_}
-use mathlib.Core.Path.{_≡_, refl, sym, ap, _∙_}
+use mathlib.Core.Path.{_≡_, ap, _∙_}
 use mathlib.Core.Bool.{Bool}
 use mathlib.Core.List.{List}
 use native.Mathlib.Nat.{sub-self}
 use native.Mathlib.Omega.{arith}
-use lib.ListN.{length, length-replicate}
+use lib.ListN.{length}
 use Rattle.cells.specs.Cells.{valueOf}
 use Rattle.cells.specs.declared.Value.{Value}
 use Rattle.rules.specs.State.{regs}
 use Rattle.rules.specs.declared.Regs.{Regs}
 use Rattle.machines.specs.Machine.{Program, State, step}
-use Rattle.machines.specs.Runs.{Memory, memory, Ran, ran, memoryOf, startState}
-use Rattle.machines.specs.Start.{zeros}
+use Rattle.machines.specs.Runs.{Memory, Ran, ran, memoryOf, startState}
+use Rattle.machines.specs.Start.{zeros, zeros-length}
 use Rattle.machines.specs.Steps.{ranFrom, ends, turn-goes, turn-halts, turn-stops, budget-spent}
 use Rattle.machines.specs.Instruction.{number, isLinear, Of}
 use Rattle.machines.specs.declared.CodePlace.{CodePlace}
@@ -71,10 +71,6 @@ unfolding ends memoryOf
 spent-turn P left b m r c y l h i = let n : b - left ≡ b = omega arith in rw (i, n) (budget-spent P left b (stateOf r c m) l h)
 
 -- ---- the start
-zeros-length : (n : ℕ) → length (zeros n) ≡ n
-unfolding zeros
-zeros-length n = length-replicate n 0
-
 abbrev firstRegs : Regs
 firstRegs = regs 0x4000000000000000 0 0 0
 

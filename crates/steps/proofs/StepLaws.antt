@@ -1,5 +1,5 @@
 -- A step, one law for each outcome of each kind of instruction. Assumes nothing.
-use Prim.Native.Nat.{ℕ, _+_, _%_, _<_, _≤_, _^_}
+use Prim.Native.Nat.{ℕ, _%_, _<_, _≤_, _^_}
 use mathlib.Core.Path.{_≡_, refl, sym, ap, _∙_}
 use mathlib.Core.Bool.{Bool, true, false}
 use mathlib.Core.List.{List}
@@ -26,10 +26,10 @@ use Rattle.frames.specs.declared.Kept.{Kept}
 use Rattle.frames.specs.declared.Kept.the-variants as saved
 use Rattle.frames.specs.declared.Returned.{Returned}
 use Rattle.frames.specs.declared.Returned.the-variants as back
-use Rattle.machines.specs.Fetched.{Fetched, plain, returns, calls, branches, saves, jumps, bad, plainly}
-use Rattle.machines.specs.Machine.{Program, State, Step, go, halt, stop, bind, applied, called, returned, act, step}
+use Rattle.machines.specs.Fetched.{plain, returns, calls, branches, saves, jumps, bad, plainly}
+use Rattle.machines.specs.Machine.{Program, Step, go, stop, bind, applied, called, returned, act, step}
 use Rattle.machines.specs.Runs.{Memory, memory}
-use Rattle.machines.specs.Slots.{slotAt, slotResolve, resolvedAs}
+use Rattle.machines.specs.Slots.{slotAt, resolvedAs}
 use Rattle.machines.specs.Instruction.{number, isLinear, fetchedAs, Of, Places}
 use Rattle.machines.specs.declared.CodePlace.{CodePlace}
 use Rattle.machines.specs.declared.CodePlace.the-variants.{Tree, Linear}

@@ -4,23 +4,23 @@ use native.Mathlib.Omega.{arith}
 use mathlib.Core.Path.{_≡_, refl, sym, ap, _∙_}
 use mathlib.Core.Bool.{Bool, true, false, cond}
 use mathlib.Core.List.{List}
-use lib.ListN.{length, getD, replicate, length-replicate}
+use lib.ListN.{length, length-replicate}
 use Rattle.cells.specs.Cells.{valueOf}
 use Rattle.files.specs.Reading.{got}
 use Rattle.files.specs.Table.{treeTable}
 use Rattle.files.specs.Tree.{Template}
 use Rattle.files.specs.Accepted.{treeChecked}
 use Rattle.links.specs.Links.{linkedAll}
-use Rattle.machines.specs.Fetched.{Fetched, plain, returns, calls, branches, saves, jumps, bad, treeAt, noTemplate}
-use Rattle.machines.specs.Machine.{Program, treeProgram, State, at, Step, go, halt, stop, bind, applied, called, returned, act, here, step, Counts, noCounts, counted, next, run}
-use Rattle.machines.specs.Runs.{Ran, endOf, memoryOf, reported, startState, programRun}
+use Rattle.machines.specs.Fetched.{Fetched, plain, returns, calls, branches, saves, jumps, bad, treeAt}
+use Rattle.machines.specs.Machine.{Program, treeProgram, State, at, Step, go, halt, stop, bind, applied, called, returned, act, here, step, counted, next, run}
+use Rattle.machines.specs.Runs.{Ran, endOf, reported, startState, programRun}
 use Rattle.machines.specs.declared.End.the-variants.{Halted, Wrong}
 use Rattle.machines.specs.Steps.{counts-forgotten, done, ranFrom, ends, whole-budget}
 use Rattle.machines.specs.Slots.{slotAt}
-use Rattle.rules.specs.State.{Held, Res, ok, wrong}
+use Rattle.rules.specs.State.{Res, ok, wrong}
 use Rattle.rules.specs.Rules.{Data, Back, noFrame, backTo, plainRule, callRule, makeContRule, returnRule, isFalse}
 use Rattle.rules.specs.Related.{ResR, okR, wrongR, BackR, noneB, someB}
-use Rattle.rules.specs.Frames.{FramesR, noneF, Same, Savable, keep-same, back-same}
+use Rattle.rules.specs.Frames.{noneF, Same, Savable, keep-same, back-same}
 use Rattle.rules.specs.Clean.{Bound, plain-bound, call-template, call-bound, make-cont-bound, return-template, return-bound}
 use Rattle.tree_code.specs.Fetch.{linkedProgram}
 use Rattle.tree_machine.specs.Look.{seen, Leads}

@@ -1,13 +1,10 @@
 -- The run of a whole file, by what reading it answered. Assumes nothing.
 use Prim.Native.Nat.{ℕ, _*_, _≤_, _<_}
-use mathlib.Core.Path.{_≡_, refl, sym, ap, _∙_}
+use mathlib.Core.Path.{_≡_, sym, ap, _∙_}
 use mathlib.Core.List.{List}
-use native.Mathlib.Omega.{arith}
-use lib.ListN.{length, length-replicate}
+use lib.ListN.{length}
 use Rattle.cells.specs.declared.BitPlace.{BitPlace}
-use Rattle.files.specs.Reading.{Got, got, refused}
-use Rattle.files.specs.Table.{treeTable}
-use Rattle.files.specs.Tree.{Template, treeRead}
+use Rattle.files.specs.Tree.{treeRead}
 use Rattle.files.specs.Accepted.{treeChecked}
 use Rattle.tree.specs.Summary.{summaryOf, treeTold}
 use Rattle.tree.specs.Filled.{treeFilled}
@@ -16,23 +13,14 @@ use Rattle.tree.specs.Judged.{ReadFile, tree-told, checked-refused, judged-uncl
 use Rattle.tree.specs.declared.Summary.{Summary}
 use Rattle.tree.specs.declared.TreeFile.{TreeFile}
 use Rattle.tree.specs.declared.TreeFile.the-variants.{Read, Refused}
-use Rattle.links.specs.Links.{linkedAll}
 use Rattle.links.specs.TreeSteps.{linkedFrom, Ready}
-use Rattle.rules.specs.Fit.{Fit}
-use Rattle.machines.specs.Machine.{Program, treeProgram, State}
-use Rattle.machines.specs.Runs.{Memory, memory, Ran, ran, refusedRun, startState, reported, programRun, onTree, treeRun}
+use Rattle.machines.specs.Runs.{Memory, Ran, ran, refusedRun, startState, onTree}
 use Rattle.machines.specs.Slots.{slotAt}
-use Rattle.machines.specs.Start.{zeros, refusal, startRefusal, Startable, startable, started-go, started-refused}
+use Rattle.machines.specs.Start.{zeros, zeros-length, refusal}
 use Rattle.machines.specs.Steps.{ranFrom}
 use Rattle.machines.specs.declared.Run.{Run}
-use Rattle.machines.specs.declared.Start.{Start}
-use Rattle.machines.specs.declared.Start.the-variants as started
 use Rattle.tree_code.specs.Fetch.{linkedProgram}
 use Rattle.tree_machine.specs.Agree.{tree-run}
-
-pub zeros-length : (n : ℕ) → length (zeros n) ≡ n
-unfolding zeros
-zeros-length n = length-replicate n 0
 
 -- ---- a file that is accepted, with its links
 pub linked-ran : (s table L L₀ : List ℕ) (count b start : ℕ) (m : Memory) (r : Ran) → Ready s table count → treeChecked s ≡ treeRead s → 8 * length s ≤ 5 * length L₀
@@ -79,16 +67,3 @@ pub file-refused : (s : List ℕ) (x : TreeFile) (b : ℕ) (m : Memory) (n : ℕ
     → ran r m ≡ onTree b m (treeChecked s)
 unfolding onTree refusedRun
 file-refused s x b m n p r e h k = rw (k, checked-refused s (sym e ∙ h))
-
--- ---- the start
-module _ (b : ℕ) (m : Memory) (x : Start) (asked : x ≡ startRefusal 1000000 b m) where
-  pub may-start : x ≡ started.Go → Startable 1000000 b m
-  may-start h = startable 1000000 b m (sym asked ∙ h)
-
-  pub start-goes : (s : List ℕ) (r : Ran) → x ≡ started.Go → r ≡ onTree b m (treeChecked s) → r ≡ treeRun s b m
-  unfolding treeRun
-  start-goes s r h e = e ∙ sym (started-go 1000000 b m (onTree b m (treeChecked s)) (sym asked ∙ h))
-
-  pub start-refused : (s : List ℕ) (n p : ℕ) (r : Run) → x ≡ started.Refused n p → r ≡ refusal n p → ran r m ≡ treeRun s b m
-  unfolding treeRun
-  start-refused s n p r h e = rw e (sym (started-refused 1000000 b m (onTree b m (treeChecked s)) n p (sym asked ∙ h)))

@@ -1,29 +1,26 @@
 -- What is fetched in an accepted tree file, by its links and its table, is what stands there. Assumes nothing.
 use Prim.Native.Nat.{ℕ, zero, suc, _+_, _*_, _-_, _≤_, _<_}
 use native.Mathlib.Omega.{arith}
-use mathlib.Core.Path.{_≡_, refl, sym, ap, _∙_}
-use mathlib.Core.Bool.{Bool, true, false, cond}
+use mathlib.Core.Path.{_≡_, refl, _∙_}
+use mathlib.Core.Bool.{Bool, true, false}
 use mathlib.Core.List.{List, [], _∷_}
 use mathlib.Core.Option.{Option, none, some}
-use borrow.Author.Tests.{eq-eqb, ne-eqb}
+use borrow.Author.Tests.{ne-eqb}
 use lib.ListN.{length, getD, List·getD-eq-default}
-use lib.Dec.{eqb}
-use Rattle.cells.specs.Cells.{tagOf}
-use Rattle.files.specs.Code.{Code, done, return, bits}
 use Rattle.files.specs.Grammar.{isClosed, lowest, closedTemplate, indexedTemplate}
 use Rattle.files.specs.Reading.{Got, got, refused}
-use Rattle.files.specs.Table.{rowOf, treeTable}
+use Rattle.files.specs.Table.{treeTable}
 use Rattle.files.specs.AllGot.{tree-read}
 use Rattle.files.specs.TableLaws.{Few, treeEntries, row-start, tree-slot, tree-beyond}
 use Rattle.files.specs.Tree.{Template, treeRead}
 use Rattle.files.specs.Accepted.{orLowest, treeChecked}
 use Rattle.links.specs.Links.{linkedAll}
 use Rattle.links.specs.Templates.{TemplateLaid, short, template-there, template-stands, template-links}
-use Rattle.machines.specs.Fetched.{Fetched, plain, returns, calls, branches, saves, jumps, bad, resolve, look, treeAt, noTemplate}
-use Rattle.machines.specs.Slots.{slotAt, slotResolve, RowStands, row-stands, slot-resolve}
+use Rattle.machines.specs.Fetched.{Fetched, bad, look, treeAt, noTemplate}
+use Rattle.machines.specs.Slots.{slotAt, RowStands, row-stands, slot-resolve}
 use Rattle.tree.specs.Parts.{before-got, got-value}
 use Rattle.rules.specs.Clean.{by-lt}
-use Rattle.tree_code.specs.Fetch.{settled, instructionAt, fetchedAt}
+use Rattle.tree_code.specs.Fetch.{fetchedAt}
 use Rattle.tree_machine.specs.Real.{fits, false-true, Real, first-real, real-within}
 use Rattle.tree_machine.specs.Look.{seen, Leads, Found, look-found}
 

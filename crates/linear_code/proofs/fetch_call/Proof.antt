@@ -1,21 +1,17 @@
+-- `linear_code::fetch_call` meets its contract. Assumes nothing.
 use borrow.Author.Needs.{needs}
 use Rattle.linear_code.proofs.FetchLaws.{part-length, call-cut, call-there}
-use Rattle.machines.specs.Instruction.{number, isLinear, fetchedAs, Places}
+use Rattle.machines.specs.Instruction.{fetchedAs, Places}
 use Rattle.linear_code.proofs.fetch_call.Statement.{statement}
 use Rattle.linear_code.proofs.fetch_call.Tie as tie
-use Rattle.linear_code.proofs.fetch_call.Reads as reads
-use Rattle.linear_code.proofs.fetch_call.Lts as lts
 
--- src/lib.rt:50:29
 shared-slice-read-t7 : tie.Need-shared-slice-read-t7
 shared-slice-read-t7 c = search needs
 
--- src/lib.rt:43:1
 returns : tie.Need-returns
 unfolding fetchedAs Places
 returns c = (λ slot. call-cut _ (rw (part-length _ _ _ (c .before .pre)) (c .if1 .taken)), tt)
 
--- src/lib.rt:43:1
 returns-2 : tie.Need-returns-2
 unfolding fetchedAs Places
 returns-2 c = (λ slot. call-there _ _ _ (c .before .before .pre) (c .before .if1 .left), tt)

@@ -1,104 +1,78 @@
+-- `linear_code::fetch_code` meets its contract. Assumes nothing.
 use borrow.Author.Needs.{needs}
 use Rattle.linear_code.specs.Bytes.{codeBytes}
 use mathlib.Core.Path.{refl}
 use Rattle.machines.specs.Slots.{slotAt}
 use Rattle.linear_code.proofs.FetchLaws.{fetch-code, fetch-neutral, fetch-past, fetch-absent, fetch-past-absent}
-use Rattle.machines.specs.Instruction.{number, isLinear, fetchedAs, Places}
+use Rattle.machines.specs.Instruction.{fetchedAs, Places}
 use Rattle.linear_code.proofs.fetch_code.Statement.{statement}
 use Rattle.linear_code.proofs.fetch_code.Tie as tie
-use Rattle.linear_code.proofs.fetch_code.Reads as reads
-use Rattle.linear_code.proofs.fetch_code.Lts as lts
-use Rattle.linear_code.proofs.fetch_branch.Reads as fetch-branch-reads
-use Rattle.linear_code.proofs.fetch_call.Reads as fetch-call-reads
-use Rattle.linear_code.proofs.fetch_jump.Reads as fetch-jump-reads
-use Rattle.linear_code.proofs.fetch_neutral.Reads as fetch-neutral-reads
-use Rattle.linear_code.proofs.fetch_save.Reads as fetch-save-reads
 
--- src/lib.rt:117:13
 returns : tie.Need-returns
 unfolding fetchedAs Places
 returns c = (λ table t. fetch-past _ table t _ _ _ (c .before .before .before .pre .0) (c .before .if1 .taken) (c .if2 .taken), tt)
 
--- src/lib.rt:120:13
 returns-2 : tie.Need-returns-2
 unfolding fetchedAs Places
 returns-2 c = (λ table t. fetch-past-absent _ table t _ _ _ (c .before .before .before .before .pre .0) (c .before .if2 .left) (c .if3 .taken), tt)
 
--- src/lib.rt:122:9
 returns-3 : tie.Need-returns-3
 unfolding fetchedAs Places
 returns-3 c = (λ table t. fetch-absent _ table t _ _ _ (c .before .before .before .before .pre .0) (c .before .if2 .left) (c .if3 .left), tt)
 
--- src/lib.rt:124:13
 add-i : tie.Need-add-i
 add-i c = search needs
 
--- src/lib.rt:124:13
 add-i-2 : tie.Need-add-i-2
 add-i-2 c = search needs
 
--- src/lib.rt:125:16
 sub-left : tie.Need-sub-left
 sub-left c = search needs
 
--- src/lib.rt:125:16
 sub-left-2 : tie.Need-sub-left-2
 sub-left-2 c = search needs
 
--- src/lib.rt:126:19
 add-op : tie.Need-add-op
 add-op c = search needs
 
--- src/lib.rt:126:14
 shared-slice-read-op : tie.Need-shared-slice-read-op
 shared-slice-read-op c = search needs
 
--- src/lib.rt:129:14
 fetch-call-requires : tie.Need-fetch-call-requires
 fetch-call-requires c κs = search needs
 
--- src/lib.rt:130:14
 fetch-branch-requires : tie.Need-fetch-branch-requires
 fetch-branch-requires c κs = search needs
 
--- src/lib.rt:131:14
 fetch-save-requires : tie.Need-fetch-save-requires
 fetch-save-requires c κs = search needs
 
--- src/lib.rt:132:14
 fetch-jump-requires : tie.Need-fetch-jump-requires
 fetch-jump-requires c κs = search needs
 
--- src/lib.rt:133:14
 fetch-neutral-requires : tie.Need-fetch-neutral-requires
 fetch-neutral-requires c κs = search needs
 
--- src/lib.rt:110:1
 returns-4 : tie.Need-returns-4
 unfolding fetchedAs Places codeBytes
 returns-4 c = let p = c .before .before .before .before .args in (λ table t. fetch-code (p .file .now) table t (p .start) (p .len) (p .at .0) (c .before .before .before .before .pre .0) _ 1 (c .before .before .if1 .left) (c .match .keys1) refl, tt)
 
--- src/lib.rt:110:1
 returns-5 : tie.Need-returns-5
 unfolding codeBytes
 returns-5 c = let p = c .before .before .before .before .before .args in (λ table t. fetch-code (p .file .now) table t (p .start) (p .len) (p .at .0) (c .before .before .before .before .before .pre .0) _ 2 (c .before .before .before .if1 .left) (c .before .match .keys2) (c .fetch-call .ensures .0 (slotAt table t)), c .fetch-call .ensures .1)
 
--- src/lib.rt:110:1
 returns-6 : tie.Need-returns-6
 unfolding codeBytes
 returns-6 c = let p = c .before .before .before .before .before .args in (λ table t. fetch-code (p .file .now) table t (p .start) (p .len) (p .at .0) (c .before .before .before .before .before .pre .0) _ 3 (c .before .before .before .if1 .left) (c .before .match .keys3) (c .fetch-branch .ensures .0 (slotAt table t)), c .fetch-branch .ensures .1)
 
--- src/lib.rt:110:1
 returns-7 : tie.Need-returns-7
 unfolding codeBytes
 returns-7 c = let p = c .before .before .before .before .before .args in (λ table t. fetch-code (p .file .now) table t (p .start) (p .len) (p .at .0) (c .before .before .before .before .before .pre .0) _ 4 (c .before .before .before .if1 .left) (c .before .match .keys4) (c .fetch-save .ensures .0 (slotAt table t)), c .fetch-save .ensures .1)
 
--- src/lib.rt:110:1
 returns-8 : tie.Need-returns-8
 unfolding codeBytes
 returns-8 c = let p = c .before .before .before .before .before .args in (λ table t. fetch-code (p .file .now) table t (p .start) (p .len) (p .at .0) (c .before .before .before .before .before .pre .0) _ 5 (c .before .before .before .if1 .left) (c .before .match .keys5) (c .fetch-jump .ensures .0 (slotAt table t)), c .fetch-jump .ensures .1)
 
--- src/lib.rt:110:1
 returns-9 : tie.Need-returns-9
 returns-9 c = let p = c .before .before .before .before .before .args in let n = c .before .match .rest in (λ table t. fetch-neutral (p .file .now) table t (p .start) (p .len) (p .at .0) (c .before .before .before .before .before .pre .0) _ _ (c .before .before .before .if1 .left) refl (n .0 .0 .0 .0 .1) (n .0 .0 .0 .1) (n .0 .0 .1) (n .0 .1) (n .1) (c .fetch-neutral .ensures .0 (slotAt table t)), c .fetch-neutral .ensures .1)
 

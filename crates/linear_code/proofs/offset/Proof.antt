@@ -1,41 +1,32 @@
+-- `linear_code::offset` meets its contract. Assumes nothing.
 use borrow.Author.Needs.{needs}
 use Prim.Native.Nat.{_+_}
 use mathlib.Core.Path.{refl}
 use native.Mathlib.Omega.{arith}
 use Rattle.linear_code.proofs.offset.Statement.{statement}
 use Rattle.linear_code.proofs.offset.Tie as tie
-use Rattle.linear_code.proofs.offset.Reads as reads
-use Rattle.linear_code.proofs.offset.Lts as lts
 
--- src/lib.rt:38:12
 shared-slice-read-result : tie.Need-shared-slice-read-result
 shared-slice-read-result c = search needs
 
--- src/lib.rt:38:12
 cast-result : tie.Need-cast-result
 cast-result c = omega (arith, c .shared-slice-known .given (c .before .args .i))
 
--- src/lib.rt:38:5
 mul-result : tie.Need-mul-result
 mul-result c = omega (arith, c .shared-slice-known .given (c .before .args .i))
 
--- src/lib.rt:38:37
 add-result : tie.Need-add-result
 add-result c = search needs
 
--- src/lib.rt:38:32
 shared-slice-read-result-2 : tie.Need-shared-slice-read-result-2
 shared-slice-read-result-2 c = search needs
 
--- src/lib.rt:38:32
 cast-result-2 : tie.Need-cast-result-2
 cast-result-2 c = omega (arith, c .shared-slice-known2 .given (c .before .before .args .i), c .shared-slice-known2 .given (c .before .before .args .i + 1))
 
--- src/lib.rt:38:5
 add-result-2 : tie.Need-add-result-2
 add-result-2 c = omega (arith, c .shared-slice-known2 .given (c .before .before .args .i), c .shared-slice-known2 .given (c .before .before .args .i + 1))
 
--- src/lib.rt:34:1
 returns : tie.Need-returns
 returns c = (refl, omega (arith, c .shared-slice-known2 .given (c .before .before .args .i), c .shared-slice-known2 .given (c .before .before .args .i + 1)))
 

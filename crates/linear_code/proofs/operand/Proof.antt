@@ -1,23 +1,18 @@
+-- `linear_code::operand` meets its contract. Assumes nothing.
 use borrow.Author.Needs.{needs}
 use Rattle.linear_code.proofs.FetchLaws.{operand-there, operand-past}
 use Rattle.linear_code.proofs.operand.Statement.{statement}
 use Rattle.linear_code.proofs.operand.Tie as tie
-use Rattle.linear_code.proofs.operand.Reads as reads
-use Rattle.linear_code.proofs.operand.Lts as lts
 
--- src/lib.rt:31:24
 add-result : tie.Need-add-result
 add-result c = search needs
 
--- src/lib.rt:31:19
 shared-slice-read-result : tie.Need-shared-slice-read-result
 shared-slice-read-result c = search needs
 
--- src/lib.rt:27:1
 returns : tie.Need-returns
 returns c = operand-there _ _ _ (c .before .before .pre) _ (c .before .if1 .taken)
 
--- src/lib.rt:27:1
 returns-2 : tie.Need-returns-2
 returns-2 c = operand-past _ _ _ (c .before .pre) _ (c .if1 .left)
 

@@ -1,31 +1,23 @@
+-- `linear_code::operand_count` meets its contract. Assumes nothing.
 use Rattle.linear_code.proofs.FetchLaws.{under-six, under-ten, under-twelve, thirteen, sixteen, no-operand}
-use borrow.Author.Needs.{needs}
 use Rattle.linear_code.proofs.operand_count.Statement.{statement}
 use Rattle.linear_code.proofs.operand_count.Tie as tie
-use Rattle.linear_code.proofs.operand_count.Reads as reads
-use Rattle.linear_code.proofs.operand_count.Lts as lts
 
--- src/lib.rt:36:9
 returns : tie.Need-returns
 returns c = under-six _ (c .if1 .taken)
 
--- src/lib.rt:39:9
 returns-2 : tie.Need-returns-2
 returns-2 c = under-ten _ (c .before .if1 .left) (c .if2 .taken)
 
--- src/lib.rt:42:9
 returns-3 : tie.Need-returns-3
 returns-3 c = under-twelve _ (c .before .before .if1 .left) (c .before .if2 .left) (c .if3 .taken)
 
--- src/lib.rt:45:9
 returns-4 : tie.Need-returns-4
 returns-4 c = thirteen _ (c .before .before .before .if1 .left) (c .before .before .if2 .left) (c .before .if3 .left) (c .if4 .taken)
 
--- src/lib.rt:32:1
 returns-5 : tie.Need-returns-5
 returns-5 c = sixteen _ (c .before .before .before .before .if1 .left) (c .before .before .before .if2 .left) (c .before .before .if3 .left) (c .before .if4 .left) (c .if5 .taken)
 
--- src/lib.rt:32:1
 returns-6 : tie.Need-returns-6
 returns-6 c = no-operand _ (c .before .before .before .before .if1 .left) (c .before .before .before .if2 .left) (c .before .before .if3 .left) (c .before .if4 .left) (c .if5 .left)
 

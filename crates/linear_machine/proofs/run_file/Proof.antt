@@ -1,65 +1,46 @@
+-- `linear_machine::run_file` meets its contract. Assumes nothing.
 use borrow.Author.Needs.{needs}
-use Prim.Native.Nat.{_<_}
-use mathlib.Core.Path.{_≡_}
 use native.Mathlib.Omega.{arith}
 use Rattle.linear_machine.proofs.FileLaws.{table-long, file-within, file-ran, file-refused}
 use Rattle.linear_machine.proofs.run_file.Statement.{statement}
 use Rattle.linear_machine.proofs.run_file.Tie as tie
-use Rattle.linear_machine.proofs.run_file.Reads as reads
-use Rattle.linear_machine.proofs.run_file.Lts as lts
-use Rattle.linear.proofs.read_linear.Reads as read-linear-reads
-use Rattle.linear_machine.proofs.run_read.Reads as run-read-reads
-use Rattle.machines.proofs.refused.Reads as refused-reads
 
--- src/lib.rt:335:11
 read-linear-requires : tie.Need-read-linear-requires
 read-linear-requires c κs = table-long _ (c .before .before .before .before .before .before .before .pre .1)
 
--- src/lib.rt:337:29
 enum-told : tie.Need-enum-told
 enum-told c = search needs
 
--- src/lib.rt:337:13
 run-read-requires : tie.Need-run-read-requires
 run-read-requires c κs = (c .before .before .before .before .before .before .before .before .before .before .before .before .before .before .before .before .before .pre .0, file-within _ _ _ _ (c .before .before .before .before .before .before .before .before .before .read-linear .ensures .0) (c .before .before .before .before .before .before .before .before .before .before .before .before .before .before .before .before .before .pre .1) (c .before .before .before .before .before .before .before .before .before .read-linear .ensures .1) _ (c .before .before .before .before .before .enum-told .given .1))
 
--- src/lib.rt:339:29
 enum-known-number : tie.Need-enum-known-number
 enum-known-number c = search needs
 
--- src/lib.rt:339:47
 refused-requires : tie.Need-refused-requires
 refused-requires c κs = search needs
 
--- src/lib.rt:331:1
 same-length : tie.Need-same-length
 same-length c = search needs
 
--- src/lib.rt:331:1
 same-length-2 : tie.Need-same-length-2
 same-length-2 c = search needs
 
--- src/lib.rt:331:1
 same-length-3 : tie.Need-same-length-3
 same-length-3 c = search needs
 
--- src/lib.rt:331:1
 same-length-4 : tie.Need-same-length-4
 same-length-4 c = search needs
 
--- src/lib.rt:331:1
 same-length-5 : tie.Need-same-length-5
 same-length-5 c = search needs
 
--- src/lib.rt:331:1
 returns : tie.Need-returns
 returns c = file-ran _ _ _ _ (c .before .before .before .before .before .before .before .before .before .before .before .before .before .before .before .before .before .before .read-linear .ensures .0) (c .before .before .before .before .before .before .before .before .before .before .before .before .before .before .before .before .before .before .before .before .before .before .before .before .before .before .pre .1) (c .before .before .before .before .before .before .before .before .before .before .before .before .before .before .before .before .before .before .read-linear .ensures .1) _ (c .before .before .before .before .before .before .before .before .before .before .before .before .before .before .enum-told .given .1) _ _ _ (λ i. omega (arith, c .before .before .before .before .before .before .before .before .before .before .before .before .before .before .before .before .before .before .before .before .before .before .before .before .before .shared-slice-known .given i)) (c .before .before .before .before .before .before .before .before .run-read .ensures)
 
--- src/lib.rt:331:1
 same-length-6 : tie.Need-same-length-6
 same-length-6 c = search needs
 
--- src/lib.rt:331:1
 returns-2 : tie.Need-returns-2
 returns-2 c = file-refused _ _ _ _ _ _ _ (c .before .before .before .before .before .before .read-linear .ensures .0) (c .before .before .number .given .1) (c .refused .ensures)
 

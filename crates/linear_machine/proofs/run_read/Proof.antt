@@ -1,38 +1,29 @@
+-- `linear_machine::run_read` meets its contract. Assumes nothing.
 use Rattle.machines.specs.Instruction.{number, isLinear}
 use Rattle.steps.specs.Step.{codeProgram, CodeReady}
 use borrow.Author.Needs.{needs}
 use Rattle.linear_machine.proofs.run_read.Statement.{statement}
 use Rattle.linear_machine.proofs.run_read.Tie as tie
-use Rattle.linear_machine.proofs.run_read.Reads as reads
-use Rattle.linear_machine.proofs.run_read.Lts as lts
-use Rattle.steps.proofs.run_code.Reads as run-code-reads
 
--- src/lib.rt:31:9
 slice-aggregate-run-code : tie.Need-slice-aggregate-run-code
 slice-aggregate-run-code c = search needs
 
--- src/lib.rt:29:5
 run-code-requires : tie.Need-run-code-requires
 unfolding isLinear CodeReady
 run-code-requires c κs = let p = c .before .before .before .before .before .before .before .before .before .before .before .pre in (p .1, search needs, search needs, search needs, search needs)
 
--- src/lib.rt:15:1
 same-length : tie.Need-same-length
 same-length c = search needs
 
--- src/lib.rt:15:1
 same-length-2 : tie.Need-same-length-2
 same-length-2 c = search needs
 
--- src/lib.rt:15:1
 same-length-3 : tie.Need-same-length-3
 same-length-3 c = search needs
 
--- src/lib.rt:15:1
 same-length-4 : tie.Need-same-length-4
 same-length-4 c = search needs
 
--- src/lib.rt:15:1
 returns : tie.Need-returns
 unfolding isLinear number codeProgram
 returns c = c .before .before .before .before .before .before .before .before .run-code .ensures

@@ -1,36 +1,27 @@
+-- `machines::clear_all` meets its contract. Assumes nothing.
 use borrow.Author.Needs.{needs}
 use Rattle.machines.proofs.Laws.{zeroed-whole}
 use Rattle.machines.proofs.clear_all.Statement.{statement}
 use Rattle.machines.proofs.clear_all.Tie as tie
-use Rattle.machines.proofs.clear_all.Reads as reads
-use Rattle.machines.proofs.clear_all.Lts as lts
-use Rattle.runs.proofs.clear.Reads as clear-reads
 
--- src/lib.rt:85:5
 clear-requires : tie.Need-clear-requires
 clear-requires c κs = search needs
 
--- src/lib.rt:86:5
 clear-requires-2 : tie.Need-clear-requires-2
 clear-requires-2 c κs = search needs
 
--- src/lib.rt:87:5
 clear-requires-3 : tie.Need-clear-requires-3
 clear-requires-3 c κs = search needs
 
--- src/lib.rt:81:1
 same-length : tie.Need-same-length
 same-length c = search needs
 
--- src/lib.rt:81:1
 same-length-2 : tie.Need-same-length-2
 same-length-2 c = search needs
 
--- src/lib.rt:81:1
 same-length-3 : tie.Need-same-length-3
 same-length-3 c = search needs
 
--- src/lib.rt:81:1
 returns : tie.Need-returns
 returns c =
     let pre = c .before .before .before .before .before .before .before .before .before .before .before .before .before .before .before .pre in

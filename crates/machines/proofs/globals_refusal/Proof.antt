@@ -1,16 +1,14 @@
+-- `machines::globals_refusal` meets its contract. Assumes nothing.
 use borrow.Author.Needs.{needs}
 use borrow.Author.Tests.{not-true, not-false}
 use Prim.Native.Nat.{_≤_, _-_}
-use mathlib.Core.Path.{_≡_, refl, ap}
+use mathlib.Core.Path.{_≡_, ap}
 use lib.ListN.{length, drop}
 use Rattle.machines.specs.Runs.{lowestUnfit}
 use Rattle.machines.specs.Start.{globalsRefusal}
 use Rattle.machines.proofs.Laws.{unfit-here, unfit-later, unfit-nowhere}
 use Rattle.machines.proofs.globals_refusal.Statement.{statement}
 use Rattle.machines.proofs.globals_refusal.Tie as tie
-use Rattle.machines.proofs.globals_refusal.Reads as reads
-use Rattle.machines.proofs.globals_refusal.Lts as lts
-use Rattle.cells.proofs.starting_global.Reads as starting-global-reads
 
 abbrev Inv-loop : tie.InvT-loop
 Inv-loop globals i₀ i = (i ≤ length globals) × (lowestUnfit i (drop i globals) ≡ lowestUnfit 0 globals)
@@ -18,43 +16,34 @@ Inv-loop globals i₀ i = (i ≤ length globals) × (lowestUnfit i (drop i globa
 abbrev μ-loop : tie.MeasureT-loop
 μ-loop globals i₀ i = length globals - i
 
--- src/lib.rt:37:5
 loop-holds : tie.Need-loop-holds Inv-loop μ-loop
 loop-holds c = search needs
 
--- src/lib.rt:38:36
 mul-starting-global : tie.Need-mul-starting-global Inv-loop μ-loop
 mul-starting-global c = search needs
 
--- src/lib.rt:38:36
 shared-slice-read-starting-global : tie.Need-shared-slice-read-starting-global Inv-loop μ-loop
 shared-slice-read-starting-global c = search needs
 
--- src/lib.rt:38:13
 starting-global-requires : tie.Need-starting-global-requires Inv-loop μ-loop
 starting-global-requires c κs = search needs
 
--- src/lib.rt:39:13
 returns : tie.Need-returns Inv-loop μ-loop
 unfolding globalsRefusal
 returns c =
     ap globalsRefusal
     (unfit-here _ _ (c .before .before .before .before .loop .inv .1) _ (c .before .before .before .loop-test .taken) (c .before .starting-global .ensures) (not-true _ (c .if1 .taken)))
 
--- src/lib.rt:41:13
 add-i : tie.Need-add-i Inv-loop μ-loop
 add-i c = search needs
 
--- src/lib.rt:37:5
 loop-less : tie.Need-loop-less Inv-loop μ-loop
 loop-less c = search needs
 
--- src/lib.rt:37:5
 loop-again : tie.Need-loop-again Inv-loop μ-loop
 loop-again c =
     (search needs, unfit-later _ _ (c .before .before .before .before .loop .inv .1) _ (c .before .before .before .loop-test .taken) (c .before .starting-global .ensures) (not-false _ (c .if1 .left)))
 
--- src/lib.rt:33:1
 returns-2 : tie.Need-returns-2 Inv-loop μ-loop
 unfolding globalsRefusal
 returns-2 c = ap globalsRefusal (unfit-nowhere _ _ (c .before .loop .inv .1) (c .loop-test .left))

@@ -1,27 +1,21 @@
+-- `machines::literal` meets its contract. Assumes nothing.
 use borrow.Author.Needs.{needs}
 use borrow.Author.Tests.{eq-eqb, ne-eqb, le-leb, lt-leb}
 use Rattle.machines.specs.Slots.{slotLiteral, resolvedAs}
 use Rattle.machines.proofs.literal.Statement.{statement}
 use Rattle.machines.proofs.literal.Tie as tie
-use Rattle.machines.proofs.literal.Reads as reads
-use Rattle.machines.proofs.literal.Lts as lts
-use Rattle.cells.proofs.tag_of.Reads as tag-of-reads
 
--- src/lib.rt:126:9
 tag-of-requires : tie.Need-tag-of-requires
 tag-of-requires c κs = search needs
 
--- src/lib.rt:128:9
 returns : tie.Need-returns
 unfolding slotLiteral resolvedAs
 returns c = simp (← c .before .tag-of .ensures, eq-eqb _ _ (c .if1 .taken))
 
--- src/lib.rt:123:1
 returns-2 : tie.Need-returns-2
 unfolding slotLiteral resolvedAs
 returns-2 c = simp (← c .before .before .tag-of .ensures, ne-eqb _ _ (c .before .if1 .left), le-leb _ _ (c .if2 .taken))
 
--- src/lib.rt:123:1
 returns-3 : tie.Need-returns-3
 unfolding slotLiteral resolvedAs
 returns-3 c = simp (← c .before .before .tag-of .ensures, ne-eqb _ _ (c .before .if1 .left), lt-leb _ _ (c .if2 .left))

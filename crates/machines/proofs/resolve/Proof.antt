@@ -1,199 +1,162 @@
+-- `machines::resolve` meets its contract. Assumes nothing.
 use borrow.Author.Needs.{needs}
 use mathlib.Core.Path.{refl, ap, _∙_}
 use Rattle.rules.specs.declared.Plain.the-variants.{Closure, Global, SetGlobal}
-use Rattle.machines.specs.Slots.{slotAt, slotLiteral, slotClosure, slotGlobal, slotResolve, resolvedAs, markedAs}
+use Rattle.machines.specs.Slots.{slotAt, slotLiteral, slotResolve, resolvedAs, markedAs}
 use Rattle.machines.proofs.ResolveLaws.{coded, no-code, marked-number, marked-other}
 use Rattle.machines.proofs.resolve.Statement.{statement}
 use Rattle.machines.proofs.resolve.Tie as tie
-use Rattle.machines.proofs.resolve.Reads as reads
-use Rattle.machines.proofs.resolve.Lts as lts
-use Rattle.machines.proofs.literal.Reads as literal-reads
-use Rattle.machines.proofs.slot_at.Reads as slot-at-reads
-use Rattle.machines.proofs.under_tag.Reads as under-tag-reads
 
--- src/lib.rt:142:22
 slot-at-requires : tie.Need-slot-at-requires
 slot-at-requires c κs = search needs
 
--- src/lib.rt:142:14
 literal-requires : tie.Need-literal-requires
 literal-requires c κs = search needs
 
--- src/lib.rt:143:30
 slot-at-requires-2 : tie.Need-slot-at-requires-2
 slot-at-requires-2 c κs = search needs
 
--- src/lib.rt:143:20
 under-tag-requires : tie.Need-under-tag-requires
 under-tag-requires c κs = search needs
 
--- src/lib.rt:144:28
 enum-known-t : tie.Need-enum-known-t
 enum-known-t c = search needs
 
--- src/lib.rt:145:30
 enum-told : tie.Need-enum-told
 enum-told c = search needs
 
--- src/lib.rt:147:30
 slot-at-requires-3 : tie.Need-slot-at-requires-3
 slot-at-requires-3 c κs = search needs
 
--- src/lib.rt:147:20
 under-tag-requires-2 : tie.Need-under-tag-requires-2
 under-tag-requires-2 c κs = search needs
 
--- src/lib.rt:148:28
 enum-known-g : tie.Need-enum-known-g
 enum-known-g c = search needs
 
--- src/lib.rt:149:30
 enum-told-2 : tie.Need-enum-told-2
 enum-told-2 c = search needs
 
--- src/lib.rt:151:30
 slot-at-requires-4 : tie.Need-slot-at-requires-4
 slot-at-requires-4 c κs = search needs
 
--- src/lib.rt:151:20
 under-tag-requires-3 : tie.Need-under-tag-requires-3
 under-tag-requires-3 c κs = search needs
 
--- src/lib.rt:152:28
 enum-known-g-2 : tie.Need-enum-known-g-2
 enum-known-g-2 c = search needs
 
--- src/lib.rt:153:30
 enum-told-3 : tie.Need-enum-told-3
 enum-told-3 c = search needs
 
--- src/lib.rt:138:1
 returns : tie.Need-returns
 unfolding slotResolve
 returns c =
     let p = c .before .before .before .before .args in
     coded (slotAt (p .table .now) (p .template)) _ 6 (p .a) (p .b) _ (c .before .before .match .keys1) (c .literal .ensures ∙ ap (λ x. resolvedAs (slotLiteral x)) (c .before .slot-at .ensures))
 
--- src/lib.rt:138:1
 returns-2 : tie.Need-returns-2
 unfolding slotResolve
 returns-2 c =
     let p = c .before .before .before .before .before .before .before .args in
     coded (slotAt (p .table .now) (p .template)) _ 7 (p .a) (p .b) _ (c .before .before .before .before .before .match .keys2) (marked-number Closure 12 _ _ (c .before .before .before .under-tag .ensures ∙ ap (markedAs 12) (c .before .before .before .before .slot-at2 .ensures)) _ (c .before .t .given .1))
 
--- src/lib.rt:138:1
 returns-3 : tie.Need-returns-3
 unfolding slotResolve
 returns-3 c =
     let p = c .before .before .before .before .before .before .args in
     coded (slotAt (p .table .now) (p .template)) _ 7 (p .a) (p .b) _ (c .before .before .before .before .match .keys2) (marked-other Closure 12 _ _ (c .before .before .under-tag .ensures ∙ ap (markedAs 12) (c .before .before .before .slot-at2 .ensures)) (c .enum-told .given .1))
 
--- src/lib.rt:138:1
 returns-4 : tie.Need-returns-4
 unfolding slotResolve
 returns-4 c =
     let p = c .before .before .before .before .before .before .before .args in
     coded (slotAt (p .table .now) (p .template)) _ 8 (p .a) (p .b) _ (c .before .before .before .before .before .match .keys3) (marked-number Global 11 _ _ (c .before .before .before .under-tag2 .ensures ∙ ap (markedAs 11) (c .before .before .before .before .slot-at3 .ensures)) _ (c .before .g .given .1))
 
--- src/lib.rt:138:1
 returns-5 : tie.Need-returns-5
 unfolding slotResolve
 returns-5 c =
     let p = c .before .before .before .before .before .before .args in
     coded (slotAt (p .table .now) (p .template)) _ 8 (p .a) (p .b) _ (c .before .before .before .before .match .keys3) (marked-other Global 11 _ _ (c .before .before .under-tag2 .ensures ∙ ap (markedAs 11) (c .before .before .before .slot-at3 .ensures)) (c .enum-told2 .given .1))
 
--- src/lib.rt:138:1
 returns-6 : tie.Need-returns-6
 unfolding slotResolve
 returns-6 c =
     let p = c .before .before .before .before .before .before .before .args in
     coded (slotAt (p .table .now) (p .template)) _ 9 (p .a) (p .b) _ (c .before .before .before .before .before .match .keys4) (marked-number SetGlobal 11 _ _ (c .before .before .before .under-tag3 .ensures ∙ ap (markedAs 11) (c .before .before .before .before .slot-at4 .ensures)) _ (c .before .g2 .given .1))
 
--- src/lib.rt:138:1
 returns-7 : tie.Need-returns-7
 unfolding slotResolve
 returns-7 c =
     let p = c .before .before .before .before .before .before .args in
     coded (slotAt (p .table .now) (p .template)) _ 9 (p .a) (p .b) _ (c .before .before .before .before .match .keys4) (marked-other SetGlobal 11 _ _ (c .before .before .under-tag3 .ensures ∙ ap (markedAs 11) (c .before .before .before .slot-at4 .ensures)) (c .enum-told3 .given .1))
 
--- src/lib.rt:138:1
 returns-8 : tie.Need-returns-8
 unfolding slotResolve resolvedAs
 returns-8 c =
     let p = c .before .before .args in
     coded (slotAt (p .table .now) (p .template)) _ 10 (p .a) (p .b) _ (c .match .keys5) refl
 
--- src/lib.rt:138:1
 returns-9 : tie.Need-returns-9
 unfolding slotResolve resolvedAs
 returns-9 c =
     let p = c .before .before .args in
     coded (slotAt (p .table .now) (p .template)) _ 11 (p .a) (p .b) _ (c .match .keys6) refl
 
--- src/lib.rt:138:1
 returns-10 : tie.Need-returns-10
 unfolding slotResolve resolvedAs
 returns-10 c =
     let p = c .before .before .args in
     coded (slotAt (p .table .now) (p .template)) _ 12 (p .a) (p .b) _ (c .match .keys7) refl
 
--- src/lib.rt:138:1
 returns-11 : tie.Need-returns-11
 unfolding slotResolve resolvedAs
 returns-11 c =
     let p = c .before .before .args in
     coded (slotAt (p .table .now) (p .template)) _ 13 (p .a) (p .b) _ (c .match .keys8) refl
 
--- src/lib.rt:138:1
 returns-12 : tie.Need-returns-12
 unfolding slotResolve resolvedAs
 returns-12 c =
     let p = c .before .before .args in
     coded (slotAt (p .table .now) (p .template)) _ 15 (p .a) (p .b) _ (c .match .keys9) refl
 
--- src/lib.rt:138:1
 returns-13 : tie.Need-returns-13
 unfolding slotResolve resolvedAs
 returns-13 c =
     let p = c .before .before .args in
     coded (slotAt (p .table .now) (p .template)) _ 16 (p .a) (p .b) _ (c .match .keys10) refl
 
--- src/lib.rt:138:1
 returns-14 : tie.Need-returns-14
 unfolding slotResolve resolvedAs
 returns-14 c =
     let p = c .before .before .args in
     coded (slotAt (p .table .now) (p .template)) _ 18 (p .a) (p .b) _ (c .match .keys11) refl
 
--- src/lib.rt:138:1
 returns-15 : tie.Need-returns-15
 unfolding slotResolve resolvedAs
 returns-15 c =
     let p = c .before .before .args in
     coded (slotAt (p .table .now) (p .template)) _ 19 (p .a) (p .b) _ (c .match .keys12) refl
 
--- src/lib.rt:138:1
 returns-16 : tie.Need-returns-16
 unfolding slotResolve resolvedAs
 returns-16 c =
     let p = c .before .before .args in
     coded (slotAt (p .table .now) (p .template)) _ 20 (p .a) (p .b) _ (c .match .keys13) refl
 
--- src/lib.rt:138:1
 returns-17 : tie.Need-returns-17
 unfolding slotResolve resolvedAs
 returns-17 c =
     let p = c .before .before .args in
     coded (slotAt (p .table .now) (p .template)) _ 21 (p .a) (p .b) _ (c .match .keys14) refl
 
--- src/lib.rt:138:1
 returns-18 : tie.Need-returns-18
 unfolding slotResolve resolvedAs
 returns-18 c =
     let p = c .before .before .args in
     coded (slotAt (p .table .now) (p .template)) _ 22 (p .a) (p .b) _ (c .match .keys15) refl
 
--- src/lib.rt:138:1
 returns-19 : tie.Need-returns-19
 returns-19 c = let n = c .match .rest in no-code _ _ _ _ (n .0 .0 .0 .0 .0 .0 .0 .0 .0 .0 .0 .0 .0 .0 .1) (n .0 .0 .0 .0 .0 .0 .0 .0 .0 .0 .0 .0 .0 .1) (n .0 .0 .0 .0 .0 .0 .0 .0 .0 .0 .0 .0 .1) (n .0 .0 .0 .0 .0 .0 .0 .0 .0 .0 .0 .1) (n .0 .0 .0 .0 .0 .0 .0 .0 .0 .0 .1) (n .0 .0 .0 .0 .0 .0 .0 .0 .0 .1) (n .0 .0 .0 .0 .0 .0 .0 .0 .1) (n .0 .0 .0 .0 .0 .0 .0 .1) (n .0 .0 .0 .0 .0 .0 .1) (n .0 .0 .0 .0 .0 .1) (n .0 .0 .0 .0 .1) (n .0 .0 .0 .1) (n .0 .0 .1) (n .0 .1) (n .1)
 

@@ -1,34 +1,27 @@
+-- `machines::slot_at` meets its contract. Assumes nothing.
 use borrow.Author.Needs.{needs}
 use mathlib.Core.Path.{refl, sym}
 use lib.ListN.{List·getD-eq-default}
 use Rattle.machines.specs.Slots.{slotAt}
 use Rattle.machines.proofs.slot_at.Statement.{statement}
 use Rattle.machines.proofs.slot_at.Tie as tie
-use Rattle.machines.proofs.slot_at.Reads as reads
-use Rattle.machines.proofs.slot_at.Lts as lts
 
--- src/lib.rt:109:13
 mul-i : tie.Need-mul-i
 mul-i c = search needs
 
--- src/lib.rt:109:13
 add-i : tie.Need-add-i
 add-i c = search needs
 
--- src/lib.rt:110:26
 mul-result : tie.Need-mul-result
 mul-result c = search needs
 
--- src/lib.rt:110:26
 shared-slice-read-result : tie.Need-shared-slice-read-result
 shared-slice-read-result c = search needs
 
--- src/lib.rt:106:1
 returns : tie.Need-returns
 unfolding slotAt
 returns c = refl
 
--- src/lib.rt:106:1
 returns-2 : tie.Need-returns-2
 unfolding slotAt
 returns-2 c = sym (List·getD-eq-default (c .before .args .table .now) 0 (c .if1 .left))

@@ -1,43 +1,34 @@
+-- `machines::start_refusal` meets its contract. Assumes nothing.
 use borrow.Author.Needs.{needs}
 use borrow.Author.Tests.{eq-eqb, ne-eqb, le-leb, lt-leb}
 use Rattle.machines.specs.Runs.{rightLengths}
 use Rattle.machines.specs.Start.{startRefusal}
 use Rattle.machines.proofs.start_refusal.Statement.{statement}
 use Rattle.machines.proofs.start_refusal.Tie as tie
-use Rattle.machines.proofs.start_refusal.Reads as reads
-use Rattle.machines.proofs.start_refusal.Lts as lts
-use Rattle.machines.proofs.globals_refusal.Reads as globals-refusal-reads
 
--- src/lib.rt:51:9
 returns : tie.Need-returns
 unfolding startRefusal rightLengths
 returns c = simp (ne-eqb _ _ (c .if1 .taken))
 
--- src/lib.rt:54:9
 returns-2 : tie.Need-returns-2
 unfolding startRefusal rightLengths
 returns-2 c = simp (eq-eqb _ _ (c .before .if1 .left), ne-eqb _ _ (c .if2 .taken))
 
--- src/lib.rt:57:9
 returns-3 : tie.Need-returns-3
 unfolding startRefusal rightLengths
 returns-3 c = simp (eq-eqb _ _ (c .before .before .if1 .left), eq-eqb _ _ (c .before .if2 .left), ne-eqb _ _ (c .if3 .taken))
 
--- src/lib.rt:60:9
 returns-4 : tie.Need-returns-4
 unfolding startRefusal rightLengths
 returns-4 c = simp (eq-eqb _ _ (c .before .before .before .if1 .left), eq-eqb _ _ (c .before .before .if2 .left), eq-eqb _ _ (c .before .if3 .left), ne-eqb _ _ (c .if4 .taken))
 
--- src/lib.rt:63:9
 returns-5 : tie.Need-returns-5
 unfolding startRefusal rightLengths
 returns-5 c = simp (eq-eqb _ _ (c .before .before .before .before .if1 .left), eq-eqb _ _ (c .before .before .before .if2 .left), eq-eqb _ _ (c .before .before .if3 .left), eq-eqb _ _ (c .before .if4 .left), lt-leb _ _ (c .if5 .taken))
 
--- src/lib.rt:65:5
 globals-refusal-requires : tie.Need-globals-refusal-requires
 globals-refusal-requires c κs = search needs
 
--- src/lib.rt:47:1
 returns-6 : tie.Need-returns-6
 unfolding startRefusal rightLengths
 returns-6 c = simp (eq-eqb _ _ (c .before .before .before .before .before .if1 .left), eq-eqb _ _ (c .before .before .before .before .if2 .left), eq-eqb _ _ (c .before .before .before .if3 .left), eq-eqb _ _ (c .before .before .if4 .left), le-leb _ _ (c .before .if5 .left)) (c .globals-refusal .ensures)

@@ -1,26 +1,20 @@
+-- `machines::under_tag` meets its contract. Assumes nothing.
 use borrow.Author.Needs.{needs}
 use borrow.Author.Tests.{eq-eqb, ne-eqb}
 use Rattle.machines.specs.Slots.{markedAs}
 use Rattle.machines.proofs.under_tag.Statement.{statement}
 use Rattle.machines.proofs.under_tag.Tie as tie
-use Rattle.machines.proofs.under_tag.Reads as reads
-use Rattle.machines.proofs.under_tag.Lts as lts
-use Rattle.cells.proofs.tag_of.Reads as tag-of-reads
 
--- src/lib.rt:116:8
 tag-of-requires : tie.Need-tag-of-requires
 tag-of-requires c κs = search needs
 
--- src/lib.rt:117:24
 cast-t7 : tie.Need-cast-t7
 cast-t7 c = search needs
 
--- src/lib.rt:113:1
 returns : tie.Need-returns
 unfolding markedAs
 returns c = simp (← c .before .tag-of .ensures, eq-eqb _ _ (c .if1 .taken))
 
--- src/lib.rt:113:1
 returns-2 : tie.Need-returns-2
 unfolding markedAs
 returns-2 c = simp (← c .before .tag-of .ensures, ne-eqb _ _ (c .if1 .left))

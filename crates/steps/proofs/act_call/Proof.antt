@@ -1,34 +1,25 @@
+-- `steps::act_call` meets its contract. Assumes nothing.
 use mathlib.Core.Path.{_∙_}
 use Rattle.steps.proofs.StepLaws.{call-goes, call-stops}
 use borrow.Author.Needs.{needs}
 use Rattle.steps.proofs.act_call.Statement.{statement}
 use Rattle.steps.proofs.act_call.Tie as tie
-use Rattle.steps.proofs.act_call.Reads as reads
-use Rattle.steps.proofs.act_call.Lts as lts
-use Rattle.rules.proofs.call.Reads as call-reads
-use Rattle.steps.proofs.start_place.Reads as start-place-reads
 
--- src/lib.rt:142:11
 call-requires : tie.Need-call-requires
 call-requires c κs = search needs
 
--- src/lib.rt:143:20
 enum-known-template : tie.Need-enum-known-template
 enum-known-template c = search needs
 
--- src/lib.rt:145:17
 start-place-requires : tie.Need-start-place-requires
 start-place-requires c κs = search needs
 
--- src/lib.rt:155:23
 enum-known-no : tie.Need-enum-known-no
 enum-known-no c = search needs
 
--- src/lib.rt:138:1
 returns : tie.Need-returns
 returns c = λ P m h. call-goes P m _ _ (c .before .before .before .before .before .before .args .c) _ (c .before .before .before .before .call .ensures .0) _ _ _ (c .before .before .template .given .1) (c .before .before .before .before .call .ensures .1) (c .before .before .before .before .before .before .pre .0) (c .start-place .ensures .0 ∙ h _) (c .before .before .before .before .before .before .pre .1) (c .start-place .ensures .1)
 
--- src/lib.rt:138:1
 returns-2 : tie.Need-returns-2
 returns-2 c = λ P m h. call-stops P m _ _ (c .before .before .before .before .before .args .c) _ (c .before .before .before .call .ensures .0) _ (c .before .no .given .1)
 

@@ -1,45 +1,33 @@
+-- `steps::act_neutral` meets its contract. Assumes nothing.
 use Rattle.steps.proofs.StepLaws.{neutral-goes, neutral-stops}
 use borrow.Author.Needs.{needs}
 use Rattle.steps.proofs.act_neutral.Statement.{statement}
 use Rattle.steps.proofs.act_neutral.Tie as tie
-use Rattle.steps.proofs.act_neutral.Reads as reads
-use Rattle.steps.proofs.act_neutral.Lts as lts
-use Rattle.machines.proofs.resolve.Reads as resolve-reads
-use Rattle.steps.proofs.act_plain.Reads as act-plain-reads
 
--- src/lib.rt:132:11
 resolve-requires : tie.Need-resolve-requires
 resolve-requires c κs = search needs
 
--- src/lib.rt:133:23
 enum-known-i : tie.Need-enum-known-i
 enum-known-i c = search needs
 
--- src/lib.rt:133:29
 act-plain-requires : tie.Need-act-plain-requires
 act-plain-requires c κs = search needs
 
--- src/lib.rt:134:28
 enum-told : tie.Need-enum-told
 enum-told c = search needs
 
--- src/lib.rt:117:1
 same-length : tie.Need-same-length
 same-length c = search needs
 
--- src/lib.rt:117:1
 same-length-2 : tie.Need-same-length-2
 same-length-2 c = search needs
 
--- src/lib.rt:117:1
 same-length-3 : tie.Need-same-length-3
 same-length-3 c = search needs
 
--- src/lib.rt:117:1
 returns : tie.Need-returns
 returns c = λ P f. neutral-goes P _ _ _ _ _ _ (c .before .before .before .before .before .before .before .before .before .before .before .before .before .resolve .ensures) _ _ _ (c .before .before .before .before .before .before .before .before .before .before .before .i .given .1) (c .before .before .before .before .before .before .act-plain .ensures P f)
 
--- src/lib.rt:117:1
 returns-2 : tie.Need-returns-2
 returns-2 c = λ P f. neutral-stops P _ _ _ _ _ _ (c .before .before .resolve .ensures) (c .enum-told .given .1)
 

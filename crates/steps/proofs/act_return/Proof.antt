@@ -1,54 +1,39 @@
+-- `steps::act_return` meets its contract. Assumes nothing.
 use Rattle.steps.proofs.StepLaws.{return-goes, return-halts}
 use borrow.Author.Needs.{needs}
 use Rattle.steps.proofs.act_return.Statement.{statement}
 use Rattle.steps.proofs.act_return.Tie as tie
-use Rattle.steps.proofs.act_return.Reads as reads
-use Rattle.steps.proofs.act_return.Lts as lts
-use Rattle.cells.proofs.frame_template.Reads as frame-template-reads
-use Rattle.frames.proofs.give_back.Reads as give-back-reads
-use Rattle.steps.proofs.saved_place.Reads as saved-place-reads
 
--- src/lib.rt:216:11
 give-back-requires : tie.Need-give-back-requires
 give-back-requires c κs = search needs
 
--- src/lib.rt:217:22
 enum-known-q : tie.Need-enum-known-q
 enum-known-q c = search needs
 
--- src/lib.rt:218:17
 frame-template-requires : tie.Need-frame-template-requires
 frame-template-requires c κs = search needs
 
--- src/lib.rt:220:17
 saved-place-requires : tie.Need-saved-place-requires
 saved-place-requires c κs = search needs
 
--- src/lib.rt:230:27
 enum-told : tie.Need-enum-told
 enum-told c = search needs
 
--- src/lib.rt:212:1
 same-length : tie.Need-same-length
 same-length c = search needs
 
--- src/lib.rt:212:1
 same-length-2 : tie.Need-same-length-2
 same-length-2 c = search needs
 
--- src/lib.rt:212:1
 returns : tie.Need-returns
 returns c = λ P g t. return-goes P g _ t _ _ _ _ (c .before .before .before .before .before .before .before .before .before .before .before .before .before .before .args .c) _ (c .before .before .before .before .before .before .before .before .before .give-back .ensures .0 g t) _ _ _ _ _ (c .before .before .before .q .given .1) (c .before .before .before .before .before .before .before .before .before .give-back .ensures .1) (c .before .frame-template .ensures) (c .saved-place .ensures .0) (c .saved-place .ensures .1)
 
--- src/lib.rt:212:1
 same-length-3 : tie.Need-same-length-3
 same-length-3 c = search needs
 
--- src/lib.rt:212:1
 same-length-4 : tie.Need-same-length-4
 same-length-4 c = search needs
 
--- src/lib.rt:212:1
 returns-2 : tie.Need-returns-2
 returns-2 c = λ P g t. return-halts P g _ t _ _ _ _ (c .before .before .before .before .before .before .before .before .before .before .before .args .c) _ (c .before .before .before .before .before .before .give-back .ensures .0 g t) (c .enum-told .given .1)
 

@@ -1,38 +1,28 @@
-use mathlib.Core.Path.{_≡_, refl, sym, ap, _∙_}
+-- `steps::fetch` meets its contract. Assumes nothing.
 use Rattle.steps.specs.Step.{codeProgram, CodeReady}
 use Rattle.steps.proofs.StepLaws.{tree-number, linear-number, in-tree, in-linear}
 use borrow.Author.Needs.{needs}
 use Rattle.steps.proofs.fetch.Statement.{statement}
 use Rattle.steps.proofs.fetch.Tie as tie
-use Rattle.steps.proofs.fetch.Reads as reads
-use Rattle.steps.proofs.fetch.Lts as lts
-use Rattle.linear_code.proofs.fetch.Reads as fetch-reads
-use Rattle.tree_code.proofs.fetch.Reads as fetch-reads′
 
--- src/lib.rt:82:25
 enum-known-at : tie.Need-enum-known-at
 enum-known-at c = search needs
 
--- src/lib.rt:82:31
 fetch-requires : tie.Need-fetch-requires
 unfolding CodeReady
 fetch-requires c κs = rw (in-tree _ _ (c .before .at .given .1)) at (c .before .before .before .before .before .before .pre)
 
--- src/lib.rt:83:27
 enum-known-at-2 : tie.Need-enum-known-at-2
 enum-known-at-2 c = search needs
 
--- src/lib.rt:83:33
 fetch-requires-2 : tie.Need-fetch-requires-2
 unfolding CodeReady
 fetch-requires-2 c κs = rw (in-linear _ _ (c .before .at2 .given .1)) at (c .before .before .before .before .before .before .pre)
 
--- src/lib.rt:77:1
 returns : tie.Need-returns
 unfolding codeProgram
 returns c = rw (in-tree _ _ (c .before .before .at .given .1), tree-number _ _ (c .before .before .at .given .1)) (c .fetch .ensures .0 _ _, c .fetch .ensures .1)
 
--- src/lib.rt:77:1
 returns-2 : tie.Need-returns-2
 unfolding codeProgram
 returns-2 c = rw (in-linear _ _ (c .before .before .at2 .given .1), linear-number _ _ (c .before .before .at2 .given .1)) (c .fetch2 .ensures)

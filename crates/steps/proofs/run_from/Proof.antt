@@ -1,3 +1,4 @@
+-- `steps::run_from` meets its contract. Assumes nothing.
 use Prim.Native.Nat.{_-_, _≤_}
 use mathlib.Core.Path.{_≡_, refl}
 use Rattle.machines.specs.Runs.{memory}
@@ -8,11 +9,6 @@ use Rattle.steps.proofs.RunLaws.{at-first, next-ready, next-place, next
 use borrow.Author.Needs.{needs}
 use Rattle.steps.proofs.run_from.Statement.{statement}
 use Rattle.steps.proofs.run_from.Tie as tie
-use Rattle.steps.proofs.run_from.Reads as reads
-use Rattle.steps.proofs.run_from.Lts as lts
-use Rattle.cells.proofs.value_of.Reads as value-of-reads
-use Rattle.steps.proofs.ended.Reads as ended-reads
-use Rattle.steps.proofs.take_step.Reads as take-step-reads
 
 abbrev Inv-loop : tie.InvT-loop
 Inv-loop file links table globals₀ stack₀ store₀ frames₀ budget r₀ c₀ left₀ globals stack store frames r c left =
@@ -23,120 +19,93 @@ Inv-loop file links table globals₀ stack₀ store₀ frames₀ budget r₀ c�
 abbrev μ-loop : tie.MeasureT-loop
 μ-loop file links table globals₀ stack₀ store₀ frames₀ budget r₀ c₀ left₀ globals stack store frames r c left = left
 
--- src/lib.rt:297:5
 loop-holds : tie.Need-loop-holds Inv-loop μ-loop
 loop-holds c = (search needs, search needs, refl, at-first _ _ _)
 
--- src/lib.rt:298:20
 sub-rest : tie.Need-sub-rest Inv-loop μ-loop
 sub-rest c = search needs
 
--- src/lib.rt:299:15
 take-step-requires : tie.Need-take-step-requires Inv-loop μ-loop
 take-step-requires c κs = search needs
 
--- src/lib.rt:300:27
 enum-known-q : tie.Need-enum-known-q Inv-loop μ-loop
 enum-known-q c = search needs
 
--- src/lib.rt:305:42
 enum-told : tie.Need-enum-told Inv-loop μ-loop
 enum-told c = search needs
 
--- src/lib.rt:305:42
 value-of-requires : tie.Need-value-of-requires Inv-loop μ-loop
 value-of-requires c κs = search needs
 
--- src/lib.rt:305:17
 ended-requires : tie.Need-ended-requires Inv-loop μ-loop
 ended-requires c κs = search needs
 
--- src/lib.rt:305:17
 same-length : tie.Need-same-length Inv-loop μ-loop
 same-length c = search needs
 
--- src/lib.rt:305:17
 same-length-2 : tie.Need-same-length-2 Inv-loop μ-loop
 same-length-2 c = search needs
 
--- src/lib.rt:305:17
 same-length-3 : tie.Need-same-length-3 Inv-loop μ-loop
 same-length-3 c = search needs
 
--- src/lib.rt:305:17
 same-length-4 : tie.Need-same-length-4 Inv-loop μ-loop
 same-length-4 c = search needs
 
--- src/lib.rt:305:17
 returns : tie.Need-returns Inv-loop μ-loop
 returns c =
     let l = c .before .before .before .before .before .before .before .before .before .before .before .before .before .before .before .before .before .before .loop in
     let a = c .before .before .before .before .before .before .before .before .before .before .before .before .before .before .before .before .before .before .before .before .before .before .before .before .before .before .args in
     halted-turn _ _ _ _ (l .left) (a .budget) _ _ (l .r) (l .c) _ (c .before .before .before .before .before .before .before .before .before .before .before .before .before .before .before .before .before .loop-test .taken) (l .inv .1) (l .inv .2) (c .before .before .before .before .before .before .before .before .before .before .before .before .take-step .ensures) (l .inv .3) _ _ (c .before .before .enum-told .given .1) (c .before .value-of .ensures) (c .ended .ensures)
 
--- src/lib.rt:307:28
 enum-known-n : tie.Need-enum-known-n Inv-loop μ-loop
 enum-known-n c = search needs
 
--- src/lib.rt:308:17
 ended-requires-2 : tie.Need-ended-requires-2 Inv-loop μ-loop
 ended-requires-2 c κs = search needs
 
--- src/lib.rt:308:17
 same-length-5 : tie.Need-same-length-5 Inv-loop μ-loop
 same-length-5 c = search needs
 
--- src/lib.rt:308:17
 same-length-6 : tie.Need-same-length-6 Inv-loop μ-loop
 same-length-6 c = search needs
 
--- src/lib.rt:308:17
 same-length-7 : tie.Need-same-length-7 Inv-loop μ-loop
 same-length-7 c = search needs
 
--- src/lib.rt:308:17
 same-length-8 : tie.Need-same-length-8 Inv-loop μ-loop
 same-length-8 c = search needs
 
--- src/lib.rt:308:17
 returns-2 : tie.Need-returns-2 Inv-loop μ-loop
 returns-2 c =
     let l = c .before .before .before .before .before .before .before .before .before .before .before .before .before .before .before .before .before .before .loop in
     let a = c .before .before .before .before .before .before .before .before .before .before .before .before .before .before .before .before .before .before .before .before .before .before .before .before .before .before .args in
     wrong-turn _ _ _ _ (l .left) (a .budget) _ _ (l .r) (l .c) _ (c .before .before .before .before .before .before .before .before .before .before .before .before .before .before .before .before .before .loop-test .taken) (l .inv .1) (l .inv .2) (c .before .before .before .before .before .before .before .before .before .before .before .before .take-step .ensures) (l .inv .3) _ _ (c .before .before .n .given .1) (c .ended2 .ensures)
 
--- src/lib.rt:297:5
 loop-less : tie.Need-loop-less Inv-loop μ-loop
 loop-less c = search needs
 
--- src/lib.rt:297:5
 loop-again : tie.Need-loop-again Inv-loop μ-loop
 loop-again c =
     let l = c .before .before .before .before .before .before .before .before .before .before .before .before .before .before .before .before .before .loop in
     let a = c .before .before .before .before .before .before .before .before .before .before .before .before .before .before .before .before .before .before .before .before .before .before .before .before .before .args in
     (next-ready _ _ _ _ (l .left) (a .budget) _ _ (l .r) (l .c) _ (c .before .before .before .before .before .before .before .before .before .before .before .before .before .before .before .before .loop-test .taken) (l .inv .1) (l .inv .2) (c .before .before .before .before .before .before .before .before .before .before .before .take-step .ensures) (l .inv .3) _ _ (c .before .q .given .1) (l .inv .0) (search needs) (search needs) (search needs) (search needs), search needs, next-place _ _ _ _ (l .left) (a .budget) _ _ (l .r) (l .c) _ (c .before .before .before .before .before .before .before .before .before .before .before .before .before .before .before .before .loop-test .taken) (l .inv .1) (l .inv .2) (c .before .before .before .before .before .before .before .before .before .before .before .take-step .ensures) (l .inv .3) _ _ (c .before .q .given .1), next-turn _ _ _ _ (l .left) (a .budget) _ _ (l .r) (l .c) _ (c .before .before .before .before .before .before .before .before .before .before .before .before .before .before .before .before .loop-test .taken) (l .inv .1) (l .inv .2) (c .before .before .before .before .before .before .before .before .before .before .before .take-step .ensures) (l .inv .3) _ _ (c .before .q .given .1))
 
--- src/lib.rt:313:5
 ended-requires-3 : tie.Need-ended-requires-3 Inv-loop μ-loop
 ended-requires-3 c κs = search needs
 
--- src/lib.rt:279:1
 same-length-9 : tie.Need-same-length-9 Inv-loop μ-loop
 same-length-9 c = search needs
 
--- src/lib.rt:279:1
 same-length-10 : tie.Need-same-length-10 Inv-loop μ-loop
 same-length-10 c = search needs
 
--- src/lib.rt:279:1
 same-length-11 : tie.Need-same-length-11 Inv-loop μ-loop
 same-length-11 c = search needs
 
--- src/lib.rt:279:1
 same-length-12 : tie.Need-same-length-12 Inv-loop μ-loop
 same-length-12 c = search needs
 
--- src/lib.rt:279:1
 returns-3 : tie.Need-returns-3 Inv-loop μ-loop
 returns-3 c =
     let l = c .before .before .loop in

@@ -1,32 +1,25 @@
-use mathlib.Core.Path.{_≡_, refl, sym, ap, _∙_}
+-- `steps::start_place` meets its contract. Assumes nothing.
+use mathlib.Core.Path.{refl, sym}
 use Rattle.machines.specs.Instruction.{number, isLinear}
 use Rattle.steps.specs.Step.{startAt}
 use Rattle.steps.proofs.StepLaws.{in-tree, in-linear}
 use borrow.Author.Needs.{needs}
 use Rattle.steps.proofs.start_place.Statement.{statement}
 use Rattle.steps.proofs.start_place.Tie as tie
-use Rattle.steps.proofs.start_place.Reads as reads
-use Rattle.steps.proofs.start_place.Lts as lts
-use Rattle.machines.proofs.slot_at.Reads as slot-at-reads
 
--- src/lib.rt:70:25
 enum-told : tie.Need-enum-told
 enum-told c = search needs
 
--- src/lib.rt:70:25
 slot-at-requires : tie.Need-slot-at-requires
 slot-at-requires c κs = search needs
 
--- src/lib.rt:73:51
 enum-told-2 : tie.Need-enum-told-2
 enum-told-2 c = search needs
 
--- src/lib.rt:65:1
 returns : tie.Need-returns
 unfolding number isLinear startAt
 returns c = let e = in-tree _ _ (c .before .enum-told .given .1) in (rw e (c .slot-at .ensures), sym e)
 
--- src/lib.rt:65:1
 returns-2 : tie.Need-returns-2
 unfolding number isLinear startAt
 returns-2 c = let e = in-linear _ _ (c .enum-told2 .given .1) in (rw e refl, sym e)

@@ -1,91 +1,65 @@
-use mathlib.Core.Path.{_≡_, refl, sym, ap, _∙_}
+-- `steps::take_step` meets its contract. Assumes nothing.
+use mathlib.Core.Path.{sym, _∙_}
 use Rattle.machines.specs.Instruction.{isLinear, fetchedAs}
 use Rattle.steps.specs.Step.{codeProgram}
 use Rattle.steps.proofs.StepLaws.{step-is, stays, neutral-place, jump-place, branch-places, save-places, starts, jump-goes, bad-stops}
 use borrow.Author.Needs.{needs}
 use Rattle.steps.proofs.take_step.Statement.{statement}
 use Rattle.steps.proofs.take_step.Tie as tie
-use Rattle.steps.proofs.take_step.Reads as reads
-use Rattle.steps.proofs.take_step.Lts as lts
-use Rattle.steps.proofs.act_branch.Reads as act-branch-reads
-use Rattle.steps.proofs.act_call.Reads as act-call-reads
-use Rattle.steps.proofs.act_jump.Reads as act-jump-reads
-use Rattle.steps.proofs.act_neutral.Reads as act-neutral-reads
-use Rattle.steps.proofs.act_return.Reads as act-return-reads
-use Rattle.steps.proofs.act_save.Reads as act-save-reads
-use Rattle.steps.proofs.fetch.Reads as fetch-reads
 
--- src/lib.rt:249:11
 fetch-requires : tie.Need-fetch-requires
 fetch-requires c κs = search needs
 
--- src/lib.rt:250:30
 enum-known-op : tie.Need-enum-known-op
 enum-known-op c = search needs
 
--- src/lib.rt:251:13
 act-neutral-requires : tie.Need-act-neutral-requires
 act-neutral-requires c κs = search needs
 
--- src/lib.rt:253:43
 enum-told : tie.Need-enum-told
 enum-told c = search needs
 
--- src/lib.rt:253:32
 act-return-requires : tie.Need-act-return-requires
 act-return-requires c κs = search needs
 
--- src/lib.rt:254:27
 enum-known-n : tie.Need-enum-known-n
 enum-known-n c = search needs
 
--- src/lib.rt:254:33
 act-call-requires : tie.Need-act-call-requires
 act-call-requires c κs = search needs
 
--- src/lib.rt:255:29
 enum-known-first : tie.Need-enum-known-first
 enum-known-first c = search needs
 
--- src/lib.rt:255:47
 act-branch-requires : tie.Need-act-branch-requires
 act-branch-requires c κs =
     let p = branch-places _ _ (c .before .before .before .fetch .ensures .1) _ _ (c .before .first .given .1) in
     (c .before .before .before .before .before .before .before .before .before .before .before .pre .fit, c .before .before .before .before .before .before .before .before .before .before .before .pre .frames-fit, p .1 ∙ sym (p .0))
 
--- src/lib.rt:256:27
 enum-known-n-2 : tie.Need-enum-known-n-2
 enum-known-n-2 c = search needs
 
--- src/lib.rt:256:46
 act-save-requires : tie.Need-act-save-requires
 act-save-requires c κs = (search needs, search needs, search needs, search needs, save-places _ _ (c .before .before .before .before .before .fetch .ensures .1) _ _ _ (c .before .before .before .n2 .given .1) .2)
 
--- src/lib.rt:257:27
 enum-known-to : tie.Need-enum-known-to
 enum-known-to c = search needs
 
--- src/lib.rt:257:34
 act-jump-requires : tie.Need-act-jump-requires
 act-jump-requires c κs = search needs
 
--- src/lib.rt:258:29
 enum-told-2 : tie.Need-enum-told-2
 enum-told-2 c = search needs
 
--- src/lib.rt:234:1
 same-length : tie.Need-same-length
 same-length c = search needs
 
--- src/lib.rt:234:1
 same-length-2 : tie.Need-same-length-2
 same-length-2 c = search needs
 
--- src/lib.rt:234:1
 same-length-3 : tie.Need-same-length-3
 same-length-3 c = search needs
 
--- src/lib.rt:234:1
 returns : tie.Need-returns
 unfolding fetchedAs
 returns c =
@@ -94,15 +68,12 @@ returns c =
     let f = c .before .before .before .before .before .before .before .before .before .before .before .before .before .fetch .ensures in
     step-is (a .file .now) (a .links .now) (a .table .now) (a .r) (a .c) _ _ (f .0) (c .before .before .before .before .before .before .before .before .before .before .before .op .given .1) _ _ _ (stays _ _ (neutral-place _ _ (f .1) _ _ _ _ (c .before .before .before .before .before .before .before .before .before .before .before .op .given .1)) (c .before .before .before .before .before .before .act-neutral .ensures P (a .frames .now)))
 
--- src/lib.rt:234:1
 same-length-4 : tie.Need-same-length-4
 same-length-4 c = search needs
 
--- src/lib.rt:234:1
 same-length-5 : tie.Need-same-length-5
 same-length-5 c = search needs
 
--- src/lib.rt:234:1
 returns-2 : tie.Need-returns-2
 unfolding fetchedAs
 returns-2 c =
@@ -111,7 +82,6 @@ returns-2 c =
     let f = c .before .before .before .before .before .before .before .before .before .fetch .ensures in
     step-is (a .file .now) (a .links .now) (a .table .now) (a .r) (a .c) _ _ (f .0) (c .before .before .before .before .before .before .before .enum-told .given .1) _ _ _ (c .before .before .before .before .act-return .ensures P (a .globals .now) (a .store .now))
 
--- src/lib.rt:234:1
 returns-3 : tie.Need-returns-3
 unfolding fetchedAs
 returns-3 c =
@@ -120,7 +90,6 @@ returns-3 c =
     let f = c .before .before .before .before .fetch .ensures in
     step-is (a .file .now) (a .links .now) (a .table .now) (a .r) (a .c) _ _ (f .0) (c .before .before .n .given .1) _ _ _ (c .act-call .ensures P _ (starts _ (a .file .now) (a .links .now) (a .table .now)))
 
--- src/lib.rt:234:1
 returns-4 : tie.Need-returns-4
 unfolding fetchedAs
 returns-4 c =
@@ -129,15 +98,12 @@ returns-4 c =
     let f = c .before .before .before .before .fetch .ensures in
     step-is (a .file .now) (a .links .now) (a .table .now) (a .r) (a .c) _ _ (f .0) (c .before .before .first .given .1) _ _ _ (stays _ _ (branch-places _ _ (f .1) _ _ (c .before .before .first .given .1) .0) (c .act-branch .ensures P _))
 
--- src/lib.rt:234:1
 same-length-6 : tie.Need-same-length-6
 same-length-6 c = search needs
 
--- src/lib.rt:234:1
 same-length-7 : tie.Need-same-length-7
 same-length-7 c = search needs
 
--- src/lib.rt:234:1
 returns-5 : tie.Need-returns-5
 unfolding fetchedAs
 returns-5 c =
@@ -146,7 +112,6 @@ returns-5 c =
     let f = c .before .before .before .before .before .before .before .before .before .before .fetch .ensures in
     step-is (a .file .now) (a .links .now) (a .table .now) (a .r) (a .c) _ _ (f .0) (c .before .before .before .before .before .before .before .before .n2 .given .1) _ _ _ (stays _ _ (save-places _ _ (f .1) _ _ _ (c .before .before .before .before .before .before .before .before .n2 .given .1) .1) (c .before .before .before .before .act-save .ensures P (a .globals .now) (a .store .now)))
 
--- src/lib.rt:234:1
 returns-6 : tie.Need-returns-6
 unfolding fetchedAs
 returns-6 c =
@@ -155,7 +120,6 @@ returns-6 c =
     let f = c .before .before .before .before .fetch .ensures in
     step-is (a .file .now) (a .links .now) (a .table .now) (a .r) (a .c) _ _ (f .0) (c .before .before .to .given .1) _ _ _ (stays _ _ (jump-place _ _ (f .1) _ (c .before .before .to .given .1)) (jump-goes P _ (a .r) (a .c) (c .before .before .before .before .before .before .before .before .before .before .before .before .pre .fit) (c .before .before .before .before .before .before .before .before .before .before .before .before .pre .frames-fit) _ _ (c .act-jump .ensures)))
 
--- src/lib.rt:234:1
 returns-7 : tie.Need-returns-7
 unfolding fetchedAs
 returns-7 c =

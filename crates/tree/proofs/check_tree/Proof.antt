@@ -1,3 +1,4 @@
+-- `tree::check_tree` meets its contract. Assumes nothing.
 use mathlib.Core.Path.{sym, ap, _∙_}
 use Rattle.tree.specs.Summary.{checkedTold}
 use Rattle.tree.specs.Judged.{judged-unclosed, judged-misnamed, judged-good, checked-refused}
@@ -8,46 +9,36 @@ use Rattle.tree.proofs.check_tree.Reads as reads
 use Rattle.tree.proofs.check_tree.Lts as lts
 use Rattle.tree.proofs.read_tree.Reads as read-tree-reads
 
--- src/lib.rt:191:24
 slice-aggregate-read-tree : tie.Need-slice-aggregate-read-tree
 slice-aggregate-read-tree c = search needs
 
--- src/lib.rt:191:11
 read-tree-requires : tie.Need-read-tree-requires
 read-tree-requires c κs = search needs
 
--- src/lib.rt:192:24
 enum-known-sum : tie.Need-enum-known-sum
 enum-known-sum c = search needs
 
--- src/lib.rt:194:44
 cast-t11 : tie.Need-cast-t11
 cast-t11 c = search needs
 
--- src/lib.rt:194:17
 returns : tie.Need-returns
 unfolding checkedTold
 returns c = sym (ap checkedTold (judged-unclosed _ (sym (c .before .before .before .before .before .before .before .read-tree .ensures .0) ∙ c .before .before .before .before .sum .given .1) (c .before .if1 .taken)))
 
--- src/lib.rt:197:44
 cast-t12 : tie.Need-cast-t12
 cast-t12 c = search needs
 
--- src/lib.rt:197:17
 returns-2 : tie.Need-returns-2
 unfolding checkedTold
 returns-2 c = sym (ap checkedTold (judged-misnamed _ (sym (c .before .before .before .before .before .before .before .before .before .read-tree .ensures .0) ∙ c .before .before .before .before .before .before .sum .given .1) (c .before .before .before .if1 .left) (c .before .if2 .taken)))
 
--- src/lib.rt:201:27
 enum-known-no : tie.Need-enum-known-no
 enum-known-no c = search needs
 
--- src/lib.rt:187:1
 returns-3 : tie.Need-returns-3
 unfolding checkedTold
 returns-3 c = sym (ap checkedTold (judged-good _ (sym (c .before .before .before .before .before .before .before .before .read-tree .ensures .0) ∙ c .before .before .before .before .before .sum .given .1) (c .before .before .if1 .left) (c .if2 .left)))
 
--- src/lib.rt:187:1
 returns-4 : tie.Need-returns-4
 unfolding checkedTold
 returns-4 c = sym (ap checkedTold (checked-refused _ (sym (c .before .before .before .before .read-tree .ensures .0) ∙ c .before .no .given .1)))

@@ -1,3 +1,4 @@
+-- `tree::lower` meets its contract. Assumes nothing.
 use mathlib.Core.Path.{refl}
 use borrow.Author.Tests.{lt-ltb, le-ltb}
 use Rattle.tree.specs.Summary.{lower}
@@ -7,17 +8,14 @@ use Rattle.tree.proofs.lower.Tie as tie
 use Rattle.tree.proofs.lower.Reads as reads
 use Rattle.tree.proofs.lower.Lts as lts
 
--- src/lib.rt:79:9
 returns : tie.Need-returns
 unfolding lower
 returns c = rw (c .if1 .taken) refl
 
--- src/lib.rt:82:9
 returns-2 : tie.Need-returns-2
 unfolding lower
 returns-2 c = rw (c .before .if1 .left, lt-ltb _ _ (c .if2 .taken)) refl
 
--- src/lib.rt:75:1
 returns-3 : tie.Need-returns-3
 unfolding lower
 returns-3 c = rw (c .before .if1 .left, le-ltb _ _ (c .if2 .left)) refl

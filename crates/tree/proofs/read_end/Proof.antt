@@ -1,3 +1,4 @@
+-- `tree::read_end` meets its contract. Assumes nothing.
 use mathlib.Core.Path.{sym, ap, _∙_}
 use Rattle.files.specs.EntriesRead.{paddingTold}
 use Rattle.tree.specs.TreeSteps.{end-on, end-set}
@@ -9,31 +10,24 @@ use Rattle.tree.proofs.read_end.Lts as lts
 use Rattle.files.proofs.nothing_more.Reads as nothing-more-reads
 use Rattle.files.proofs.zero_bits.Reads as zero-bits-reads
 
--- src/lib.rt:152:36
 sub-zero-bits : tie.Need-sub-zero-bits
 sub-zero-bits c = search needs
 
--- src/lib.rt:152:11
 zero-bits-requires : tie.Need-zero-bits-requires
 zero-bits-requires c κs = search needs
 
--- src/lib.rt:153:23
 enum-known-past : tie.Need-enum-known-past
 enum-known-past c = search needs
 
--- src/lib.rt:153:32
 nothing-more-requires : tie.Need-nothing-more-requires
 nothing-more-requires c κs = search needs
 
--- src/lib.rt:154:26
 enum-known-place : tie.Need-enum-known-place
 enum-known-place c = search needs
 
--- src/lib.rt:148:1
 returns : tie.Need-returns
 returns c = c .nothing-more .ensures ∙ ap (paddingTold {A = Unit {0}}) (sym (end-on (tt {0}) _ _ (sym (c .before .before .before .before .zero-bits .ensures) ∙ c .before .before .past .given .1)))
 
--- src/lib.rt:148:1
 returns-2 : tie.Need-returns-2
 unfolding paddingTold
 returns-2 c = sym (ap (paddingTold {A = Unit {0}}) (end-set (tt {0}) _ _ (sym (c .before .before .before .zero-bits .ensures) ∙ c .before .place .given .1)))

@@ -1,3 +1,4 @@
+-- `tree::read_template` meets its contract. Assumes nothing.
 use lib.ListN.{length-set}
 use native.Mathlib.Omega.{arith}
 use mathlib.Core.Path.{sym, _∙_}
@@ -16,78 +17,60 @@ use Rattle.files.proofs.read_entries.Reads as read-entries-reads
 use Rattle.lists.proofs.read_list.Reads as read-list-reads
 use Rattle.tree.proofs.report_by.Reads as report-by-reads
 
--- src/lib.rt:106:33
 read-field-requires : tie.Need-read-field-requires
 read-field-requires c κs = search needs
 
--- src/lib.rt:106:21
 enum-known-n : tie.Need-enum-known-n
 enum-known-n c = search needs
 
--- src/lib.rt:107:9
 enum-told : tie.Need-enum-told
 enum-told c = search needs
 
--- src/lib.rt:107:9
 returns : tie.Need-returns
 returns c = count-cut _ _ _ _ _ (field-cut _ _ _ (c .before .before .read-field .ensures) (c .enum-told .given .1))
 
--- src/lib.rt:109:53
 cast-read-entries : tie.Need-cast-read-entries
 cast-read-entries c = search needs
 
--- src/lib.rt:109:11
 read-entries-requires : tie.Need-read-entries-requires
 read-entries-requires c κs = let p = c .before .before .before .before .before .before .before .pre in (omega arith, (p .1 .1 .1 .0, (p .1 .0, (p .1 .1 .0, field-below _ _ _ (c .before .before .before .before .read-field .ensures) (c .before .before .n .given .1)))))
 
--- src/lib.rt:110:23
 enum-known-start : tie.Need-enum-known-start
 enum-known-start c = search needs
 
--- src/lib.rt:111:19
 mul-table : tie.Need-mul-table
 mul-table c = search needs
 
--- src/lib.rt:111:13
 mul-table-2 : tie.Need-mul-table-2
 mul-table-2 c = search needs
 
--- src/lib.rt:111:13
 slice-write-table : tie.Need-slice-write-table
 slice-write-table c = search needs
 
--- src/lib.rt:112:19
 read-list-requires : tie.Need-read-list-requires
 read-list-requires c κs = let p = c .before .before .before .before .before .before .before .before .before .before .before .before .before .before .pre in (p .0, simp length-set (c .before .before .before .before .before .before .read-entries .kept .1 .0 ∙ p .1 .1 .1 .0), omega (arith, p .1 .0))
 
--- src/lib.rt:113:30
 enum-known-past : tie.Need-enum-known-past
 enum-known-past c = search needs
 
--- src/lib.rt:114:63
 sub-report-by : tie.Need-sub-report-by
 sub-report-by c = let e = entries-told _ (sym (c .before .before .before .before .before .before .before .before .before .before .before .before .read-entries .ensures .0) ∙ c .before .before .before .before .before .before .before .before .start .given .1) in omega (arith, entries-read _ _ _ (c .before .before .before .before .before .before .before .before .before .before .before .before .before .before .before .before .before .before .before .before .pre .1 .1 .0) _ _ (e .is) .past)
 
--- src/lib.rt:114:46
 report-by-requires : tie.Need-report-by-requires
 report-by-requires c κs =
     let e = entries-told _ (sym (c .before .before .before .before .before .before .before .before .before .before .before .before .read-entries .ensures .0) ∙ c .before .before .before .before .before .before .before .before .start .given .1) in
     let l = listed-done _ _ _ _ _ (sym (c .before .before .before .before .before .read-list .ensures) ∙ c .before .before .before .past .given .1) in
     (listed-size _ _ _ _ _ _ _ (c .before .before .before .before .before .before .before .before .before .before .before .before .before .before .before .before .before .before .before .before .pre .0) (sym (c .before .before .before .before .before .read-list .ensures) ∙ c .before .before .before .past .given .1), omega (arith, c .before .before .before .before .before .before .before .before .before .before .before .before .before .before .before .before .before .before .before .before .pre .0, list-bits _ _ _ _ _ (l .1)))
 
--- src/lib.rt:116:33
 enum-known-no : tie.Need-enum-known-no
 enum-known-no c = search needs
 
--- src/lib.rt:119:26
 enum-known-no-2 : tie.Need-enum-known-no-2
 enum-known-no-2 c = search needs
 
--- src/lib.rt:101:1
 same-length : tie.Need-same-length
 same-length c = search needs
 
--- src/lib.rt:101:1
 returns-2 : tie.Need-returns-2
 returns-2 c =
     let e = entries-told _ (sym (c .before .before .before .before .before .before .before .before .before .before .before .before .before .read-entries .ensures .0) ∙ c .before .before .before .before .before .before .before .before .before .start .given .1) in
@@ -95,21 +78,17 @@ returns-2 c =
     let p = c .before .before .before .before .before .before .before .before .before .before .before .before .before .before .before .before .before .before .before .before .before .pre in
     list-done _ _ _ _ _ (field-read _ _ _ (c .before .before .before .before .before .before .before .before .before .before .before .before .before .before .before .before .before .before .read-field .ensures) (c .before .before .before .before .before .before .before .before .before .before .before .before .before .before .before .before .n .given .1)) (c .before .before .before .before .before .before .before .before .before .before .before .before .before .read-entries .ensures .1) (e .is) (p .1 .1 .0) (field-below _ _ _ (c .before .before .before .before .before .before .before .before .before .before .before .before .before .before .before .before .before .before .read-field .ensures) (c .before .before .before .before .before .before .before .before .before .before .before .before .before .before .before .before .n .given .1)) (p .1 .0) (p .1 .1 .1) (l .1) (sym (l .2)) (c .report-by .ensures)
 
--- src/lib.rt:101:1
 same-length-2 : tie.Need-same-length-2
 same-length-2 c = search needs
 
--- src/lib.rt:101:1
 returns-3 : tie.Need-returns-3
 returns-3 c =
     let e = entries-told _ (sym (c .before .before .before .before .before .before .before .before .before .before .read-entries .ensures .0) ∙ c .before .before .before .before .before .before .start .given .1) in
     list-stop _ _ _ _ _ (field-read _ _ _ (c .before .before .before .before .before .before .before .before .before .before .before .before .before .before .before .read-field .ensures) (c .before .before .before .before .before .before .before .before .before .before .before .before .before .n .given .1)) (c .before .before .before .before .before .before .before .before .before .before .read-entries .ensures .1) (e .is) (listed-refused _ _ _ _ _ (sym (c .before .before .before .read-list .ensures) ∙ c .before .no .given .1))
 
--- src/lib.rt:101:1
 same-length-3 : tie.Need-same-length-3
 same-length-3 c = search needs
 
--- src/lib.rt:101:1
 returns-4 : tie.Need-returns-4
 returns-4 c = entries-stop _ _ _ _ _ (field-read _ _ _ (c .before .before .before .before .before .before .before .before .before .before .read-field .ensures) (c .before .before .before .before .before .before .before .before .n .given .1)) (c .before .before .before .before .before .read-entries .ensures .1) (entries-refused _ (sym (c .before .before .before .before .before .read-entries .ensures .0) ∙ c .before .no2 .given .1))
 

@@ -1,3 +1,4 @@
+-- `tree::read_templates` meets its contract. Assumes nothing.
 use Rattle.tree.specs.Summary.{templatesTold, toldFrom, summaryAfter, begun}
 use Prim.Native.Nat.{_+_, _*_, _-_, _≤_}
 use native.Mathlib.Nat.{sub-zero}
@@ -24,54 +25,42 @@ Inv-loop s table₀ count own₀ here₀ sum₀ table own here sum = (own ≤ co
 abbrev μ-loop : tie.MeasureT-loop
 μ-loop s table₀ count own₀ here₀ sum₀ table own here sum = count - own
 
--- src/lib.rt:131:36
 cast-t12 : tie.Need-cast-t12 Inv-loop μ-loop
 cast-t12 c = search needs
 
--- src/lib.rt:132:5
 loop-holds : tie.Need-loop-holds Inv-loop μ-loop
 unfolding begun
 loop-holds c =
     let k = c .before .before .pre in
     (search needs, k .1 .1, search needs, rw sub-zero (told-all _ _ _ (k .1 .0)), rw sub-zero refl)
 
--- src/lib.rt:133:15
 read-template-requires : tie.Need-read-template-requires Inv-loop μ-loop
 read-template-requires c κs = let k = c .before .before .before .before .before .pre in let i = c .before .before .loop .inv in (k .0, (omega arith, (k .1 .0, i .1)))
 
--- src/lib.rt:134:32
 enum-known-past : tie.Need-enum-known-past Inv-loop μ-loop
 enum-known-past c = search needs
 
--- src/lib.rt:136:37
 cast-summary-after : tie.Need-cast-summary-after Inv-loop μ-loop
 cast-summary-after c = search needs
 
--- src/lib.rt:136:17
 summary-after-requires : tie.Need-summary-after-requires Inv-loop μ-loop
 summary-after-requires c κs = let k = c .before .before .before .before .before .before .before .before .before .before .before .pre in let i = c .before .before .before .before .before .before .before .before .loop .inv in let small = next-small _ _ _ _ _ (k .1 .0) (c .before .before .before .before .before .read-template .ensures) (c .before .past .given .1) (k .0) in (small, omega arith)
 
--- src/lib.rt:138:35
 enum-known-no : tie.Need-enum-known-no Inv-loop μ-loop
 enum-known-no c = search needs
 
--- src/lib.rt:139:17
 same-length : tie.Need-same-length Inv-loop μ-loop
 same-length c = search needs
 
--- src/lib.rt:139:17
 returns : tie.Need-returns Inv-loop μ-loop
 returns c = let i = c .before .before .before .before .before .before .before .before .loop .inv in let d = templates-stop _ _ _ _ _ _ (c .before .before .before .before .before .before .before .loop-test .taken) (c .before .before .before .before .before .read-template .ensures) (c .before .no .given .1) in (d .0 ∙ sym (i .3), d .1 ∙ sym (i .4))
 
--- src/lib.rt:142:9
 add-own : tie.Need-add-own Inv-loop μ-loop
 add-own c = search needs
 
--- src/lib.rt:132:5
 loop-less : tie.Need-loop-less Inv-loop μ-loop
 loop-less c = search needs
 
--- src/lib.rt:132:5
 loop-again : tie.Need-loop-again Inv-loop μ-loop
 unfolding summaryAfter
 loop-again c =
@@ -82,11 +71,9 @@ loop-again c =
     let small = next-small _ _ _ _ _ (k .1 .0) (c .before .before .before .before .before .before .read-template .ensures) (c .before .before .past .given .1) (k .0) in
     (search needs, next-unfilled _ _ _ _ _ (k .1 .0) (c .before .before .before .before .before .before .read-template .ensures) (c .before .before .past .given .1) less (i .1), rw (c .summary-after .ensures) (omega arith), i .3 ∙ d .0, i .4 ∙ d .1)
 
--- src/lib.rt:124:1
 same-length-2 : tie.Need-same-length-2 Inv-loop μ-loop
 same-length-2 c = search needs
 
--- src/lib.rt:124:1
 returns-2 : tie.Need-returns-2 Inv-loop μ-loop
 returns-2 c = let i = c .before .loop .inv in let d = templates-none _ _ _ _ _ _ (c .loop-test .left) in (d .0 ∙ sym (i .3), d .1 ∙ sym (i .4))
 

@@ -1,3 +1,4 @@
+-- `tree::read_tree` meets its contract. Assumes nothing.
 use Rattle.files.specs.EntriesSteps.{field-cut, field-read}
 use Rattle.files.specs.RowFilled.{zeros-unfilled}
 use Rattle.tree.specs.TreeSteps.{too-long, count-cut, count-none, count-many, file-stop, file-within, file-set, file-read}
@@ -10,83 +11,63 @@ use Rattle.fields.proofs.read_field.Reads as read-field-reads
 use Rattle.tree.proofs.read_end.Reads as read-end-reads
 use Rattle.tree.proofs.read_templates.Reads as read-templates-reads
 
--- src/lib.rt:166:9
 returns : tie.Need-returns
 returns c = rw (c .before .before .before .pre) (too-long _ (c .if1 .taken))
 
--- src/lib.rt:168:37
 read-field-requires : tie.Need-read-field-requires
 read-field-requires c κs = search needs
 
--- src/lib.rt:168:21
 enum-known-count : tie.Need-enum-known-count
 enum-known-count c = search needs
 
--- src/lib.rt:169:37
 enum-told : tie.Need-enum-told
 enum-told c = search needs
 
--- src/lib.rt:169:9
 returns-2 : tie.Need-returns-2
 returns-2 c = rw (c .before .before .before .before .before .before .pre) (count-cut _ (c .before .before .before .if1 .left) (field-cut _ _ _ (c .before .before .read-field .ensures) (c .enum-told .given .1)))
 
--- src/lib.rt:172:9
 returns-3 : tie.Need-returns-3
 returns-3 c = rw (c .before .before .before .before .before .before .before .before .pre) (count-none _ (c .before .before .before .before .before .if1 .left) (field-read _ _ _ (c .before .before .before .before .read-field .ensures) (c .before .before .count .given .1)) (c .if2 .taken))
 
--- src/lib.rt:175:9
 returns-4 : tie.Need-returns-4
 returns-4 c = rw (c .before .before .before .before .before .before .before .before .before .pre) (count-many _ (c .before .before .before .before .before .before .if1 .left) (field-read _ _ _ (c .before .before .before .before .before .read-field .ensures) (c .before .before .before .count .given .1)) (c .if3 .taken))
 
--- src/lib.rt:177:36
 cast-read-templates : tie.Need-cast-read-templates
 cast-read-templates c = search needs
 
--- src/lib.rt:177:11
 read-templates-requires : tie.Need-read-templates-requires
 read-templates-requires c κs = (c .before .before .before .before .before .before .before .if1 .left, (c .before .if3 .left, rw (c .before .before .before .before .before .before .before .before .before .before .pre) zeros-unfilled))
 
--- src/lib.rt:178:29
 enum-known-past : tie.Need-enum-known-past
 enum-known-past c = search needs
 
--- src/lib.rt:178:49
 read-end-requires : tie.Need-read-end-requires
 read-end-requires c κs = (c .before .before .before .before .before .before .before .before .before .before .before .before .before .if1 .left, file-within _ (c .before .before .before .before .before .before .before .before .before .before .before .before .before .if1 .left) (field-read _ _ _ (c .before .before .before .before .before .before .before .before .before .before .before .before .read-field .ensures) (c .before .before .before .before .before .before .before .before .before .before .count .given .1)) (c .before .before .before .before .before .before .before .before .if2 .left) (c .before .before .before .before .before .before .before .if3 .left) (c .before .before .before .before .before .read-templates .ensures .0) (rw (c .before .before .before .before .before .before .before .before .before .before .before .before .before .before .before .before .pre) at (c .before .before .before .before .before .read-templates .ensures .1)) (c .before .past .given .1))
 
--- src/lib.rt:179:33
 enum-told-2 : tie.Need-enum-told-2
 enum-told-2 c = search needs
 
--- src/lib.rt:180:30
 enum-known-place : tie.Need-enum-known-place
 enum-known-place c = search needs
 
--- src/lib.rt:182:32
 enum-known-no : tie.Need-enum-known-no
 enum-known-no c = search needs
 
--- src/lib.rt:160:1
 same-length : tie.Need-same-length
 same-length c = search needs
 
--- src/lib.rt:160:1
 returns-5 : tie.Need-returns-5
 returns-5 c = file-read _ (c .before .before .before .before .before .before .before .before .before .before .before .before .before .before .before .before .if1 .left) (field-read _ _ _ (c .before .before .before .before .before .before .before .before .before .before .before .before .before .before .before .read-field .ensures) (c .before .before .before .before .before .before .before .before .before .before .before .before .before .count .given .1)) (c .before .before .before .before .before .before .before .before .before .before .before .if2 .left) (c .before .before .before .before .before .before .before .before .before .before .if3 .left) (c .before .before .before .before .before .before .before .before .read-templates .ensures .0) (rw (c .before .before .before .before .before .before .before .before .before .before .before .before .before .before .before .before .before .before .before .pre) at (c .before .before .before .before .before .before .before .before .read-templates .ensures .1)) (c .before .before .before .before .past .given .1) (c .before .before .read-end .ensures) (c .enum-told2 .given .1)
 
--- src/lib.rt:160:1
 same-length-2 : tie.Need-same-length-2
 same-length-2 c = search needs
 
--- src/lib.rt:160:1
 returns-6 : tie.Need-returns-6
 returns-6 c = file-set _ (c .before .before .before .before .before .before .before .before .before .before .before .before .before .before .before .before .before .if1 .left) (field-read _ _ _ (c .before .before .before .before .before .before .before .before .before .before .before .before .before .before .before .before .read-field .ensures) (c .before .before .before .before .before .before .before .before .before .before .before .before .before .before .count .given .1)) (c .before .before .before .before .before .before .before .before .before .before .before .before .if2 .left) (c .before .before .before .before .before .before .before .before .before .before .before .if3 .left) (c .before .before .before .before .before .before .before .before .before .read-templates .ensures .0) (rw (c .before .before .before .before .before .before .before .before .before .before .before .before .before .before .before .before .before .before .before .before .pre) at (c .before .before .before .before .before .before .before .before .before .read-templates .ensures .1)) (c .before .before .before .before .before .past .given .1) (c .before .before .before .read-end .ensures) (c .before .place .given .1)
 
--- src/lib.rt:160:1
 same-length-3 : tie.Need-same-length-3
 same-length-3 c = search needs
 
--- src/lib.rt:160:1
 returns-7 : tie.Need-returns-7
 returns-7 c = file-stop _ (c .before .before .before .before .before .before .before .before .before .before .before .before .before .if1 .left) (field-read _ _ _ (c .before .before .before .before .before .before .before .before .before .before .before .before .read-field .ensures) (c .before .before .before .before .before .before .before .before .before .before .count .given .1)) (c .before .before .before .before .before .before .before .before .if2 .left) (c .before .before .before .before .before .before .before .if3 .left) (c .before .before .before .before .before .read-templates .ensures .0) (rw (c .before .before .before .before .before .before .before .before .before .before .before .before .before .before .before .before .pre) at (c .before .before .before .before .before .read-templates .ensures .1)) (c .before .no .given .1)
 

@@ -1,3 +1,4 @@
+-- `tree::report_by` meets its contract. Assumes nothing.
 use mathlib.Core.Path.{refl}
 use Rattle.tree.specs.Summary.{reportBy}
 use borrow.Author.Needs.{needs}
@@ -6,23 +7,18 @@ use Rattle.tree.proofs.report_by.Tie as tie
 use Rattle.tree.proofs.report_by.Reads as reads
 use Rattle.tree.proofs.report_by.Lts as lts
 
--- src/lib.rt:70:20
 add-t4 : tie.Need-add-t4
 add-t4 c = search needs
 
--- src/lib.rt:70:15
 add-t6 : tie.Need-add-t6
 add-t6 c = search needs
 
--- src/lib.rt:70:37
 add-t7 : tie.Need-add-t7
 add-t7 c = search needs
 
--- src/lib.rt:70:15
 add-t8 : tie.Need-add-t8
 add-t8 c = search needs
 
--- src/lib.rt:62:1
 returns : tie.Need-returns
 unfolding reportBy
 returns c = refl

@@ -1,3 +1,4 @@
+-- `tree::summary_after` meets its contract. Assumes nothing.
 use mathlib.Core.Path.{refl}
 use Rattle.tree.specs.Summary.{summaryAfter}
 use borrow.Author.Needs.{needs}
@@ -7,23 +8,18 @@ use Rattle.tree.proofs.summary_after.Reads as reads
 use Rattle.tree.proofs.summary_after.Lts as lts
 use Rattle.tree.proofs.lower.Reads as lower-reads
 
--- src/lib.rt:93:19
 lower-requires : tie.Need-lower-requires
 lower-requires c κs = search needs
 
--- src/lib.rt:94:19
 lower-requires-2 : tie.Need-lower-requires-2
 lower-requires-2 c κs = search needs
 
--- src/lib.rt:95:14
 lower-requires-3 : tie.Need-lower-requires-3
 lower-requires-3 c κs = search needs
 
--- src/lib.rt:96:15
 add-t7 : tie.Need-add-t7
 add-t7 c = search needs
 
--- src/lib.rt:87:1
 returns : tie.Need-returns
 unfolding summaryAfter
 returns c = rw (c .before .before .before .before .lower .ensures, c .before .before .before .lower2 .ensures, c .before .before .lower3 .ensures) refl

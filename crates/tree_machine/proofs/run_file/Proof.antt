@@ -1,8 +1,8 @@
 -- `tree_machine::run_file` meets its contract. Assumes nothing.
-use Rattle.machines.specs.Start.{zeros}
+use Rattle.machines.specs.Start.{zeros, zeros-length}
 use lib.ListN.{length}
-use Rattle.tree_machine.specs.FileLaws.{zeros-length, file-ready, file-unclosed, file-misnamed, file-good, file-refused}
-use mathlib.Core.Path.{_≡_, refl, sym, ap, _∙_}
+use Rattle.tree_machine.specs.FileLaws.{file-ready, file-unclosed, file-misnamed, file-good, file-refused}
+use mathlib.Core.Path.{ap, _∙_}
 use borrow.Author.Needs.{needs}
 use Rattle.tree_machine.proofs.run_file.Statement.{statement}
 use Rattle.tree_machine.proofs.run_file.Tie as tie

@@ -1,3 +1,4 @@
+-- `tree_machine::run_linked` meets its contract. Assumes nothing.
 use Rattle.links.specs.TreeSteps.{ready-short}
 use Rattle.machines.specs.Instruction.{number, isLinear}
 use Rattle.steps.specs.Step.{codeProgram, CodeReady}
@@ -5,46 +6,32 @@ use Rattle.tree_machine.specs.FileLaws.{linked-ran}
 use borrow.Author.Needs.{needs}
 use Rattle.tree_machine.proofs.run_linked.Statement.{statement}
 use Rattle.tree_machine.proofs.run_linked.Tie as tie
-use Rattle.tree_machine.proofs.run_linked.Reads as reads
-use Rattle.tree_machine.proofs.run_linked.Lts as lts
-use Rattle.links.proofs.link_tree.Reads as link-tree-reads
-use Rattle.machines.proofs.slot_at.Reads as slot-at-reads
-use Rattle.steps.proofs.run_code.Reads as run-code-reads
 
--- src/lib.rt:31:5
 link-tree-requires : tie.Need-link-tree-requires
 link-tree-requires c κs = search needs
 
--- src/lib.rt:32:17
 slot-at-requires : tie.Need-slot-at-requires
 slot-at-requires c κs = search needs
 
--- src/lib.rt:34:5
 run-code-requires : tie.Need-run-code-requires
 unfolding isLinear CodeReady
 run-code-requires c κs = let p = c .before .before .before .before .before .before .before .before .before .before .before .before .before .before .before .before .before .pre in (ready-short (p .1), search needs, search needs, search needs, search needs)
 
--- src/lib.rt:17:1
 same-length : tie.Need-same-length
 same-length c = search needs
 
--- src/lib.rt:17:1
 same-length-2 : tie.Need-same-length-2
 same-length-2 c = search needs
 
--- src/lib.rt:17:1
 same-length-3 : tie.Need-same-length-3
 same-length-3 c = search needs
 
--- src/lib.rt:17:1
 same-length-4 : tie.Need-same-length-4
 same-length-4 c = search needs
 
--- src/lib.rt:17:1
 same-length-5 : tie.Need-same-length-5
 same-length-5 c = search needs
 
--- src/lib.rt:17:1
 returns : tie.Need-returns
 unfolding isLinear number codeProgram
 returns c =

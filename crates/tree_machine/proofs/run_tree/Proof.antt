@@ -1,7 +1,7 @@
 -- `tree_machine::run_tree` meets its contract. Assumes nothing.
-use Rattle.machines.specs.Start.{zeros}
-use Rattle.tree_machine.specs.FileLaws.{may-start, start-goes, start-refused}
-use mathlib.Core.Path.{_≡_, refl, sym, ap, _∙_}
+use Rattle.machines.specs.Start.{zeros, may-start, start-goes, start-refused}
+use Rattle.machines.specs.Runs.{treeRun}
+use mathlib.Core.Path.{refl}
 use borrow.Author.Needs.{needs}
 use Rattle.tree_machine.proofs.run_tree.Statement.{statement}
 use Rattle.tree_machine.proofs.run_tree.Tie as tie
@@ -17,7 +17,7 @@ slice-aggregate-run-file c = search needs
 
 run-file-requires : tie.Need-run-file-requires
 unfolding zeros
-run-file-requires c κs = (may-start _ _ _ (c .before .before .before .before .before .before .before .start-refusal .ensures) (c .before .before .before .before .before .enum-told .given .1), refl)
+run-file-requires c κs = (may-start _ _ _ _ (c .before .before .before .before .before .before .before .start-refusal .ensures) (c .before .before .before .before .before .enum-told .given .1), refl)
 
 enum-known-number : tie.Need-enum-known-number
 enum-known-number c = search needs
@@ -38,7 +38,8 @@ same-length-4 : tie.Need-same-length-4
 same-length-4 c = search needs
 
 returns : tie.Need-returns
-returns c = start-goes _ _ _ (c .before .before .before .before .before .before .before .before .before .before .before .before .before .before .before .before .before .start-refusal .ensures) _ _ (c .before .before .before .before .before .before .before .before .before .before .before .before .before .before .before .enum-told .given .1) (c .before .before .before .before .before .before .before .before .before .run-file .ensures)
+unfolding treeRun
+returns c = start-goes _ _ _ _ (c .before .before .before .before .before .before .before .before .before .before .before .before .before .before .before .before .before .start-refusal .ensures) _ _ (c .before .before .before .before .before .before .before .before .before .before .before .before .before .before .before .enum-told .given .1) (c .before .before .before .before .before .before .before .before .before .run-file .ensures)
 
 same-length-5 : tie.Need-same-length-5
 same-length-5 c = search needs
@@ -53,7 +54,8 @@ same-length-8 : tie.Need-same-length-8
 same-length-8 c = search needs
 
 returns-2 : tie.Need-returns-2
-returns-2 c = start-refused _ _ _ (c .before .before .before .before .start-refusal .ensures) _ _ _ _ (c .before .before .number .given .1) (c .refused .ensures)
+unfolding treeRun
+returns-2 c = start-refused _ _ _ _ (c .before .before .before .before .start-refusal .ensures) _ _ _ _ (c .before .before .number .given .1) (c .refused .ensures)
 
 pub run-tree-spec : {M : Type 1} → statement M
 run-tree-spec =

@@ -1,3 +1,4 @@
+-- `trial::main` meets its contract. Assumes nothing.
 use mathlib.Core.Path.{sym}
 use lib.Seq.{length-take-le}
 use borrow.Author.Needs.{needs}
@@ -10,51 +11,39 @@ use Rattle.io.proofs.write_all.Reads as write-all-reads
 use Rattle.lines.proofs.program.Reads as program-reads
 use Rattle.trial.proofs.shown.Reads as shown-reads
 
--- src/main.rt:16:46
 slice-aggregate-read-full : tie.Need-slice-aggregate-read-full
 slice-aggregate-read-full c = search needs
 
--- src/main.rt:16:9
 read-full-requires : tie.Need-read-full-requires
 read-full-requires c κs = search needs
 
--- src/main.rt:18:38
 array-share-prefix-sheet : tie.Need-array-share-prefix-sheet
 array-share-prefix-sheet c = search needs
 
--- src/main.rt:18:38
 slice-aggregate-program : tie.Need-slice-aggregate-program
 slice-aggregate-program c = search needs
 
--- src/main.rt:18:56
 slice-aggregate-program-2 : tie.Need-slice-aggregate-program-2
 slice-aggregate-program-2 c = search needs
 
--- src/main.rt:18:23
 program-requires : tie.Need-program-requires
 program-requires c κs = search needs
 
--- src/main.rt:18:67
 slice-aggregate-shown : tie.Need-slice-aggregate-shown
 slice-aggregate-shown c = search needs
 
--- src/main.rt:18:9
 shown-requires : tie.Need-shown-requires
 shown-requires c κs = search needs
 
--- src/main.rt:19:34
 array-share-prefix-out : tie.Need-array-share-prefix-out
 array-share-prefix-out c = search needs
 
--- src/main.rt:19:34
 slice-aggregate-write-all : tie.Need-slice-aggregate-write-all
 slice-aggregate-write-all c = sym (length-take-le _ _ (c .before .shown .ensures))
 
--- src/main.rt:19:5
 write-all-requires : tie.Need-write-all-requires
 write-all-requires c κs = search needs
 
--- src/main.rt:14:1
 returns : tie.Need-returns
 returns c = search needs
 
