@@ -3,23 +3,20 @@ use Prim.Native.Nat.{ℕ, zero, suc, _+_, _*_, _≤_, _<_}
 use native.Mathlib.Omega.{arith}
 use mathlib.Core.Path.{_≡_, refl, sym, ap, _∙_}
 use mathlib.Core.Bool.{Bool, true, false, cond, not}
-use mathlib.Core.Logic.{_⊎_, inl, inr}
+use mathlib.Core.Logic.{inl, inr}
 use mathlib.Core.List.{List, [], _∷_}
 use mathlib.Core.Option.{Option, none, some}
 use borrow.Author.Tests.{eq-eqb, ne-eqb, lt-ltb, le-ltb}
 use lib.ListN.{length, getD}
-use lib.Dec.{eqb, ltb}
-use Rattle.cells.specs.declared.BitPlace.{BitPlace}
-use Rattle.fields.specs.Field.{fieldRead}
 use Rattle.fields.specs.Laws.{value-of, field-small}
 use Rattle.files.specs.Codes.{shapeOf}
 use Rattle.files.specs.Code.{Code, done, neutral, return, call, unless-false, make-cont, bits}
 use Rattle.files.specs.Entries.{Entry}
-use Rattle.files.specs.Grammar.{isEmpty, isOpen, isClosed}
+use Rattle.files.specs.Grammar.{isClosed}
 use Rattle.links.specs.Links.{linkAt}
-use Rattle.links.specs.LinksLaws.{Linked, some-bits}
+use Rattle.links.specs.LinksLaws.{Linked}
 use Rattle.links.specs.Stands.{Reads, Operands, Takes, Stands}
-use Rattle.machines.specs.Fetched.{Fetched, plain, returns, calls, branches, saves, jumps, bad, plainly, resolve, openCount, first, look}
+use Rattle.machines.specs.Fetched.{Fetched, plain, returns, calls, branches, saves, jumps, bad, plainly, resolve, first, look}
 use Rattle.machines.specs.Slots.{slotAt, slotResolve}
 use Rattle.rules.specs.declared.Plain.{Plain}
 use Rattle.tree_code.specs.Fetch.{isEnd, settled, withRead, shapedAs, instructionAt}
