@@ -1,21 +1,22 @@
 -- An accepted tree file and its linear file have the same templates. Assumes nothing.
-use Prim.Native.Nat.{ℕ, zero, suc, _+_, _*_, _≤_, _<_, _^_}
+use Prim.Native.Nat.{ℕ, zero, suc, _+_}
 use native.Mathlib.Omega.{arith}
-use mathlib.Core.Path.{_≡_, refl, sym, _∙_}
+use mathlib.Core.Path.{_≡_, refl}
 use mathlib.Core.Bool.{Bool, true, false, cond}
 use mathlib.Core.List.{List, [], _∷_}
 use mathlib.Core.Option.{Option, none, some}
 use lib.Dec.{T}
 use lib.ListN.{length, getD}
 use Rattle.files.specs.Reading.{Got, got}
-use Rattle.files.specs.Code.{done, return, bits}
+use Rattle.files.specs.Code.{bits}
 use Rattle.files.specs.Tree.{Template, treeRead}
-use Rattle.files.specs.Linear.{Linear, templateBytes}
-use Rattle.files.specs.Grammar.{isClosed, lowest, closedTemplate, indexedTemplate}
+use Rattle.files.specs.Linear.{templateBytes}
+use Rattle.files.specs.Grammar.{lowest, closedTemplate}
 use Rattle.files.specs.Flat.{flat}
+use Rattle.files.specs.AllGot.{refused-got, then-led, Each}
 use Rattle.files.specs.Accepted.{orLowest, treeChecked, flatChecked}
-use Rattle.readback.specs.Templates.{Each, linears}
-use Rattle.readback.specs.TreeFacts.{refused-got, then-led, TemplateFacts, TreeFacts, tree-facts}
+use Rattle.readback.specs.Templates.{linears}
+use Rattle.readback.specs.TreeFacts.{TemplateFacts, tree-facts}
 use Rattle.readback.specs.ReadBack.{checked-read, flat-checked}
 use Rattle.machines.specs.Fetched.{noTemplate, noLinear}
 use Rattle.agree.specs.Suits.{Only, Shut, Ok, closed-ok}

@@ -1,17 +1,17 @@
 -- The places of a tree list and of its flat form correspond. Assumes nothing.
-use Prim.Native.Nat.{ℕ, zero, suc, _+_, _*_, _/_, _%_, _≤_, _<_, _^_}
+use Prim.Native.Nat.{ℕ, suc, _+_, _*_, _≤_, _<_, _^_}
 use native.Mathlib.Omega.{arith}
-use mathlib.Core.Path.{_≡_, refl, sym, ap, _∙_, subst}
-use mathlib.Core.Bool.{Bool, true, false, cond, not}
-use mathlib.Core.List.{List, [], _∷_, _++_, append-assoc}
-use lib.Dec.{T, ltb, leb, eqb, eqb→eq, eqb-refl, ltb→lt, lt→ltb}
-use lib.ListN.{length, drop, take, length-append, length-drop}
-use lib.Seq.{drop-drop, drop-append-seam, take-append-seam}
+use mathlib.Core.Path.{_≡_, ap, _∙_}
+use mathlib.Core.Bool.{Bool, true, false}
+use mathlib.Core.List.{List, _∷_, _++_, append-assoc}
+use lib.Dec.{ltb, eqb, eqb→eq, eqb-refl, ltb→lt, lt→ltb}
+use lib.ListN.{length, drop, length-append, length-drop}
+use lib.Seq.{drop-drop, drop-append-seam}
 use Rattle.files.specs.Code.{Code, done, neutral, return, call, unless-false, make-cont, bits}
 use Rattle.files.specs.Entries.{Entry}
-use Rattle.files.specs.Grammar.{isClosed}
+use Rattle.files.specs.ReadingLaws.{least-bits}
 use Rattle.files.specs.Flat.{flat}
-use Rattle.machines.specs.Fetched.{Fetched, plain, returns, calls, branches, saves, jumps, bad, plainly, resolve, openCount, first, look}
+use Rattle.machines.specs.Fetched.{Fetched, jumps, bad, first, look}
 use Rattle.agree.specs.Suits.{is-true, is-false, Ok}
 
 eqb-same : (n : ℕ) → eqb n n ≡ true
@@ -25,15 +25,6 @@ ltb-yes p n h = is-true _ (lt→ltb p n h)
 
 ltb-no : (p n : ℕ) → n ≤ p → ltb p n ≡ false
 ltb-no p n h = is-false _ λ t. let e : p < n = ltb→lt p n t in omega arith
-
-pub some-bits : (c : Code) → 5 ≤ bits c
-unfolding bits
-some-bits done = omega arith
-some-bits (neutral op ns r) = omega arith
-some-bits (return r) = omega arith
-some-bits (call n r) = omega arith
-some-bits (unless-false x y r) = omega arith
-some-bits (make-cont n x r) = omega arith
 
 module _ (W : List ℕ) where
   -- xs stands at q
@@ -69,7 +60,7 @@ module _ (es : List Entry) where
       pub bound : s + bits c ≤ 2 ^ 24
 
     pub sub-head : {s : ℕ} {c : Code} {F : Fetched} → Sub s c F → top s ≡ first es s c F
-    sub-head {s} {c} {F} u = u .within s (omega arith) (omega (arith, some-bits c)) ∙ at-head s c F
+    sub-head {s} {c} {F} u = u .within s (omega arith) (omega (arith, least-bits c)) ∙ at-head s c F
 
     pub sub-neutral : {s op : ℕ} {ns : List ℕ} {r : Code} {F : Fetched} → Sub s (neutral op ns r) F → Sub (s + (5 + 8 * length ns)) r F
     unfolding look bits

@@ -1,28 +1,29 @@
 -- The tree program and the linear program of one file agree at places that correspond. Assumes nothing.
-use Prim.Native.Nat.{ℕ, zero, suc, _+_, _*_, _/_, _%_, _≤_, _<_, _^_}
+use Prim.Native.Nat.{ℕ, suc, _+_, _*_, _/_, _%_, _≤_, _<_, _^_}
 use native.Mathlib.Omega.{arith}
 use native.Mathlib.Nat.{div-add-mod}
-use mathlib.Core.Path.{_≡_, refl, sym, ap, _∙_, subst}
-use mathlib.Core.Bool.{Bool, true, false, cond, not}
+use mathlib.Core.Path.{_≡_, refl, sym, _∙_, subst}
+use mathlib.Core.Bool.{Bool, true, false}
 use mathlib.Core.List.{List, [], _∷_, _++_, append-assoc, append-nil}
 use mathlib.Core.Option.{Option, none, some}
-use lib.ListN.{length, getD, drop, take, length-append}
+use lib.ListN.{length, getD, drop, length-append}
 use lib.Dec.{leb, le→leb}
 use lib.Seq.{take-append-seam}
 use Rattle.files.specs.Codes.{shapeOf, isNeutral, operands}
 use Rattle.files.specs.Code.{Code, done, neutral, return, call, unless-false, make-cont, bits}
 use Rattle.files.specs.Entries.{Entry}
+use Rattle.files.specs.ReadingLaws.{least-bits}
 use Rattle.files.specs.Grammar.{isClosed}
 use Rattle.files.specs.Flat.{flat, conditional}
 use Rattle.files.specs.Tree.{Template}
 use Rattle.files.specs.Linear.{Linear}
 use Rattle.rules.specs.declared.Plain.{Plain}
-use Rattle.machines.specs.Fetched.{Fetched, plain, returns, calls, branches, saves, jumps, bad, plainly, resolve, openCount, first, look}
+use Rattle.machines.specs.Fetched.{Fetched, returns, calls, branches, saves, jumps, plainly, resolve, openCount, first}
 use Rattle.machines.specs.Fetched.{neutralIn, callIn, branchIn, contIn, jumpIn, decode, noTemplate, noLinear, treeAt, linearAt}
 use Rattle.machines.specs.Machine.{treeProgram, linearProgram}
 use Rattle.agree.specs.Lockstep.{Match, plainM, returnM, callM, branchM, saveM, badM, Meets, nowM, jumpM, Agree}
 use Rattle.agree.specs.Suits.{is-true, Only, Shut, Open, either, Ok}
-use Rattle.agree.specs.Layout.{At, at-skip, at-take, at-within, some-bits, Sub, sub-head, sub-neutral, sub-first, sub-second, sub-rest, sub-saved, sub-next, Spot, here, leap, Close, ends, flows, stands}
+use Rattle.agree.specs.Layout.{At, at-skip, at-take, at-within, Sub, sub-neutral, sub-first, sub-second, sub-rest, sub-saved, sub-next, Spot, here, leap, Close, ends, flows, stands}
 use Rattle.agree.specs.Kept.{same-but-places}
 
 -- a template of a tree file, and the same of its linear file
@@ -148,7 +149,7 @@ module _ (ts : List Template) (ls : List Linear) (twins : (t : ℕ) → Twins (g
           (record {
             n-fits = o .0;
             t-fits = small;
-            p-fits = omega (arith, some-bits x);
+            p-fits = omega (arith, least-bits x);
             t′-fits = small;
             q-fits = omega arith;
             places = both (o .1) (sub-saved es tree u) (at-skip W y (flat x) b (omega arith)) (omega (arith, length-append y (flat x))) z;

@@ -1,37 +1,36 @@
 -- Demand 3, proved: Forward and Backward of Demand3.antt. Assumes nothing.
-use Prim.Native.Nat.{ℕ, zero, suc, _+_, _*_, _-_, _≤_, _<_, _^_}
+use Prim.Native.Nat.{ℕ, _+_, _*_, _-_, _≤_, _<_}
 use native.Mathlib.Omega.{arith}
-use mathlib.Core.Path.{_≡_, refl, sym, ap, _∙_, subst}
+use mathlib.Core.Path.{_≡_, refl, sym, ap, _∙_}
 use mathlib.Core.Bool.{Bool, true, false, cond}
-use mathlib.Core.List.{List, [], _∷_, map}
-use mathlib.Core.Option.{Option, none, some}
-use lib.Dec.{eqb, leb}
-use lib.ListN.{length, getD, replicate, length-replicate, length-map, List·getD-map}
+use mathlib.Core.List.{List, map}
+use lib.Dec.{leb}
+use lib.ListN.{length, getD, length-replicate, length-map, List·getD-map}
 use lib.Seq.{ext-getD}
-use borrow.Author.Tests.{le-leb, eq-eqb, leb-true, leb-false}
-use Rattle.cells.specs.Cells.{tagOf, frameCell, frameCount, frameTemplate, frameEnv, framePlace}
+use borrow.Author.Tests.{le-leb, eq-eqb}
+use Rattle.cells.specs.Cells.{tagOf, frameCell}
 use Rattle.cells.specs.Laws.{frame-back}
 use Rattle.cells.specs.declared.Value.{Value}
-use Rattle.files.specs.Reading.{Got, got, refused}
+use Rattle.files.specs.Reading.{got, refused}
 use Rattle.files.specs.Tree.{Template}
 use Rattle.files.specs.Linear.{Linear, linearFile, linearRead}
+use Rattle.files.specs.AllGot.{refused-got, then-led}
 use Rattle.files.specs.Accepted.{treeChecked, flatChecked}
-use Rattle.flatten.specs.Flatten.{flattened, intoBytes}
+use Rattle.flatten.specs.Flatten.{flattened}
 use Rattle.readback.specs.Templates.{linears}
-use Rattle.readback.specs.TreeFacts.{refused-got, then-led}
 use Rattle.readback.specs.ReadBack.{flat-checked, flattened-reads}
 use Rattle.rules.specs.Rules.{Data}
+use Rattle.rules.specs.Lists.{by-lt}
 use Rattle.rules.specs.Frames.{FramesR, noneF, moreF, FrameFits, Same}
 use Rattle.machines.specs.Fetched.{noTemplate, noLinear}
-use Rattle.machines.specs.Machine.{treeProgram, linearProgram, State, noCounts, Ending, halted, wrongly, spent, Ended, run}
-use Rattle.machines.specs.Runs.{Memory, Ran, ran, started, fitGlobals, startState, endOf, memoryOf, reported, programRun, onTree, onLinear, treeRun, linearRun}
-use Rattle.machines.specs.declared.End.{End}
-use Rattle.machines.specs.declared.End.the-variants.{Halted, Wrong, OutOfBudget}
-use Rattle.agree.specs.Lockstep.{Agree, Rel, EndR, Alike-ends, forward, backward}
+use Rattle.machines.specs.Machine.{treeProgram, linearProgram, noCounts, Ending, halted, wrongly, spent, Ended}
+use Rattle.machines.specs.Runs.{Memory, started, fitGlobals, startState, endOf, memoryOf, reported, programRun, onTree, onLinear, treeRun, linearRun}
+use Rattle.machines.specs.declared.End.the-variants.{Halted, OutOfBudget}
+use Rattle.agree.specs.Lockstep.{Agree, Rel, Alike-ends, forward, backward}
 use Rattle.agree.specs.Kept.{same-but-places}
 use Rattle.agree.specs.Places.{Twins, Pair, pair, programs-agree}
 use Rattle.agree.specs.Files.{file-twins}
-use Rattle.agree.specs.Demand3.{aside, returned, left, linearCounts, treeCounts, EndAlike, Flattens, Startable, Ends, Forward, Backward}
+use Rattle.agree.specs.Demand3.{aside, linearCounts, treeCounts, EndAlike, Startable, Ends, Forward, Backward}
 
 -- ---- frames that are the same but for their code places
 aside-frame : (n t e p : ℕ) → FrameFits n t e p → aside (frameCell n t e p) ≡ frameCell n t e 0
@@ -39,13 +38,6 @@ unfolding aside
 aside-frame n t e p k =
     let b = frame-back n t e p (k .n-fits) (k .t-fits) (k .e-fits) (k .p-fits) in
     rw (eq-eqb (tagOf (frameCell n t e p)) 10 (b .4), b .0, b .1, b .2) refl
-
-by-lt : {P : Type 0} (a b : ℕ) → (a < b → P) → (b ≤ a → P) → P
-by-lt {P} a b f g = pick (leb b a) refl
-  where
-    pick : (t : Bool) → leb b a ≡ t → P
-    pick true e = g (leb-true b a e)
-    pick false e = f (leb-false b a e)
 
 halts : (e : Ending) (c : ℕ) (v : Value) → endOf e c ≡ Halted v → e ≡ halted
 unfolding endOf

@@ -11,7 +11,7 @@ use lib.Dec.{eqb}
 use Rattle.cells.specs.declared.BitPlace.{BitPlace}
 use Rattle.fields.specs.Field.{fieldAt}
 use Rattle.files.specs.Code.{Code, done, Instr}
-use Rattle.files.specs.Reading.{Got, got, refused, deepOf, listAt}
+use Rattle.files.specs.Reading.{Got, got, deepOf, listAt}
 use Rattle.files.specs.ReadingLaws.{some-bits, head-past, deep-past}
 use Rattle.files.specs.Flat.{offset, flat}
 use Rattle.files.specs.Grammar.{isClosed}
@@ -26,9 +26,6 @@ use Rattle.emit.specs.Stores.{sets-four, operands-length, jump-length, a
 use Rattle.emit.specs.Known.{shapeHere, Arms, arms, Saved, saved, Simple, without-lists, Turn, list-within, list-end, list-turn}
 
 -- ---- a list that was read
-pub refused-got : {A : Type 0} {a : A} {n p q : ℕ} → _≡_ {A = Got A} (refused n p) (got a q) → ⊥
-refused-got e = let z : _≡_ {A = ℕ} 0 1 = cc in omega arith
-
 pub measured-done : (table : List ℕ) (own : ℕ) (z : BitPlace) (f : Facts) {c k : Code} {q : ℕ} → _≡_ {A = Got Code} (got c (z .0)) (got k q) → factsOf table own c ≡ f
     → _≡_ {A = Measured} (record { next = z; size = f .size; closed = eqb (f .class) 2 }) (measuredOf k q)
 unfolding measuredOf factsOf

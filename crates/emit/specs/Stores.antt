@@ -111,23 +111,20 @@ pub put-length : (i : Instr) (c : Code) → length (flat (put i c)) ≡ length (
 put-length i c = rw (flat-put i c, length-append (frontBytes i (length (flat c))) (flat c ++ backBytes i), length-append (flat c) (backBytes i)) (omega arith)
 
 -- ---- offsets that fit
-both : (a b : Bool) → (a && b) ≡ true → (a ≡ true) × (b ≡ true)
-both a b h = and-eq-true-iff a b .0 h
-
 pub fits-arms : (x y c : Code) → offsetsFit (put (unless-i x y) c) ≡ true
     → (armsFit (isClosed x) (length (flat x)) (length (flat y)) ≡ true) × (offsetsFit x ≡ true) × (offsetsFit y ≡ true) × (offsetsFit c ≡ true)
 unfolding put offsetsFit
 fits-arms x y c h =
-    let a = both (armsFit (isClosed x) (length (flat x)) (length (flat y))) (offsetsFit x && (offsetsFit y && offsetsFit c)) h in
-    let b = both (offsetsFit x) (offsetsFit y && offsetsFit c) (a .1) in
-    let d = both (offsetsFit y) (offsetsFit c) (b .1) in
+    let a = and-eq-true-iff (armsFit (isClosed x) (length (flat x)) (length (flat y))) (offsetsFit x && (offsetsFit y && offsetsFit c)) .0 h in
+    let b = and-eq-true-iff (offsetsFit x) (offsetsFit y && offsetsFit c) .0 (a .1) in
+    let d = and-eq-true-iff (offsetsFit y) (offsetsFit c) .0 (b .1) in
     (a .0, b .0, d .0, d .1)
 
 pub fits-saved : (n : ℕ) (x c : Code) → offsetsFit (put (cont-i n x) c) ≡ true → (length (flat c) ≤ 65535) × (offsetsFit x ≡ true) × (offsetsFit c ≡ true)
 unfolding put offsetsFit
 fits-saved n x c h =
-    let a = both (fitsOffset (length (flat c))) (offsetsFit x && offsetsFit c) h in
-    let b = both (offsetsFit x) (offsetsFit c) (a .1) in
+    let a = and-eq-true-iff (fitsOffset (length (flat c))) (offsetsFit x && offsetsFit c) .0 h in
+    let b = and-eq-true-iff (offsetsFit x) (offsetsFit c) .0 (a .1) in
     (leb-true (length (flat c)) 65535 (a .0), b .0, b .1)
 
 pub fits-rest : (i : Instr) (c : Code) → offsetsFit (put i c) ≡ true → offsetsFit c ≡ true
@@ -141,7 +138,7 @@ fits-rest (cont-i n x) c h = fits-saved n x c h .2
 pub fits-jumps : (b : Bool) (x y : ℕ) → armsFit b x y ≡ true → (gap b + x ≤ 65535) × (b ≡ false → y ≤ 65535)
 unfolding armsFit gap
 fits-jumps true x y h = (omega (arith, leb-true x 65535 h), λ e. let z : _≡_ {A = ℕ} 0 1 = cc in absurd (omega arith))
-fits-jumps false x y h = let a = both (fitsOffset (3 + x)) (fitsOffset y) h in (leb-true (3 + x) 65535 (a .0), λ e. leb-true y 65535 (a .1))
+fits-jumps false x y h = let a = and-eq-true-iff (fitsOffset (3 + x)) (fitsOffset y) .0 h in (leb-true (3 + x) 65535 (a .0), λ e. leb-true y 65535 (a .1))
 
 -- an instruction's code, and then its operands
 pub simple-written : {v w : ℕ} (ops o out : List ℕ) (front : ℕ) → v ≡ w → sets (set o front v) (front + 1) ops ≡ out → out ≡ sets o front (w ∷ ops)

@@ -1,7 +1,6 @@
 -- The answer of every run fits into its cell: it is read off a cell. Assumes nothing.
 use Prim.Native.Nat.{ℕ, _<_, _^_}
 use native.Mathlib.Omega.{arith}
-use mathlib.Core.Bool.{Bool, true, false, cond}
 use mathlib.Core.Option.{Option, none, some}
 use lib.Dec.{eqb, leb}
 use mathlib.Core.List.{List}
@@ -12,6 +11,7 @@ use Rattle.files.specs.Reading.{Got, got, refused}
 use Rattle.files.specs.Tree.{Template}
 use Rattle.files.specs.Linear.{Linear, linearRead}
 use Rattle.files.specs.Accepted.{treeChecked}
+use Rattle.rules.specs.Lists.{either}
 use Rattle.machines.specs.Machine.{Ending, halted, wrongly, spent, Ended}
 use Rattle.machines.specs.Runs.{Memory, Ran, ran, refusedRun, lowestUnfit, fitGlobals, rightLengths, started, endOf, reported, onTree, onLinear, treeRun, linearRun}
 use Rattle.machines.specs.declared.End.{End}
@@ -38,10 +38,6 @@ AnswerFits (Refused n p) = Unit
 unfoldable pub RanFits : Ran → Type 0
 unfolding AnswerFits
 RanFits (ran r m) = AnswerFits (r .end)
-
-either : {A : Type 0} (P : A → Type 0) (b : Bool) (x y : A) → P x → P y → P (cond b x y)
-either P true x y h k = h
-either P false x y h k = k
 
 value-fits : (c : ℕ) → FitsCell (valueOf c)
 unfolding valueOf FitsCell

@@ -1,13 +1,14 @@
 -- What holds of whatever is read: templates have fewer than 256 entries each, and a file has 1 to 64 templates. Assumes nothing.
 use Prim.Native.Nat.{ℕ, zero, suc, _+_, _*_, _^_, _≤_, _<_}
-use mathlib.Core.Path.{_≡_, refl, ap}
+use mathlib.Core.Path.{_≡_, refl, sym, ap}
 use mathlib.Core.Bool.{Bool, true, false, cond, _&&_}
-use mathlib.Core.List.{List, _∷_}
+use mathlib.Core.List.{List, [], _∷_}
 use borrow.Author.Tests.{leb-true}
+use native.Mathlib.Nat.{add-zero}
 use native.Mathlib.Omega.{arith}
-use lib.ListN.{length}
+use lib.ListN.{length, getD}
 use lib.Dec.{leb, eqb}
-use Rattle.fields.specs.Field.{bitAt}
+use Rattle.fields.specs.Field.{bitAt, fieldAt}
 use Rattle.fields.specs.Laws.{read-cases, field-small}
 use Rattle.files.specs.Reading.{Got, got, refused, listAt}
 use Rattle.files.specs.Entries.{Entry, then, fieldGot, field, valid, entriesAt, toByte, zeroBits, nothingMore}
@@ -49,6 +50,41 @@ zero-all Q s (suc n) p a h = cond-all Q (eqb (bitAt s p) 0) (zeroBits s n (p + 1
 pub field-all : (s : List ℕ) (p w : ℕ) → AllGot (λ v. v < 2 ^ w) (field s p w)
 unfolding field fieldGot
 field-all s p w = read-cases s p w (λ f. AllGot (λ v. v < 2 ^ w) (fieldGot p f)) tt (λ h. field-small s p w)
+
+-- ---- what led to what was read
+pub refused-got : {A B : Type 0} {n p q : ℕ} {a : A} → _≡_ {A = Got A} (refused n p) (got a q) → B
+refused-got e = let z : _≡_ {A = ℕ} 0 1 = cc in absurd (omega arith)
+
+pub got-value : {A : Type 0} {a b : A} {p q : ℕ} → _≡_ {A = Got A} (got a p) (got b q) → (a ≡ b) × (p ≡ q)
+got-value e = (cc, cc)
+
+-- what was read first, and how it went on
+pub then-led : {A B C : Type 0} (g : Got A) (f : A → ℕ → Got B) {b : B} {q : ℕ} → then g f ≡ got b q → ((a : A) (p : ℕ) → g ≡ got a p → f a p ≡ got b q → C) → C
+unfolding then
+then-led (got a p) f e k = k a p refl e
+then-led (refused n p) f e k = refused-got e
+
+-- a field that was read, and where it ends: within the file
+pub field-got : (s : List ℕ) (p w : ℕ) {v q : ℕ} → field s p w ≡ got v q → (v ≡ fieldAt s p w) × (q ≡ p + w) × (q ≤ 8 * length s)
+unfolding field fieldGot
+field-got s p w {v} {q} =
+    read-cases s p w (λ f. fieldGot p f ≡ got v q → (v ≡ fieldAt s p w) × (q ≡ p + w) × (q ≤ 8 * length s)) (λ e. refused-got e)
+    (λ h e. let k = got-value e in (sym (k .0), sym (k .1), rw (k .1) at h))
+
+-- ---- P of each of some templates and its number, from n on
+abbrev pub Each : {A : Type 0} → (ℕ → A → Type 0) → ℕ → List A → Type 0
+Each P n [] = Unit {0}
+Each P n (t ∷ ts) = P n t × Each P (n + 1) ts
+
+pub each-weaker : {A : Type 0} {P Q : ℕ → A → Type 0} → ((n : ℕ) (t : A) → P n t → Q n t) → (n : ℕ) (ts : List A) → Each P n ts → Each Q n ts
+each-weaker f n [] h = tt
+each-weaker f n (t ∷ ts) h = (f n t (h .0), each-weaker f (n + 1) ts (h .1))
+
+-- the template at index i
+pub each-at : {A : Type 0} (P : ℕ → A → Type 0) (n : ℕ) (ts : List A) → Each P n ts → (i : ℕ) → i < length ts → (d : A) → P (n + i) (getD ts i d)
+each-at P n [] h i lt d = absurd (omega arith)
+each-at P n (t ∷ ts) h zero lt d = rw (add-zero n) (h .0)
+each-at P n (t ∷ ts) h (suc i) lt d = let e : n + suc i ≡ n + 1 + i = omega arith in rw e (each-at P (n + 1) ts (h .1) i (omega arith) d)
 
 -- ---- templates, one after the other
 module _ {A : Type 0} (entries : A → List Entry) where

@@ -1,17 +1,17 @@
 -- What reading gives: entries as document 01 has them, so many of them, and the place past their bits. Assumes nothing.
-use Prim.Native.Nat.{ℕ, zero, suc, _+_, _*_, _^_, _≤_, _<_}
+use Prim.Native.Nat.{ℕ, zero, suc, _+_, _*_, _/_, _^_, _≤_, _<_}
 use native.Mathlib.Omega.{arith}
-use mathlib.Core.Path.{_≡_, refl, sym, ap, _∙_}
+use mathlib.Core.Path.{_≡_, refl, ap}
 use mathlib.Core.Bool.{Bool, true, false, cond, _&&_}
-use mathlib.Core.List.{List, [], _∷_, _++_}
+use mathlib.Core.List.{List, [], _∷_}
 use borrow.Author.Tests.{ltb-true, eqb-false, ne-eqb}
-use lib.ListN.{length, length-append}
+use lib.ListN.{length, drop, length-append}
 use lib.Dec.{ltb, eqb}
-use Rattle.fields.specs.Field.{fieldAt, fieldRead}
+use Rattle.fields.specs.Field.{fieldAt}
 use Rattle.fields.specs.Laws.{read-cases, field-small}
 use Rattle.files.specs.Reading.{Got, got, refused}
 use Rattle.files.specs.Entries.{Entry, constant, global, template, then, fieldGot, field, valid, constantAt, kindAt, entryAt, entriesAt}
-use Rattle.files.specs.Linear.{bitsOf, entryBits, entriesBits}
+use Rattle.files.specs.Linear.{entryBits, entriesBits, bytesFrom, bytesOf}
 
 -- ---- the statements
 -- an entry of template own of T
@@ -98,3 +98,13 @@ module _ (s : List ℕ) (own T : ℕ) (few : T ≤ 64) where
   -- THE LAW: what entries are read, and where they end
   pub entries-read : (n p : ℕ) {es : List Entry} {q : ℕ} → entriesAt s own T n p ≡ got es q → EntriesGood s own T n p es q
   entries-read n p e = rw e at (entries-good n p)
+
+-- ---- how many bytes bits take
+bytes-from-length : (n : ℕ) (b : List ℕ) → length (bytesFrom n b) ≡ n
+unfolding bytesFrom
+bytes-from-length zero b = refl
+bytes-from-length (suc n) b = ap suc (bytes-from-length n (drop 8 b))
+
+pub bytes-length : (b : List ℕ) → length (bytesOf b) ≡ (length b + 7) / 8
+unfolding bytesOf
+bytes-length b = bytes-from-length ((length b + 7) / 8) b

@@ -35,6 +35,16 @@ bits-put (call-i n) c = refl
 bits-put (unless-i x y) c = refl
 bits-put (cont-i n x) c = refl
 
+-- a list takes at least the five bits of its end
+pub least-bits : (c : Code) → 5 ≤ bits c
+unfolding bits
+least-bits done = omega arith
+least-bits (neutral op ns r) = omega arith
+least-bits (return r) = omega arith
+least-bits (call n r) = omega arith
+least-bits (unless-false x y r) = omega arith
+least-bits (make-cont n x r) = omega arith
+
 pub valid-put : (i : Instr) (c : Code) → ValidInstr i → Valid c → Valid (put i c)
 unfolding Valid ValidInstr put
 valid-put (neutral-i op ns) c h v = (h .0, h .1, h .2, v)

@@ -15,10 +15,10 @@ use Rattle.fields.specs.Field.{bitAt, fieldAt}
 use Rattle.fields.specs.Laws.{field-split, field-small}
 use Rattle.files.specs.Reading.{Got, got, refused}
 use Rattle.files.specs.Entries.{Entry, constant, global, template, then, field, valid, constantAt, kindAt, entryAt, entriesAt}
+use Rattle.files.specs.AllGot.{got-value, then-led}
 use Rattle.files.specs.EntriesLaws.{then-field}
 use Rattle.files.specs.PaddingSteps.{bit-field}
 use Rattle.files.specs.Linear.{bitsOf, entryBits, entriesBits, byteOf, bytesFrom, bytesOf}
-use Rattle.tree.specs.Parts.{before-got, got-value}
 
 -- the n bits at p
 unfoldable pub bitsFrom : List ℕ → ℕ → ℕ → List ℕ
@@ -192,11 +192,13 @@ module _ (s : List ℕ) (own T : ℕ) where
       let d : q - p ≡ 0 = omega (arith, v .1) in
       (omega (arith, v .1), rw (← v .0, d) refl)
   entries-copied (suc n) p {es} {q} e =
-      let a = before-got (entryAt s own T p) _ e in
-      let b = before-got (entriesAt s own T n (a .past)) _ (a .on) in
-      let v = got-value (b .on) in
-      let h = rw (a .is) at (entry-copied s own T p) in
-      let k = entries-copied n (a .past) (b .is) in
-      let d : q - p ≡ a .past - p + (b .past - a .past) = omega (arith, v .1) in
-      let f : p + (a .past - p) ≡ a .past = omega arith in
-      (omega (arith, v .1), rw (← v .0, d, bits-append s p (a .past - p) (b .past - a .past), f, ← h .1, ← k .1) refl)
+      then-led (entryAt s own T p) _ e
+      (λ x r first on.
+      then-led (entriesAt s own T n r) _ on
+      (λ xs u rest end.
+      let v = got-value end in
+      let h = rw first at (entry-copied s own T p) in
+      let k = entries-copied n r rest in
+      let d : q - p ≡ r - p + (u - r) = omega (arith, v .1) in
+      let f : p + (r - p) ≡ r = omega arith in
+      (omega (arith, v .1), rw (← v .0, d, bits-append s p (r - p) (u - r), f, ← h .1, ← k .1) refl)))

@@ -18,13 +18,13 @@ use Rattle.files.specs.Linear.{templateBytes, templatesBytes, linearFile}
 use Rattle.files.specs.Tree.{Template, templatesAt, treeRead}
 use Rattle.files.specs.Table.{treeTable}
 use Rattle.files.specs.TableLaws.{Few, treeEntries, row-start, tree-slot}
-use Rattle.files.specs.AllGot.{tree-read}
+use Rattle.files.specs.AllGot.{got-value, field-got, tree-read}
 use Rattle.tree.specs.declared.Summary.{Summary}
 use Rattle.tree.specs.declared.TreeFile.the-variants.{Read}
 use Rattle.tree.specs.Summary.{summaryOf, treeTold}
 use Rattle.tree.specs.Filled.{treeFilled}
 use Rattle.tree.specs.FilledLaws.{tree-table}
-use Rattle.tree.specs.Parts.{got-value, TemplatesParts, templates-parts, templates-count, FileParts, tree-parts}
+use Rattle.tree.specs.Parts.{TemplatesParts, templates-parts, templates-count, FileParts, tree-parts}
 use Rattle.tree.specs.Judged.{file, judged-near, judged-flat}
 use Rattle.emit.specs.Stores.{sets-append}
 use Rattle.flatten.specs.declared.Past.{Past}
@@ -32,7 +32,6 @@ use Rattle.flatten.specs.declared.Flattened.{Flattened}
 use Rattle.flatten.specs.declared.Flattened.the-variants.{Written, Refused}
 use Rattle.flatten.specs.Flatten.{intoBytes, flattened, answered, written}
 use Rattle.flatten.specs.ToFlatten.{TemplateToWrite, TemplateDone, Flattenable, TemplatesToWrite}
-use Rattle.flatten.specs.TemplateSteps.{field-got}
 
 -- ---- the templates that are left, own to T, which stand at p and go into o from f on
 pub record Left (s table : List ℕ) (T room own p f : ℕ) (o₀ o : List ℕ) : Type 0 where

@@ -7,28 +7,21 @@ use lib.ListN.{length, getD, set}
 use lib.Seq.{sets}
 use Rattle.cells.specs.declared.BitPlace.{BitPlace}
 use Rattle.fields.specs.Field.{fieldAt}
-use Rattle.fields.specs.Laws.{read-cases}
 use Rattle.files.specs.Code.{Code}
 use Rattle.files.specs.Reading.{got, listAt}
 use Rattle.files.specs.ReadingLaws.{list-bits, flat-bits}
-use Rattle.files.specs.Entries.{fieldGot, field}
-use Rattle.files.specs.EntriesLaws.{entries-read}
+use Rattle.files.specs.AllGot.{field-got}
+use Rattle.files.specs.EntriesLaws.{entries-read, bytes-length}
 use Rattle.files.specs.Flat.{flat}
 use Rattle.files.specs.Linear.{entriesBits, bytesOf, threeBytes, templateBytes}
-use Rattle.tree.specs.Parts.{got-value, TemplateParts, template-parts}
-use Rattle.tree.specs.SummaryLaws.{bytes-length, template-length}
+use Rattle.tree.specs.Parts.{TemplateParts, template-parts}
+use Rattle.tree.specs.SummaryLaws.{template-length}
 use Rattle.emit.specs.declared.Measured.{Measured}
 use Rattle.emit.specs.Written.{measuredOf}
 use Rattle.emit.specs.ToWrite.{ToWrite}
 use Rattle.emit.specs.Stores.{sets-four}
 use Rattle.flatten.specs.Copied.{bitsFrom, bits-length, entries-copied}
 use Rattle.flatten.specs.ToFlatten.{TemplateToWrite, TemplateDone}
-
-pub field-got : (s : List ℕ) (p w : ℕ) {v q : ℕ} → field s p w ≡ got v q → (v ≡ fieldAt s p w) × (q ≡ p + w) × (p + w ≤ 8 * length s)
-unfolding field fieldGot
-field-got s p w {v} {q} e =
-    read-cases s p w (λ f. fieldGot p f ≡ got v q → (v ≡ fieldAt s p w) × (q ≡ p + w) × (p + w ≤ 8 * length s))
-    (λ e. let z : _≡_ {A = ℕ} 0 1 = cc in absurd (omega arith)) (λ h e. let k = got-value e in (sym (k .0), sym (k .1), h)) e
 
 -- m is what was measured of its list
 module _ {s table : List ℕ} {own p front room : ℕ} (w : TemplateToWrite s table own p front room) (m : Measured)
@@ -46,7 +39,7 @@ module _ {s table : List ℕ} {own p front room : ℕ} (w : TemplateToWrite s ta
   pub list-read : listAt s 15 listStart ≡ got (w .template .code) (w .past)
   list-read = ap (listAt s 15) (w .start) ∙ parts .list
 
-  counted : (parts .count ≡ fieldAt s p 8) × (parts .first ≡ p + 8) × (p + 8 ≤ 8 * length s)
+  counted : (parts .count ≡ fieldAt s p 8) × (parts .first ≡ p + 8) × (parts .first ≤ 8 * length s)
   counted = field-got s p 8 (parts .counted)
 
   copied : (parts .first ≤ w .template .start) × (entriesBits (w .template .entries) ≡ bitsFrom s (parts .first) (w .template .start - parts .first))
@@ -59,7 +52,7 @@ module _ {s table : List ℕ} {own p front room : ℕ} (w : TemplateToWrite s ta
   places = omega (arith, counted, copied .0, w .start, list-bits s 15 listStart (w .template .code) (w .past) list-read)
 
   pub count-within : p + 8 ≤ 8 * length s
-  count-within = counted .2
+  count-within = omega (arith, counted)
 
   count-is : fieldAt s p 8 ≡ length (w .template .entries)
   count-is = sym (counted .0) ∙ sym (entries-read s own (w .count) (w .few) (parts .count) (parts .first) (parts .entries) .count)

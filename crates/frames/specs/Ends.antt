@@ -4,8 +4,7 @@ use Prim.Native.Nat.{ℕ, _+_, _≤_}
 use lib.Dec.{leb, eqb}
 use Rattle.rules.specs.State.{Mem, Res, ok, wrong, need}
 use Rattle.rules.specs.Fit.{Fit}
-use Rattle.rules.specs.Rules.{Data, Back, noFrame, backTo, lastFrame}
-use Rattle.rules.specs.Clean.{withCell}
+use Rattle.rules.specs.Rules.{Data, withCell, Back, noFrame, backTo, lastFrame}
 use Rattle.rules.specs.declared.Regs.{Regs}
 use Rattle.frames.specs.declared.Kept.{Kept}
 use Rattle.frames.specs.declared.Kept.the-variants.{On, Wrong}

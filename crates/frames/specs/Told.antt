@@ -3,20 +3,16 @@ use mathlib.Core.Path.{_≡_, refl, ap, _∙_}
 use mathlib.Core.Bool.{Bool, true, false, cond}
 use mathlib.Core.List.{List}
 use Prim.Native.Nat.{ℕ}
-use native.Mathlib.Omega.{arith}
 use lib.Dec.{eqb}
 use Rattle.cells.specs.Cells.{frameCell, frameTemplate, framePlace}
 use Rattle.rules.specs.State.{Mem, Res, ok, wrong}
-use Rattle.rules.specs.Rules.{Data, Back, noFrame, backTo, lastFrame, makeContRule, returnRule}
-use Rattle.rules.specs.Clean.{withoutFrame}
+use Rattle.rules.specs.Rules.{Data, Back, noFrame, backTo, lastFrame, withoutFrame, makeContRule, returnRule}
+use Rattle.rules.specs.Told.{unequal}
 use Rattle.rules.specs.declared.Regs.{Regs}
 use Rattle.frames.specs.Ends.{state, Left, left, keepRule, toldKept, toldBack}
 use Rattle.frames.specs.declared.Kept.{Kept}
 use Rattle.frames.specs.declared.Kept.the-variants.{On, Wrong}
 use Rattle.frames.specs.declared.Returned.the-variants.{Halt, To}
-
-unequal : _≡_ {A = ℕ} 0 1 → ⊥
-unequal e = omega arith
 
 pub keep-is : (n t p x : ℕ) (d : Data) → x ≡ frameCell n t (d .regs .env) p → keepRule n x d ≡ makeContRule n t p d
 unfolding keepRule makeContRule

@@ -4,10 +4,10 @@ use mathlib.Core.Path.{_≡_, refl, sym, ap, _∙_, fun-ext}
 use mathlib.Core.Bool.{Bool, true, false, _&&_}
 use mathlib.Core.List.{List, [], _∷_}
 use native.Mathlib.Omega.{arith}
-use lib.Dec.{leb, ltb}
+use lib.Dec.{leb}
 use lib.ListN.{length, getD, take, drop, length-take, length-drop, List·getD-eq-default}
 use lib.Seq.{getD-drop}
-use borrow.Author.Tests.{leb-true, ltb-true, ltb-false, ne-eqb}
+use borrow.Author.Tests.{leb-true, ne-eqb}
 use Rattle.files.specs.Reading.{got, refused}
 use Rattle.files.specs.Entries.{Entry, then, field, valid, entriesAt, toByte, zeroBits, nothingMore}
 use Rattle.files.specs.EntriesLaws.{EntriesOk, then-field, entries-read}
@@ -16,6 +16,7 @@ use Rattle.files.specs.Linear.{Linear, codeAt, linearAt, linearsAt, linearRead}
 use Rattle.files.specs.Table.{rowOf, linearTable}
 use Rattle.files.specs.TableLaws.{Few, row-start, linearStart, linearEntries, linear-slot, linear-beyond}
 use Rattle.files.specs.AllGot.{AllGot, got-all, then-all, cond-all, nothing-all, zero-all, linear-read}
+use Rattle.rules.specs.Lists.{by-lt}
 use Rattle.machines.specs.Fetched.{Fetched, noLinear, linearAt as fetchLinear}
 use Rattle.machines.specs.Machine.{linearProgram}
 use Rattle.machines.specs.Slots.{slotAt, Stands, RowStands, row-stands}
@@ -146,18 +147,11 @@ module _ (s : List ℕ) (ts : List Linear) (short : length s ≤ 262144) (good :
     unfolding codeStart codeLength
     nowhere-start = rw (nowhere-slot 0) (refl, refl)
 
-  by-place : {P : Type 0} (t : ℕ) → (t < length ts → P) → (length ts ≤ t → P) → P
-  by-place {P} t f g = pick (ltb t (length ts)) refl
-    where
-      pick : (b : Bool) → ltb t (length ts) ≡ b → P
-      pick true e = f (ltb-true t (length ts) e)
-      pick false e = g (ltb-false t (length ts) e)
-
   all-within : AllWithin s table
   all-within =
       record {
         short = short;
-        within = λ t. by-place t (there-within t) (λ l. (let k = nowhere-start t l in record { inside = omega arith; there = λ e. k .1 }));
+        within = λ t. by-lt t (length ts) (there-within t) (λ l. (let k = nowhere-start t l in record { inside = omega arith; there = λ e. k .1 }));
       }
 
   module _ (bytes : AllBytes s) (t q : ℕ) where
@@ -188,7 +182,7 @@ module _ (s : List ℕ) (ts : List Linear) (short : length s ≤ 262144) (good :
         single (suc i) = omega arith
 
     same : Same
-    same = by-place t there-same nowhere-same
+    same = by-lt t (length ts) there-same nowhere-same
 
 -- ---- THE LAWS of a linear file that is accepted
 module _ (s : List ℕ) {ts : List Linear} {q : ℕ} (e : linearRead s ≡ got ts q) where

@@ -7,16 +7,13 @@ use mathlib.Core.Bool.{Bool, true, false, cond}
 use mathlib.Core.List.{List, [], _∷_}
 use lib.ListN.{length, getD}
 use lib.Dec.{eqb}
-use Rattle.cells.specs.declared.BitPlace.{BitPlace}
-use Rattle.fields.specs.Field.{fieldRead}
 use Rattle.files.specs.Codes.{shapeOf}
-use Rattle.files.specs.Code.{Code, done, Instr, neutral-i, return-i, call-i, unless-i, cont-i, put, simple, bits}
-use Rattle.files.specs.Reading.{Got, got, refused, Head, stop, item, bad, withField, withList, withDeep, shaped, headAt, before, after, deepOf, listAt}
-use Rattle.files.specs.ReadingLaws.{some-bits as some-bits-of, bitsI, bits-put, Past, head-past, deep-past, list-step, list-bits}
+use Rattle.files.specs.Code.{Code, Instr, neutral-i, return-i, call-i, unless-i, cont-i, put, simple, bits}
+use Rattle.files.specs.Reading.{Got, got, refused, Head, stop, item, bad, withList, withDeep, shaped, headAt, before, after, deepOf, listAt}
+use Rattle.files.specs.ReadingLaws.{some-bits, least-bits, bitsI, Past, head-past, deep-past, list-step, list-bits}
 use Rattle.links.specs.Links.{link, linked}
-use Rattle.links.specs.LinksLaws.{some-bits}
-use Rattle.links.specs.Stands.{Reads, field-stands}
-use Rattle.links.specs.Parts.{place, instrParts, partsOf, Whole, linkedGot, linkedArms, linkedSaved}
+use Rattle.links.specs.Stands.{field-stands}
+use Rattle.links.specs.Parts.{instrParts, partsOf, Whole, linkedGot, linkedArms, linkedSaved}
 use Rattle.links.specs.declared.Parts.{Parts}
 use Rattle.links.specs.declared.Parts.the-variants.{End, Simple, Arms, Saved, Bad}
 
@@ -150,7 +147,7 @@ module _ (s : List ℕ) (l p : ℕ) where
       by (got c z) h = record {
         links = rw (t .step, h) (linked-put L p e f i c ∙ ap (λ (n : ℕ). linked (linkedItem L p e i) n e f c) (sym (t .past)));
         whole = rw h tt;
-        on = omega (arith, some-bits-of i, t .past);
+        on = omega (arith, some-bits i, t .past);
         within = t .within;
       }
       by (refused n z) h = absurd (rw (t .step, h) at w)
@@ -167,8 +164,8 @@ module _ (s : List ℕ) (l p : ℕ) where
           levels-left = w .0;
           first-whole = rw (w .1) tt;
           second-whole = rw (w .2) tt;
-          first-room = omega (arith, some-bits x);
-          second-room = omega (arith, some-bits y);
+          first-room = omega (arith, least-bits x);
+          second-room = omega (arith, least-bits y);
           left = rw (w .1, w .2, z₁, z₂) (rw (← z) at (left (unless-i x y) q t whole L e f));
         }
 
@@ -181,7 +178,7 @@ module _ (s : List ℕ) (l p : ℕ) where
         record {
           levels-left = w .0;
           saved-whole = rw (w .1) tt;
-          room = omega (arith, some-bits x);
+          room = omega (arith, least-bits x);
           left = rw (w .1, z₁) (rw (← z) at (left (cont-i n x) q t whole L e f));
         }
 

@@ -1,13 +1,12 @@
 -- What the links of a list say, once they are made: a link is never overwritten, since places only grow. Assumes nothing.
-use Prim.Native.Nat.{ℕ, _+_, _*_, _/_, _≤_, _<_}
+use Prim.Native.Nat.{ℕ, _+_, _*_, _/_, _≤_}
 use native.Mathlib.Omega.{arith}
-use mathlib.Core.Path.{_≡_, refl, sym, ap, _∙_}
-use mathlib.Core.List.{List, [], _∷_}
-use lib.ListN.{length, getD, set, length-set}
+use mathlib.Core.Path.{_≡_, _∙_}
+use mathlib.Core.List.{List}
+use lib.ListN.{length, getD, length-set}
 use lib.Seq.{getD-set-same, getD-set-other}
 use Rattle.files.specs.Code.{Code, done, neutral, return, call, unless-false, make-cont, bits}
-use Rattle.files.specs.Tree.{Template}
-use Rattle.links.specs.Links.{linkAt, link, linked, linkedAll}
+use Rattle.links.specs.Links.{linkAt, link, linked}
 
 -- L has the links of the list c that begins at p, whose end is at e, and after which execution goes on at f
 unfoldable pub Linked : List ℕ → ℕ → ℕ → ℕ → Code → Type 0
@@ -22,15 +21,6 @@ Linked L p e f (unless-false x y r) =
     × Linked L (p + 5 + bits x + bits y) e f r
 Linked L p e f (make-cont n x r) =
     (linkAt L p ≡ p + 13 + bits x) × Linked L (p + 13) (p + 8 + bits x) e x × Linked L (p + 13 + bits x) e f r
-
-pub some-bits : (c : Code) → 5 ≤ bits c
-unfolding bits
-some-bits done = omega arith
-some-bits (neutral op ns r) = omega arith
-some-bits (return r) = omega arith
-some-bits (call n r) = omega arith
-some-bits (unless-false x y r) = omega arith
-some-bits (make-cont n x r) = omega arith
 
 pub linked-length : (L : List ℕ) (p e f : ℕ) (c : Code) → length (linked L p e f c) ≡ length L
 unfolding linked

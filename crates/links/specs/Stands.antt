@@ -1,20 +1,18 @@
 -- A list that is read stands in the file: each field of it is read at its place. Assumes nothing.
-use Prim.Native.Nat.{ℕ, zero, suc, _+_, _*_, _≤_, _<_}
+use Prim.Native.Nat.{ℕ, zero, suc, _+_, _*_, _≤_}
 use native.Mathlib.Omega.{arith}
 use mathlib.Core.Path.{_≡_, refl, sym, ap, _∙_}
-use mathlib.Core.Bool.{Bool, true, false, cond, _&&_}
+use mathlib.Core.Bool.{Bool, true, false, cond, _&&_, and-eq-true-iff}
 use mathlib.Core.List.{List, [], _∷_}
 use borrow.Author.Tests.{eqb-true, eqb-false, eq-eqb}
 use lib.ListN.{length, getD}
 use lib.Dec.{eqb}
-use Rattle.cells.specs.declared.BitPlace.{BitPlace}
-use Rattle.fields.specs.declared.Field.{Field}
-use Rattle.fields.specs.declared.Field.the-variants.{Read, Cut}
+use Rattle.fields.specs.declared.Field.the-variants.{Read}
 use Rattle.fields.specs.Field.{fieldAt, fieldRead}
 use Rattle.fields.specs.Laws.{read-cases, whole}
 use Rattle.files.specs.Codes.{shapes, shapeOf}
 use Rattle.files.specs.Code.{Code, done, neutral, return, call, unless-false, make-cont, Instr, neutral-i, return-i, call-i, unless-i, cont-i, put, simple, bits}
-use Rattle.files.specs.Reading.{Got, got, refused, Head, stop, item, bad, Deep, bottom, below}
+use Rattle.files.specs.Reading.{Got, got, refused, Head, stop, item, bad}
 use Rattle.files.specs.Reading.{withField, withList, withDeep, shaped, headAt, before, after, items, deepOf, listAt}
 use Rattle.files.specs.ReadingLaws.{bitsI, bits-put, past-five}
 
@@ -40,10 +38,6 @@ Stands s zero p (unless-false x y r) = ⊥
 Stands s (suc l) p (unless-false x y r) = Reads s p 5 3 × Stands s l (p + 5) x × Stands s l (p + 5 + bits x) y × Stands s (suc l) (p + 5 + bits x + bits y) r
 Stands s zero p (make-cont n x r) = ⊥
 Stands s (suc l) p (make-cont n x r) = Reads s p 5 4 × Reads s (p + 5) 8 n × Stands s l (p + 13) x × Stands s (suc l) (p + 13 + bits x) r
-
-and-both : (a b : Bool) → a && b ≡ true → (a ≡ true) × (b ≡ true)
-and-both true b e = (refl, e)
-and-both false b e = (e, absurd (let z : _≡_ {A = ℕ} 0 1 = cc in omega arith))
 
 -- ---- the same of one instruction, and of what is read
 unfoldable StandsI : List ℕ → ℕ → ℕ → Instr → Type 0
@@ -96,10 +90,10 @@ only-there : (k j i : ℕ) (xs : List ℕ) (v d : ℕ) → (d ≡ k → ⊥) →
 unfolding only
 only-there k j i [] v d n o e = absurd (n e)
 only-there k j i (x ∷ xs) zero d n o e =
-    let h : cond (eqb x k) (eqb i j) true ≡ true = and-both (cond (eqb x k) (eqb i j) true) (only k j (suc i) xs) o .0 in
+    let h : cond (eqb x k) (eqb i j) true ≡ true = and-eq-true-iff (cond (eqb x k) (eqb i j) true) (only k j (suc i) xs) .0 o .0 in
     let z : eqb i j ≡ true = rw (eq-eqb x k e) at h in
     omega (arith, eqb-true i j z)
-only-there k j i (x ∷ xs) (suc v) d n o e = omega (arith, only-there k j (suc i) xs v d n (and-both (cond (eqb x k) (eqb i j) true) (only k j (suc i) xs) o .1) e)
+only-there k j i (x ∷ xs) (suc v) d n o e = omega (arith, only-there k j (suc i) xs v d n (and-eq-true-iff (cond (eqb x k) (eqb i j) true) (only k j (suc i) xs) .0 o .1) e)
 
 code-of-shape : (k j v : ℕ) → (6 ≡ k → ⊥) → only k j 0 shapes ≡ true → shapeOf v ≡ k → v ≡ j
 unfolding shapeOf

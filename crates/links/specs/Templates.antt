@@ -5,14 +5,13 @@ use native.Mathlib.Omega.{arith}
 use mathlib.Core.Path.{_≡_, refl, sym, ap, _∙_}
 use mathlib.Core.List.{List, [], _∷_}
 use lib.ListN.{length, getD}
-use Rattle.fields.specs.Laws.{read-cases}
-use Rattle.files.specs.Code.{Code, bits}
-use Rattle.files.specs.Entries.{Entry, fieldGot, field, entriesAt}
-use Rattle.files.specs.EntriesLaws.{EntriesOk, EntriesGood, entries-read}
-use Rattle.files.specs.Reading.{Got, got, refused, listAt}
+use Rattle.files.specs.Code.{bits}
+use Rattle.files.specs.EntriesLaws.{EntriesOk, entries-read}
+use Rattle.files.specs.Reading.{got, listAt}
 use Rattle.files.specs.ReadingLaws.{list-bits}
+use Rattle.files.specs.AllGot.{got-value, field-got}
 use Rattle.files.specs.Tree.{Template, templateAt, templatesAt, treeRead}
-use Rattle.tree.specs.Parts.{got-value, TemplateParts, template-parts, TemplatesParts, templates-parts, templates-count, FileParts, tree-parts}
+use Rattle.tree.specs.Parts.{template-parts, templates-parts, templates-count, FileParts, tree-parts}
 use Rattle.links.specs.Links.{linked, linkedAll}
 use Rattle.links.specs.LinksLaws.{Linked, linked-length, Kept, linked-kept, still-linked, linked-holds}
 use Rattle.links.specs.Stands.{Stands, list-stands-there}
@@ -29,17 +28,12 @@ unfoldable Laid : List ℕ → ℕ → ℕ → ℕ → List Template → Type 0
 Laid s T own p [] = Unit
 Laid s T own p (t ∷ ts) = TemplateLaid s T own p t × Laid s T (own + 1) (t .start + bits (t .code)) ts
 
-field-past : (s : List ℕ) (p w : ℕ) {v q : ℕ} → field s p w ≡ got v q → q ≡ p + w
-unfolding field fieldGot
-field-past s p w {v} {q} e =
-    read-cases s p w (λ f. fieldGot p f ≡ got v q → q ≡ p + w) (λ e. let z : _≡_ {A = ℕ} 0 1 = cc in absurd (omega arith)) (λ h e. sym (got-value e .1)) e
-
 module _ (s : List ℕ) (T : ℕ) (few : T ≤ 64) where
   template-laid : (own p : ℕ) {t : Template} {q : ℕ} → templateAt s own T p ≡ got t q → TemplateLaid s T own p t × (q ≡ t .start + bits (t .code))
   template-laid own p {t} {q} e =
       let a = template-parts s own T p e in
       let g = entries-read s own T few (a .count) (a .first) (a .entries) in
-      let f : a .first ≡ p + 8 = field-past s p 8 (a .counted) in
+      let f : a .first ≡ p + 8 = field-got s p 8 (a .counted) .1 in
       let b = list-bits s 15 (t .start) (t .code) q (a .list) in
       (record { begins = omega (arith, g .past); list = a .list ∙ ap (got (t .code)) (b .0); within = omega arith; entries-ok = g .ok }, b .0)
 
@@ -103,7 +97,7 @@ module _ (s : List ℕ) {ts : List Template} {q : ℕ} (read : treeRead s ≡ go
     pub template-there : (p : ℕ) × (8 ≤ p) × TemplateLaid s (length ts) i p (getD ts i d)
     template-there =
         let a = laid-at s (parts .count) 0 (parts .first) ts i d laid h in
-        (a .0, omega (arith, field-past s 0 8 (parts .counted)), same-laid (sym counted) (zero-add i) (a .2))
+        (a .0, omega (arith, field-got s 0 8 (parts .counted)), same-laid (sym counted) (zero-add i) (a .2))
 
     pub template-stands : Stands s 15 (getD ts i d .start) (getD ts i d .code)
     template-stands = list-stands-there s 15 _ _ _ (template-there .2 .list)

@@ -14,6 +14,7 @@ use Rattle.fields.specs.Field.{bitAt, fieldAt}
 use Rattle.fields.specs.Laws.{whole, field-split}
 use Rattle.files.specs.Reading.{Got, got}
 use Rattle.files.specs.Entries.{field, fieldGot, toByte, zeroBits}
+use Rattle.files.specs.EntriesLaws.{bytes-length}
 use Rattle.files.specs.Linear.{bitsOf, byteOf, bytesFrom, bytesOf, threeBytes}
 
 -- the bits b stand at bit place p of the bytes s
@@ -186,15 +187,6 @@ bytes-bit (suc n) b h i lt = go (bytes-bit n (drop 8 b) (record { small = λ j. 
         let e₂ : i % 8 ≡ i = omega arith in
         rw (e₁, e₂) (byte-bit b h i le)
 
-length-bytes : (n : ℕ) (b : List ℕ) → length (bytesFrom n b) ≡ n
-unfolding bytesFrom
-length-bytes zero b = refl
-length-bytes (suc n) b = ap suc (length-bytes n (drop 8 b))
-
-pub length-bytesOf : (b : List ℕ) → length (bytesOf b) ≡ (length b + 7) / 8
-unfolding bytesOf
-length-bytesOf b = length-bytes ((length b + 7) / 8) b
-
 zeros : {A : Type 0} (s : List ℕ) (n p : ℕ) (a : A) → ((i : ℕ) → i < n → bitAt s (p + i) ≡ 0) → zeroBits s n p a ≡ got a (p + n)
 unfolding zeroBits
 zeros s zero p a h = ap (got a) (sym (add-zero p))
@@ -206,17 +198,17 @@ zeros s (suc n) p a h =
 module _ {s : List ℕ} {k : ℕ} (b : List ℕ) (are : AreBits b) (h : Holds s k (bytesOf b)) where
   bytesOf-bit : (i : ℕ) → i < 8 * ((length b + 7) / 8) → bitAt s (8 * k + i) ≡ getD b i 0
   unfolding bytesOf
-  bytesOf-bit i lt = holds-bit h i (omega (arith, length-bytesOf b)) ∙ bytes-bit ((length b + 7) / 8) b are i lt
+  bytesOf-bit i lt = holds-bit h i (omega (arith, bytes-length b)) ∙ bytes-bit ((length b + 7) / 8) b are i lt
 
   -- bits written as bytes stand there
   pub bytes-stand : Stands s (8 * k) b
   bytes-stand =
       let f : k + length (bytesOf b) ≤ length s = holds-fits h in
-      record { each = λ i lt. bytesOf-bit i (omega arith); fits = omega (arith, length-bytesOf b) }
+      record { each = λ i lt. bytesOf-bit i (omega arith); fits = omega (arith, bytes-length b) }
 
   -- and zero bits to the next byte
   pub padding-zero : {A : Type 0} (a : A) → zeroBits s (toByte (8 * k + length b)) (8 * k + length b) a ≡ got a (8 * (k + length (bytesOf b)))
   padding-zero a =
       zeros s (toByte (8 * k + length b)) (8 * k + length b) a
       (λ i lt. ap (bitAt s) (add-assoc (8 * k) (length b) i) ∙ bytesOf-bit (length b + i) (omega arith) ∙ List·getD-eq-default b 0 (omega arith))
-      ∙ ap (got a) (omega (arith, length-bytesOf b))
+      ∙ ap (got a) (omega (arith, bytes-length b))

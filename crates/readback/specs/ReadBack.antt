@@ -10,9 +10,10 @@ use Rattle.files.specs.Tree.{Template, treeRead}
 use Rattle.files.specs.Grammar.{lowest, closedTemplate, indexedTemplate}
 use Rattle.files.specs.Flat.{offsetTemplate}
 use Rattle.files.specs.Linear.{linearFile, linearRead}
+use Rattle.files.specs.AllGot.{refused-got, then-led, each-weaker}
 use Rattle.files.specs.Accepted.{orLowest, treeChecked, flatChecked}
-use Rattle.readback.specs.Templates.{each-weaker, linears, linear-back}
-use Rattle.readback.specs.TreeFacts.{refused-got, then-led, TreeFacts, tree-facts}
+use Rattle.readback.specs.Templates.{linears, linear-back}
+use Rattle.readback.specs.TreeFacts.{TreeFacts, tree-facts}
 
 -- what 6, 7 and 8 do not refuse is as it was read
 lowest-led : {A : Type 0} (n : ℕ) (o : Option ℕ) (g : Got A) {a : A} {q : ℕ} → orLowest n o g ≡ got a q → g ≡ got a q

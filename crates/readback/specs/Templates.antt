@@ -1,34 +1,19 @@
 -- A linear file is read back: the entries, the start and the code of each template. Assumes nothing.
-use Prim.Native.Nat.{ℕ, zero, suc, _+_, _*_, _/_, _^_, _≤_, _<_}
-use native.Mathlib.Nat.{add-zero}
+use Prim.Native.Nat.{ℕ, _+_, _*_, _/_, _^_, _≤_, _<_}
 use native.Mathlib.Omega.{arith}
 use mathlib.Core.Path.{_≡_, refl, sym}
 use mathlib.Core.List.{List, [], _∷_, _++_, append-nil}
 use borrow.Author.Tests.{le-leb, eq-eqb}
-use lib.ListN.{length, getD, length-append}
+use lib.ListN.{length, length-append}
 use Rattle.files.specs.Reading.{got}
 use Rattle.files.specs.Entries.{Entry, then, nothingMore}
+use Rattle.files.specs.AllGot.{Each}
 use Rattle.files.specs.EntriesLaws.{EntriesOk}
 use Rattle.files.specs.Tree.{Template}
 use Rattle.files.specs.Flat.{flat}
 use Rattle.files.specs.Linear.{Linear, entriesBits, bytesOf, threeBytes, templateBytes, templatesBytes, linearFile, codeAt, linearAt, linearsAt, linearRead}
 use Rattle.readback.specs.Bits.{Holds, holds-left, holds-right, holds-fits, holds-code, here, byte-field, length-field, bytes-stand, padding-zero}
 use Rattle.readback.specs.Entries.{entries-back, entries-are}
-
--- P of each template and its number, from n on
-abbrev pub Each : (ℕ → Template → Type 0) → ℕ → List Template → Type 0
-Each P n [] = Unit
-Each P n (t ∷ ts) = P n t × Each P (n + 1) ts
-
-pub each-weaker : {P Q : ℕ → Template → Type 0} → ((n : ℕ) (t : Template) → P n t → Q n t) → (n : ℕ) (ts : List Template) → Each P n ts → Each Q n ts
-each-weaker f n [] h = tt
-each-weaker f n (t ∷ ts) h = (f n t (h .0), each-weaker f (n + 1) ts (h .1))
-
--- the template at index i
-pub each-at : (P : ℕ → Template → Type 0) (n : ℕ) (ts : List Template) → Each P n ts → (i : ℕ) → i < length ts → (d : Template) → P (n + i) (getD ts i d)
-each-at P n [] h i lt d = absurd (omega arith)
-each-at P n (t ∷ ts) h zero lt d = rw (add-zero n) (h .0)
-each-at P n (t ∷ ts) h (suc i) lt d = let e : n + suc i ≡ n + 1 + i = omega arith in rw e (each-at P (n + 1) ts (h .1) i (omega arith) d)
 
 -- template own of T can be written in a linear file
 pub record Writable (T own : ℕ) (t : Template) : Type 0 where

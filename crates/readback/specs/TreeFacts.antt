@@ -1,54 +1,35 @@
 -- What is known of the templates of a tree file that is read: their linear file is short enough to be read. Assumes nothing.
 use Prim.Native.Nat.{ℕ, zero, suc, _+_, _*_, _^_, _≤_, _<_}
 use native.Mathlib.Omega.{arith}
-use mathlib.Core.Path.{_≡_, refl, sym, ap, _∙_}
-use mathlib.Core.Bool.{Bool, true, false, cond, _&&_}
+use mathlib.Core.Path.{_≡_, refl, ap, _∙_}
+use mathlib.Core.Bool.{Bool, true, false, cond, _&&_, and-eq-true-iff}
 use mathlib.Core.List.{List, [], _∷_}
 use borrow.Author.Tests.{leb-true}
 use lib.ListN.{length, length-append}
 use lib.Dec.{leb, eqb}
-use Rattle.fields.specs.Field.{bitAt, fieldAt}
-use Rattle.fields.specs.Laws.{read-cases, field-small}
+use Rattle.fields.specs.Field.{bitAt}
 use Rattle.files.specs.Code.{Code, bits}
 use Rattle.files.specs.Reading.{Got, got, refused, listAt}
 use Rattle.files.specs.ReadingLaws.{list-bits, list-valid, flat-bits-end}
 use Rattle.files.specs.Valid.{Valid}
-use Rattle.files.specs.Entries.{Entry, then, fieldGot, field, valid, entriesAt, toByte, zeroBits, nothingMore}
-use Rattle.files.specs.EntriesLaws.{EntriesGood, entries-read}
+use Rattle.files.specs.Entries.{Entry, field, valid, entriesAt, toByte, zeroBits, nothingMore}
+use Rattle.files.specs.AllGot.{Each, got-all, field-all, refused-got, then-led, field-got}
+use Rattle.files.specs.EntriesLaws.{EntriesGood, entries-read, bytes-length}
 use Rattle.files.specs.Tree.{Template, templateAt, templatesAt, paddedEnd, treeRead}
 use Rattle.files.specs.Linear.{entriesBits, templateBytes, templatesBytes, linearFile}
-use Rattle.readback.specs.Bits.{length-bytesOf}
-use Rattle.readback.specs.Templates.{Each, Writable}
+use Rattle.readback.specs.Templates.{Writable}
 
 -- ---- what led to what was read
-pub refused-got : {A : Type 0} {B : Type 0} {n p q : ℕ} {a : A} → _≡_ {A = Got A} (refused n p) (got a q) → B
-refused-got e = let z : _≡_ {A = ℕ} 0 1 = cc in absurd (omega arith)
-
--- what was read first, and how it went on
-pub then-led : {A B C : Type 0} (g : Got A) (f : A → ℕ → Got B) {b : B} {q : ℕ} → then g f ≡ got b q → ((a : A) (p : ℕ) → g ≡ got a p → f a p ≡ got b q → C) → C
-unfolding then
-then-led (got a p) f e k = k a p refl e
-then-led (refused n p) f e k = refused-got e
-
 -- a test that a refusal hangs on was passed
 cond-led : {A : Type 0} (b : Bool) (g : Got A) (n p : ℕ) {a : A} {q : ℕ} → cond b g (refused n p) ≡ got a q → (b ≡ true) × (g ≡ got a q)
 cond-led true g n p e = (refl, e)
 cond-led false g n p e = refused-got e
-
-and-both : (a b : Bool) → a && b ≡ true → (a ≡ true) × (b ≡ true)
-and-both true b e = (refl, e)
-and-both false b e = (e, absurd (let z : _≡_ {A = ℕ} 0 1 = cc in omega arith))
 
 valid-led : {A : Type 0} (p : ℕ) (b : Bool) (g : Got A) {a : A} {q : ℕ} → valid p b g ≡ got a q → (b ≡ true) × (g ≡ got a q)
 valid-led p true g e = (refl, e)
 valid-led p false g e = refused-got e
 
 module _ (s : List ℕ) where
-  field-led : (p w : ℕ) {v q : ℕ} → field s p w ≡ got v q → (v < 2 ^ w) × (q ≡ p + w) × (q ≤ 8 * length s)
-  unfolding field fieldGot
-  field-led p w {v} {q} = read-cases s p w (λ x. fieldGot p x ≡ got v q → (v < 2 ^ w) × (q ≡ p + w) × (q ≤ 8 * length s)) (λ e. refused-got e)
-      (λ h e. let e₁ : fieldAt s p w ≡ v = cc in let e₂ : p + w ≡ q = cc in (rw e₁ at (field-small s p w), sym e₂, rw e₂ at h))
-
   zeros-led : {A : Type 0} (n p : ℕ) (a : A) {b : A} {q : ℕ} → zeroBits s n p a ≡ got b q → a ≡ b
   unfolding zeroBits
   zeros-led zero p a e = cc
@@ -75,7 +56,7 @@ templateBits t = 8 + length (entriesBits (t .entries)) + bits (t .code)
 -- at most two bytes for five bits
 template-short : (t : Template) → 5 * length (templateBytes t) ≤ 2 * templateBits t
 unfolding templateBytes
-template-short t = simp length-append (omega (arith, length-bytesOf (entriesBits (t .entries)), flat-bits-end (t .code)))
+template-short t = simp length-append (omega (arith, bytes-length (entriesBits (t .entries)), flat-bits-end (t .code)))
 
 -- what is known of the templates ts, of numbers own on, read from p to q of the file s
 record TemplatesFacts (s : List ℕ) (T own p : ℕ) (ts : List Template) (q : ℕ) : Type 0 where
@@ -106,7 +87,7 @@ module _ (s : List ℕ) (small : length s ≤ 65536) (T : ℕ) (few : T ≤ 64) 
       then-led (entriesAt s own T n p₁) _ on₁
       (λ es p₂ e₂ on₂.
       then-led (listAt s 15 p₂) _ on₂
-      (λ c p₃ e₃ on₃. parts own p n p₁ es p₂ c p₃ (field-led s p 8 e₁) (entries-read s own T few n p₁ e₂) (list-bits s 15 p₂ c p₃ e₃) (list-valid s 15 p₂ c p₃ e₃) on₃)))
+      (λ c p₃ e₃ on₃. parts own p n p₁ es p₂ c p₃ (got-all (λ v. v < 2 ^ 8) (field-all s p 8) e₁, field-got s p 8 e₁ .1, field-got s p 8 e₁ .2) (entries-read s own T few n p₁ e₂) (list-bits s 15 p₂ c p₃ e₃) (list-valid s 15 p₂ c p₃ e₃) on₃)))
 
   templates-facts : (n own p : ℕ) {ts : List Template} {q : ℕ} → p ≤ 8 * length s → templatesAt s T own n p ≡ got ts q → (length ts ≡ n) × TemplatesFacts s T own p ts q
   unfolding templatesAt templatesBytes
@@ -143,8 +124,8 @@ tree-read s ts q e =
     then-led (field s 0 8) _ (c .1)
     (λ T p first on.
     let v = valid-led 0 (leb 1 T && leb T 64) _ on in
-    let a = and-both (leb 1 T) (leb T 64) (v .0) in
-    let f = field-led s 0 8 first in
+    let a = and-eq-true-iff (leb 1 T) (leb T 64) .0 (v .0) in
+    let f = field-got s 0 8 first in
     then-led (templatesAt s T 0 T p) _ (v .1)
     (λ us r read padded.
     let e₁ : us ≡ ts = padded-led s us r padded in

@@ -9,10 +9,10 @@ use lib.ListN.{getD, take}
 use borrow.Author.Tests.{lt-ltb, le-ltb, le-leb, eq-eqb, ne-eqb}
 use Rattle.cells.specs.Cells.{intCell, layerParent, layerCount}
 use Rattle.rules.specs.Total.{totalOf, within32, bits32, allIntegers}
-use Rattle.rules.specs.State.{Mem, Held, Res, ok, wrong, need, out, told}
+use Rattle.rules.specs.State.{Mem, Held, Res, wrong, need, out, told}
 use Rattle.rules.specs.Fit.{Fit, EndFit}
 use Rattle.rules.specs.Told.{told-next}
-use Rattle.rules.specs.Effects.{Leaves, left, effect}
+use Rattle.rules.specs.Clean.{plain-fit}
 use Rattle.rules.specs.Rules.{walk, found, emptied, addRule, plainRule}
 use Rattle.rules.specs.Answers.{foundAt, sumOf}
 use Rattle.rules.specs.declared.Regs.{Regs}
@@ -71,22 +71,10 @@ add-by-sum m r h =
     (by-answer m r (allIntegers (take (r .sp) (m .stack))) (within32 (totalOf (take (r .sp) (m .stack)))) (bits32 (totalOf (take (r .sp) (m .stack)))))
 
 -- ---- where a plain rule goes on, the registers fit
-plain-fit : (i : Plain) (m : Mem) (r : Regs) → Fit r → Leaves (λ h. Fit (h .regs)) (plainRule i m r)
-plain-fit i m r f = effect m r (λ h. Fit (h .regs)) i (record {
-  valued = λ c w. omega arith;
-  primitive = λ c w. omega arith;
-  closed = λ t w k. omega arith;
-  global-set = λ g. omega arith;
-  local-set = λ a b l w k. omega arith;
-  pushed = λ k. omega arith;
-  layered = λ n w k l. omega arith;
-  paired = λ k l. omega arith;
-})
-
-end-fit : (x : Stepped) (m m′ : Mem) (y : Res Held) → out x m′ ≡ told m y → Leaves (λ h. Fit (h .regs)) y → EndFit x
-end-fit (Next r) m m′ y e f = left (λ h. Fit (h .regs)) y _ (told-next m m′ r y e) f
-end-fit (Wrong n) m m′ y e f = tt
+end-fit : (x : Stepped) (i : Plain) (m m′ : Mem) (r : Regs) → out x m′ ≡ told m (plainRule i m r) → Fit r → EndFit x
+end-fit (Next q) i m m′ r e f = plain-fit i m r _ (r .env + 2048) (told-next m m′ q (plainRule i m r) e) (omega arith) f (omega arith) .0
+end-fit (Wrong n) i m m′ r e f = tt
 
 pub ended : (i j : Plain) (m m′ : Mem) (r : Regs) (x : Stepped) → i ≡ j → Fit r → out x m′ ≡ told m (plainRule j m r)
     → (out x m′ ≡ told m (plainRule i m r)) × EndFit x
-ended i j m m′ r x e f p = (rw e p, end-fit x m m′ (plainRule j m r) p (plain-fit j m r f))
+ended i j m m′ r x e f p = (rw e p, end-fit x j m m′ r p f)

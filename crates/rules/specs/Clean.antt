@@ -4,17 +4,19 @@ use mathlib.Core.Path.{_≡_, refl, _∙_}
 use mathlib.Core.Bool.{Bool, true, false, cond}
 use mathlib.Core.List.{List, [], _∷_, reverse}
 use mathlib.Core.Option.{some}
-use Prim.Native.Nat.{ℕ, zero, suc, _+_, _-_, _<_, _≤_}
+use Prim.Native.Nat.{ℕ, _+_, _<_, _≤_}
 use native.Mathlib.Omega.{arith}
 use lib.ListN.{length, getD, set, take, replicate, length-set, length-take, length-reverse, length-replicate}
 use lib.Seq.{sets, length-sets, getD-set-other}
-use lib.Dec.{ltb, leb, eqb}
-use borrow.Author.Tests.{ltb-true, ltb-false, leb-true, eqb-true, eqb-false}
+use lib.Dec.{leb, eqb}
+use borrow.Author.Tests.{leb-true, eqb-true, eqb-false}
 use Rattle.runs.specs.Runs.{zeroed, part}
-use Rattle.cells.specs.Cells.{tagOf, closureTemplate, closureEnv, layerCell, frameCell, frameCount, frameTemplate, frameEnv, framePlace}
-use Rattle.rules.specs.State.{mem, regs, Held, Res, ok}
-use Rattle.rules.specs.Rules.{Data, Back, noFrame, backTo, walk, lastFrame, frameBase, plainRule, callRule, makeContRule, returnRule}
-use Rattle.rules.specs.Effects.{Leaves, left, checked, Effects, effect}
+use Rattle.cells.specs.Cells.{tagOf, closureTemplate, closureEnv, layerCell, frameCell, frameCount, frameTemplate, framePlace}
+use Rattle.rules.specs.State.{Mem, mem, regs, Held, ok}
+use Rattle.rules.specs.Fit.{Fit}
+use Rattle.rules.specs.Lists.{by-lt, sets-above, zeros-at}
+use Rattle.rules.specs.Rules.{Data, Back, noFrame, backTo, walk, lastFrame, frameBase, withFrame, withoutFrame, plainRule, callRule, makeContRule, returnRule}
+use Rattle.rules.specs.Effects.{left, checked, Effects, effect}
 use Rattle.rules.specs.declared.Regs.{Regs}
 use Rattle.rules.specs.declared.Plain.{Plain}
 use Rattle.rules.specs.declared.Plain.the-variants.{SetLocal}
@@ -65,32 +67,6 @@ framed P true x f = tt
 framed P false x f = f refl
 
 -- ---- lists that are zero from a place on
-pub sets-below : (l vs : List ℕ) (u i : ℕ) → i < u → getD (sets l u vs) i 0 ≡ getD l i 0
-sets-below l [] u i h = refl
-sets-below l (a ∷ vs) u i h = sets-below (set l u a) vs (suc u) i (omega arith) ∙ getD-set-other l u i a 0 (λ e. omega arith)
-
-pub sets-above : (l vs : List ℕ) (u i : ℕ) → u + length vs ≤ i → getD (sets l u vs) i 0 ≡ getD l i 0
-sets-above l [] u i h = refl
-sets-above l (a ∷ vs) u i h = sets-above (set l u a) vs (suc u) i (omega arith) ∙ getD-set-other l u i a 0 (λ e. omega arith)
-
-pub by-lt : {P : Type 0} (a b : ℕ) → (a < b → P) → (b ≤ a → P) → P
-by-lt {P} a b f g = go (ltb a b) refl where
-  go : (t : Bool) → ltb a b ≡ t → P
-  go true e = f (ltb-true a b e)
-  go false e = g (ltb-false a b e)
-
-set-zero : (l : List ℕ) (u : ℕ) → getD (set l u 0) u 0 ≡ 0
-set-zero [] u = refl
-set-zero (x ∷ l) zero = refl
-set-zero (x ∷ l) (suc u) = set-zero l u
-
-zeros-at : (l : List ℕ) (u n i : ℕ) → u ≤ i → i < u + n → getD (zeroed l u n) i 0 ≡ 0
-zeros-at l u zero i h k = let z : ⊥ = omega arith in absurd z
-zeros-at l u (suc n) i h k =
-    by-lt u i
-    (λ p. zeros-at (set l u 0) (suc u) n i p (omega arith))
-    (λ p. let e : i ≡ u = omega arith in sets-below (set l u 0) (replicate n 0) (suc u) i (omega arith) ∙ rw e (set-zero l u))
-
 pub stored : (l vs : List ℕ) (u w : ℕ) → ZeroFrom l u → u + length vs ≤ w → ZeroFrom (sets l u vs) w
 stored l vs u w h k i p = sets-above l vs u i (omega arith) ∙ h i (omega arith)
 
@@ -114,6 +90,19 @@ module _ (d d′ : Data) where
   }
 
 -- ---- the plain rules
+-- the registers that a plain rule leaves; its environment is as it was, or a new layer's
+pub plain-fit : (i : Plain) (m : Mem) (r : Regs) (h : Held) (u : ℕ) → plainRule i m r ≡ ok h → 2048 ≤ u → Fit r → r .env ≤ u → Fit (h .regs) × (h .regs .env ≤ u)
+plain-fit i m r h u e large f low = left (λ h. Fit (h .regs) × (h .regs .env ≤ u)) (plainRule i m r) h e (effect m r (λ h. Fit (h .regs) × (h .regs .env ≤ u)) i (record {
+  valued = λ c w. omega arith;
+  primitive = λ c w. omega arith;
+  closed = λ t w k. omega arith;
+  global-set = λ g. omega arith;
+  local-set = λ a b l w k. omega arith;
+  pushed = λ k. omega arith;
+  layered = λ n w k l. omega arith;
+  paired = λ k l. omega arith;
+}))
+
 module _ (i : Plain) (d : Data) (h : Held) (e : plainRule i (d .mem) (d .regs) ≡ ok h) where
   plainly : (P : Held → Type 0) → Effects i (d .mem) (d .regs) P → P h
   plainly P f = left P (plainRule i (d .mem) (d .regs)) h e (effect (d .mem) (d .regs) P i f)
@@ -134,16 +123,7 @@ module _ (i : Plain) (d : Data) (h : Held) (e : plainRule i (d .mem) (d .regs) �
     kept {h} g s t = same-lengths d (after d h) g s t refl z
 
   pub plain-bound : Bound d → Bound (after d h)
-  plain-bound bound = plainly (λ h. Bound (after d h)) (record {
-    valued = λ c w. omega arith;
-    primitive = λ c w. omega arith;
-    closed = λ t w k. omega arith;
-    global-set = λ g. omega arith;
-    local-set = λ a b l w k. omega arith;
-    pushed = λ k. omega arith;
-    layered = λ n w k l. omega arith;
-    paired = λ k l. omega arith;
-  })
+  plain-bound bound = let f = plain-fit i (d .mem) (d .regs) h 65535 e (omega arith) (omega arith) (omega arith) in omega arith
 
   pub plain-clean : Inside i d → Clean d → Clean (after d h)
   plain-clean inside c = plainly (λ h. Clean (after d h)) (record {
@@ -189,18 +169,6 @@ module _ (n : ℕ) (d : Data) (t : ℕ) (r : Regs) (e : callRule n (d .regs) ≡
   call-clean c = called (λ x. Clean (entered d (x .1))) (λ k. record { clean-stack = c .clean-stack; clean-store = c .clean-store; clean-frames = c .clean-frames })
 
 -- ---- make-cont
--- the stack's first n values and then a frame's cell x in the frames
-abbrev pub withCell : ℕ → ℕ → Data → Data
-withCell n x d = record {
-  regs = regs (d .regs .v) (d .regs .env) 0 (d .regs .st);
-  mem = mem (d .mem .globals) (zeroed (d .mem .stack) 0 n) (d .mem .store);
-  frames = set (sets (d .frames) (d .fr) (take n (d .mem .stack))) (d .fr + n) x;
-  fr = d .fr + n + 1;
-}
-
-abbrev pub withFrame : ℕ → ℕ → ℕ → Data → Data
-withFrame n t p d = withCell n (frameCell n t (d .regs .env) p) d
-
 module _ (n t p : ℕ) (d d′ : Data) (e : makeContRule n t p d ≡ ok d′) where
   pub continued : (P : Data → Type 0) → (d .regs .sp ≡ n → d .fr + n + 1 ≤ 2048 → P (withFrame n t p d)) → P d′
   unfolding makeContRule
@@ -223,14 +191,6 @@ module _ (n t p : ℕ) (d d′ : Data) (e : makeContRule n t p d ≡ ok d′) wh
   })
 
 -- ---- return
-abbrev pub withoutFrame : Data → Data
-withoutFrame d = record {
-  regs = regs (d .regs .v) (frameEnv (lastFrame d)) (frameCount (lastFrame d)) (d .regs .st);
-  mem = mem (d .mem .globals) (sets (zeroed (d .mem .stack) 0 (d .regs .sp)) 0 (part (d .frames) (frameBase d) (frameCount (lastFrame d)))) (d .mem .store);
-  frames = zeroed (d .frames) (frameBase d) (frameCount (lastFrame d) + 1);
-  fr = frameBase d;
-}
-
 module _ (d : Data) (t p : ℕ) (d′ : Data) (e : returnRule d ≡ backTo t p d′) where
   pub returned : (P : ℕ → ℕ → Data → Type 0) → ((d .fr ≡ 0 → ⊥) → P (frameTemplate (lastFrame d)) (framePlace (lastFrame d)) (withoutFrame d)) → P t p d′
   unfolding returnRule

@@ -1,41 +1,23 @@
 -- Two states that are the same but for the code places of their frames, where these correspond; make-cont and return keep it.
 -- Assumes nothing.
-use mathlib.Core.Path.{_≡_, refl, sym, ap, _∙_}
-use mathlib.Core.Bool.{Bool, true, false, cond}
+use mathlib.Core.Path.{_≡_, refl, sym, _∙_}
+use mathlib.Core.Bool.{false}
 use mathlib.Core.List.{List, [], _∷_}
 use Prim.Native.Nat.{ℕ, zero, suc, _+_, _-_, _<_, _≤_, _^_}
 use native.Mathlib.Omega.{arith}
-use lib.ListN.{length, getD, set, take, drop, replicate, length-set, length-take, length-drop, length-replicate}
+use lib.ListN.{length, getD, set, take, drop, replicate, length-set, length-take, length-drop}
 use lib.Seq.{sets, length-sets, getD-set-same, getD-set-other, getD-take, getD-drop, ext-getD}
-use lib.Dec.{ltb, leb, eqb}
-use borrow.Author.Tests.{ltb-true, ltb-false, leb-true, eqb-true, eqb-false, eq-eqb, ne-eqb}
-use Rattle.runs.specs.Runs.{zeroed, part}
+use lib.Dec.{leb, eqb}
+use borrow.Author.Tests.{leb-true, eq-eqb, ne-eqb}
+use Rattle.runs.specs.Runs.{part}
 use Rattle.cells.specs.Cells.{frameCell, frameCount, frameTemplate, frameEnv, framePlace}
 use Rattle.cells.specs.Laws.{frame-back}
-use Rattle.rules.specs.State.{Mem, mem, regs, Res, ok, wrong}
-use Rattle.rules.specs.Rules.{Data, Back, noFrame, backTo, lastFrame, frameBase, makeContRule, returnRule}
-use Rattle.rules.specs.Related.{ResR, okR, wrongR, need-same, BackR, noneB, someB}
-use Rattle.rules.specs.declared.Regs.{Regs}
+use Rattle.rules.specs.State.{mem, regs}
+use Rattle.rules.specs.Lists.{by-lt, sets-below, zeros-at}
+use Rattle.rules.specs.Rules.{Data, makeContRule, returnRule}
+use Rattle.rules.specs.Related.{ResR, okR, need-same, BackR, noneB, someB}
 
 -- ---- lists that agree at a place
-by-lt : {P : Type 0} (a b : ℕ) → (a < b → P) → (b ≤ a → P) → P
-by-lt {P} a b f g = pick (ltb a b) refl
-  where
-    pick : (t : Bool) → ltb a b ≡ t → P
-    pick true e = f (ltb-true a b e)
-    pick false e = g (ltb-false a b e)
-
-by-eq : {P : Type 0} (a b : ℕ) → (a ≡ b → P) → ((a ≡ b → ⊥) → P) → P
-by-eq {P} a b f g = pick (eqb a b) refl
-  where
-    pick : (t : Bool) → eqb a b ≡ t → P
-    pick true e = f (eqb-true a b e)
-    pick false e = g (eqb-false a b e)
-
-sets-below : (l vs : List ℕ) (u i : ℕ) → i < u → getD (sets l u vs) i 0 ≡ getD l i 0
-sets-below l [] u i h = refl
-sets-below l (a ∷ vs) u i h = sets-below (set l u a) vs (suc u) i (omega arith) ∙ getD-set-other l u i a 0 (λ e. omega arith)
-
 set-agrees : (f g : List ℕ) (u i a : ℕ) → length f ≡ length g → getD f i 0 ≡ getD g i 0 → getD (set f u a) i 0 ≡ getD (set g u a) i 0
 set-agrees [] [] u i a h e = refl
 set-agrees [] (y ∷ g) u i a h e = absurd (omega arith)
@@ -49,18 +31,6 @@ sets-agree : (f g vs : List ℕ) (u i : ℕ) → length f ≡ length g → getD 
 sets-agree f g [] u i h e = e
 sets-agree f g (a ∷ vs) u i h e =
     sets-agree (set f u a) (set g u a) vs (suc u) i (length-set f u a ∙ h ∙ sym (length-set g u a)) (set-agrees f g u i a h e)
-
-set-zero : (l : List ℕ) (u : ℕ) → getD (set l u 0) u 0 ≡ 0
-set-zero [] u = refl
-set-zero (x ∷ l) zero = refl
-set-zero (x ∷ l) (suc u) = set-zero l u
-
-zeros-at : (l : List ℕ) (u n i : ℕ) → u ≤ i → i < u + n → getD (zeroed l u n) i 0 ≡ 0
-zeros-at l u zero i h k = absurd (omega arith)
-zeros-at l u (suc n) i h k =
-    by-lt u i
-    (λ p. zeros-at (set l u 0) (suc u) n i p (omega arith))
-    (λ p. let e : i ≡ u = omega arith in sets-below (set l u 0) (replicate n 0) (suc u) i (omega arith) ∙ rw e (set-zero l u))
 
 part-agrees : (f g : List ℕ) (u n : ℕ) → length f ≡ length g → ((i : ℕ) → i < n → getD f (u + i) 0 ≡ getD g (u + i) 0) → part f u n ≡ part g u n
 part-agrees f g u n h e =

@@ -1,6 +1,7 @@
 -- The specs of the crate rules.
 pub mod State
 pub mod Total
+pub mod Lists
 pub mod Rules
 pub mod Fit
 pub mod Answers

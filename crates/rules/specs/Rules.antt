@@ -1,6 +1,6 @@
 -- The rules (document 01, 'Rules'), one clause each, without their code places. Checks in a step: count (10), kind (11, 14), 13, 12, 15,
 -- room (17, 18).
-use mathlib.Core.Bool.{Bool, true, false, cond, not}
+use mathlib.Core.Bool.{Bool, cond, not}
 use mathlib.Core.List.{List, [], _∷_, reverse}
 use mathlib.Core.Option.{Option, none, some}
 use Prim.Native.Nat.{ℕ, zero, suc, _+_, _-_}
@@ -151,17 +151,21 @@ pub record Data : Type 0 where
   pub frames : List ℕ
   pub fr : ℕ
 
+-- the stack's first n values and then a frame's cell x in the frames
+abbrev pub withCell : ℕ → ℕ → Data → Data
+withCell n x d = record {
+  regs = regs (d .regs .v) (d .regs .env) 0 (d .regs .st);
+  mem = mem (d .mem .globals) (zeroed (d .mem .stack) 0 n) (d .mem .store);
+  frames = set (sets (d .frames) (d .fr) (take n (d .mem .stack))) (d .fr + n) x;
+  fr = d .fr + n + 1;
+}
+
+abbrev pub withFrame : ℕ → ℕ → ℕ → Data → Data
+withFrame n t p d = withCell n (frameCell n t (d .regs .env) p) d
+
 -- the stack's values, bottom first, and then a frame cell with template t and code place p
 unfoldable pub makeContRule : ℕ → ℕ → ℕ → Data → Res Data
-makeContRule n t p d =
-    need (eqb (d .regs .sp) n) 10
-    (need (leb (d .fr + n + 1) 2048) 18
-    (ok (record {
-      regs = regs (d .regs .v) (d .regs .env) 0 (d .regs .st);
-      mem = mem (d .mem .globals) (zeroed (d .mem .stack) 0 n) (d .mem .store);
-      frames = set (sets (d .frames) (d .fr) (take n (d .mem .stack))) (d .fr + n) (frameCell n t (d .regs .env) p);
-      fr = d .fr + n + 1;
-    })))
+makeContRule n t p d = need (eqb (d .regs .sp) n) 10 (need (leb (d .fr + n + 1) 2048) 18 (ok (withFrame n t p d)))
 
 -- the last frame's cell, and where its stack cells begin
 abbrev pub lastFrame : Data → ℕ
@@ -170,6 +174,15 @@ lastFrame d = getD (d .frames) (d .fr - 1) 0
 abbrev pub frameBase : Data → ℕ
 frameBase d = d .fr - 1 - frameCount (lastFrame d)
 
+-- the state with the last frame taken off
+abbrev pub withoutFrame : Data → Data
+withoutFrame d = record {
+  regs = regs (d .regs .v) (frameEnv (lastFrame d)) (frameCount (lastFrame d)) (d .regs .st);
+  mem = mem (d .mem .globals) (sets (zeroed (d .mem .stack) 0 (d .regs .sp)) 0 (part (d .frames) (frameBase d) (frameCount (lastFrame d)))) (d .mem .store);
+  frames = zeroed (d .frames) (frameBase d) (frameCount (lastFrame d) + 1);
+  fr = frameBase d;
+}
+
 -- no frame; or a template, a place, and what the rule leaves
 pub data Back : Type 0 where
   noFrame : Back
@@ -177,12 +190,4 @@ pub data Back : Type 0 where
 
 -- stack, template, environment and place come back, v stays
 unfoldable pub returnRule : Data → Back
-returnRule d =
-    cond (eqb (d .fr) 0) noFrame
-    (backTo (frameTemplate (lastFrame d)) (framePlace (lastFrame d))
-    (record {
-      regs = regs (d .regs .v) (frameEnv (lastFrame d)) (frameCount (lastFrame d)) (d .regs .st);
-      mem = mem (d .mem .globals) (sets (zeroed (d .mem .stack) 0 (d .regs .sp)) 0 (part (d .frames) (frameBase d) (frameCount (lastFrame d)))) (d .mem .store);
-      frames = zeroed (d .frames) (frameBase d) (frameCount (lastFrame d) + 1);
-      fr = frameBase d;
-    }))
+returnRule d = cond (eqb (d .fr) 0) noFrame (backTo (frameTemplate (lastFrame d)) (framePlace (lastFrame d)) (withoutFrame d))

@@ -12,9 +12,10 @@ use Rattle.cells.specs.Cells.{cellOf, Fits}
 use Rattle.cells.specs.Laws.{closure-back, pair-back, layer-back, frame-back}
 use Rattle.cells.specs.declared.Value.{Value}
 use Rattle.rules.specs.State.{mem, regs, Held, ok}
-use Rattle.rules.specs.Rules.{Data, backTo, top, under, lastFrame, frameBase, plainRule, callRule, makeContRule, returnRule}
+use Rattle.rules.specs.Rules.{Data, backTo, top, under, lastFrame, frameBase, withFrame, withoutFrame, plainRule, callRule, makeContRule, returnRule}
 use Rattle.rules.specs.Effects.{ConstantCell, unspecified-constant, From, from-literal, from-v, from-global, from-local, from-pair, from-constant, held, left, effect}
-use Rattle.rules.specs.Clean.{Sized, Bound, after, entered, called, continued, returned, withFrame, withoutFrame, by-lt, sets-below}
+use Rattle.rules.specs.Lists.{by-lt, sets-below}
+use Rattle.rules.specs.Clean.{Sized, Bound, after, entered, called, continued, returned}
 use Rattle.rules.specs.Sound.{Layer, EnvOk, layer, Spot, ValueIn, StoreCell, a-layer, a-value, FramesOk, no-frame, frame, GlobalsOk, StackOk, StoreOk, Sound}
 use Rattle.rules.specs.Sound.{value-no-layer, constant-in, spot-value, Grows, grown, more-used, set-case, replaced, lower, env-moved, value-moved, frames-moved, store-moved, inside}
 use Rattle.rules.specs.declared.Regs.{Regs}

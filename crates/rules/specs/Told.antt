@@ -8,7 +8,7 @@ use Rattle.rules.specs.declared.Regs.{Regs}
 use Rattle.rules.specs.declared.Stepped.the-variants.{Next, Wrong}
 use Rattle.rules.specs.declared.Called.the-variants as call
 
-unequal : _≡_ {A = ℕ} 0 1 → ⊥
+pub unequal : _≡_ {A = ℕ} 0 1 → ⊥
 unequal e = omega arith
 
 pub told-next : (m m′ : Mem) (r : Regs) (x : Res Held) → out (Next r) m′ ≡ told m x → x ≡ on r m′

@@ -1,10 +1,9 @@
 -- The programs of files that are read are ok. Assumes nothing.
 use Prim.Native.Nat.{ℕ, zero, suc, _+_, _*_, _/_, _≤_, _<_}
-use native.Mathlib.Nat.{add-zero}
 use native.Mathlib.Omega.{arith}
 use mathlib.Core.Path.{_≡_, refl, ap}
 use mathlib.Core.Bool.{Bool, true, false, _&&_}
-use mathlib.Core.List.{List, [], _∷_}
+use mathlib.Core.List.{List, _∷_}
 use mathlib.Core.Option.{Option, none, some}
 use borrow.Author.Tests.{leb-true}
 use lib.Dec.{leb}
@@ -13,7 +12,7 @@ use Rattle.files.specs.Entries.{Entry, then, field, valid, entriesAt, toByte, z
 use Rattle.files.specs.EntriesLaws.{EntriesOk, entries-read}
 use Rattle.files.specs.Reading.{Got, got, refused, listAt}
 use Rattle.files.specs.ReadingLaws.{list-bits, list-valid}
-use Rattle.files.specs.AllGot.{AllGot, got-all, then-all, cond-all, nothing-all, zero-all}
+use Rattle.files.specs.AllGot.{AllGot, got-all, then-all, cond-all, nothing-all, zero-all, Each, each-at}
 use Rattle.files.specs.Tree.{Template, templateAt, templatesAt, paddedEnd, treeRead}
 use Rattle.files.specs.Linear.{Linear, codeAt, linearAt, linearsAt, linearRead}
 use Rattle.files.specs.Accepted.{orLowest, treeChecked}
@@ -25,15 +24,6 @@ use Rattle.sound.specs.Programs.{ProgramOk, TemplateOk, LinearOk, bytes-
 
 -- ---- templates one after the other, each with its number
 module _ {A : Type 0} where
-  abbrev Each : (ℕ → A → Type 0) → ℕ → List A → Type 0
-  Each Q n [] = Unit {0}
-  Each Q n (t ∷ ts) = Q n t × Each Q (n + 1) ts
-
-  each-at : (Q : ℕ → A → Type 0) (n : ℕ) (ts : List A) → Each Q n ts → (i : ℕ) → i < length ts → (d : A) → Q (n + i) (getD ts i d)
-  each-at Q n [] h i lt d = absurd (omega arith)
-  each-at Q n (t ∷ ts) h zero lt d = rw (add-zero n) (h .0)
-  each-at Q n (t ∷ ts) h (suc i) lt d = let e : n + suc i ≡ n + 1 + i = omega arith in rw e (each-at Q (n + 1) ts (h .1) i (omega arith) d)
-
   -- n of them, from number own on
   abbrev Numbered : (ℕ → A → Type 0) → ℕ → ℕ → List A → Type 0
   Numbered Q n own ts = (length ts ≡ n) × Each Q own ts

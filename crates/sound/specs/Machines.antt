@@ -2,7 +2,7 @@
 -- is a value. Assumes nothing.
 use Prim.Native.Nat.{ℕ, _≤_}
 use mathlib.Core.Path.{_≡_, refl}
-use mathlib.Core.Bool.{Bool, true, false, cond}
+use mathlib.Core.Bool.{Bool, true, false, cond, and-eq-true-iff}
 use mathlib.Core.List.{List}
 use mathlib.Core.Option.{Option, none, some}
 use borrow.Author.Tests.{eqb-true}
@@ -24,7 +24,7 @@ use Rattle.machines.specs.declared.End.{End}
 use Rattle.machines.specs.declared.End.the-variants.{Halted, Wrong, OutOfBudget, Refused}
 use Rattle.machines.specs.declared.Run.{Run}
 use Rattle.sound.specs.Programs.{ProgramOk}
-use Rattle.sound.specs.Runs.{Kept, FitGlobals, fit-globals, kept-run, value-run, both}
+use Rattle.sound.specs.Runs.{Kept, FitGlobals, fit-globals, kept-run, value-run}
 use Rattle.sound.specs.Files.{tree-ok, linear-ok}
 
 -- ---- the statements
@@ -96,7 +96,7 @@ started-ok most b m r h = lengths (rightLengths m) refl
     budget l false = refused-ok 21 0 m
 
     lengths : (c : Bool) → rightLengths m ≡ c → RanOk (cond c (cond (leb b most) (fitGlobals (lowestUnfit 0 (m .globals)) m r) (refusedRun 21 0 m)) (refusedRun 20 0 m))
-    lengths true e = budget (eqb-true (length (m .globals)) 256 (both (eqb (length (m .globals)) 256) _ e .0)) (leb b most)
+    lengths true e = budget (eqb-true (length (m .globals)) 256 (and-eq-true-iff (eqb (length (m .globals)) 256) _ .0 e .0)) (leb b most)
     lengths false e = refused-ok 20 0 m
 
 -- ---- THE LAWS: whatever the file, the budget and the memory lent

@@ -3,7 +3,7 @@
 use Prim.Native.Nat.{ℕ, zero, suc, _+_, _*_, _≤_, _<_, _^_}
 use native.Mathlib.Omega.{arith}
 use mathlib.Core.Path.{refl}
-use mathlib.Core.Bool.{Bool, true, false, cond}
+use mathlib.Core.Bool.{Bool, cond}
 use mathlib.Core.List.{List, [], _∷_}
 use mathlib.Core.Option.{Option, none, some}
 use lib.Dec.{ltb, leb, eqb}
@@ -19,7 +19,7 @@ use Rattle.files.specs.Linear.{Linear}
 use Rattle.files.specs.Table.{constantCell}
 use Rattle.files.specs.Tree.{Template}
 use Rattle.files.specs.Valid.{Bytes, Valid}
-use Rattle.rules.specs.Clean.{by-lt}
+use Rattle.rules.specs.Lists.{either, by-lt}
 use Rattle.rules.specs.Effects.{ConstantCell, integer-constant}
 use Rattle.rules.specs.SoundRules.{PlainOk}
 use Rattle.rules.specs.declared.Plain.{Plain}
@@ -98,10 +98,6 @@ module _ (own T : ℕ) where
 abbrev pub ResolvedOk : Option Plain → Type 0
 ResolvedOk none = Unit {0}
 ResolvedOk (some i) = PlainOk i
-
-either : {A : Type 0} (P : A → Type 0) (b : Bool) (x y : A) → P x → P y → P (cond b x y)
-either P true x y h k = h
-either P false x y h k = k
 
 module _ (own T : ℕ) (es : List Entry) (fit : EntriesOk own T es) where
   literal-ok : (e : Option Entry) → FoundOk own T e → ResolvedOk (asLiteral e)

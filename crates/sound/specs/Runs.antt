@@ -3,7 +3,7 @@
 use Prim.Native.Nat.{ℕ, zero, suc, _+_, _*_, _≤_, _<_, _^_}
 use native.Mathlib.Omega.{arith}
 use mathlib.Core.Path.{_≡_, refl, sym, _∙_}
-use mathlib.Core.Bool.{Bool, true, false, cond, _&&_}
+use mathlib.Core.Bool.{Bool, true, false, cond, _&&_, and-eq-true-iff}
 use mathlib.Core.List.{List, [], _∷_}
 use mathlib.Core.Option.{none, some}
 use borrow.Author.Tests.{leb-true, eqb-true}
@@ -16,7 +16,8 @@ use Rattle.files.specs.Table.{constantCell}
 use Rattle.rules.specs.State.{Held, Res, ok, wrong}
 use Rattle.rules.specs.Rules.{Data, plainRule, callRule, makeContRule, Back, noFrame, backTo, returnRule}
 use Rattle.rules.specs.Effects.{ConstantCell, unspecified-constant, integer-constant}
-use Rattle.rules.specs.Clean.{Sized, Bound, Clean, by-lt, plain-sized, plain-bound, plain-clean, call-template, call-sized, call-bound, call-clean}
+use Rattle.rules.specs.Lists.{by-lt}
+use Rattle.rules.specs.Clean.{Sized, Bound, Clean, plain-sized, plain-bound, plain-clean, call-template, call-sized, call-bound, call-clean}
 use Rattle.rules.specs.Clean.{make-cont-sized, make-cont-bound, make-cont-clean, return-template, return-sized, return-bound, return-clean}
 use Rattle.rules.specs.Sound.{Sound, empty, no-frame, constant-in, sound-inside}
 use Rattle.rules.specs.SoundRules.{PlainOk, plain-sound, call-sound, make-cont-sound, return-sound}
@@ -118,10 +119,6 @@ module _ (P : Program) (fit : ProgramOk P) where
       turn on (stop n) e = k
 
 -- ---- the start
-pub both : (a b : Bool) → a && b ≡ true → (a ≡ true) × (b ≡ true)
-both true b e = (refl, e)
-both false b e = let z : _≡_ {A = ℕ} 0 1 = cc in absurd (omega arith)
-
 -- a starting global that is not undefined is a constant's cell
 module _ (c : ℕ) (defined : c ≡ undefinedCell → ⊥) where
   plain-start : (t : ℕ) → 1 ≤ t → t ≤ 5 → c ≡ t * 0x1000000000000000 → ConstantCell c
@@ -141,8 +138,8 @@ module _ (c : ℕ) (defined : c ≡ undefinedCell → ⊥) where
       pick : (b : Bool) → cond b (eqb c (intCell (intOf c))) (leb 1 (tagOf c) && leb (tagOf c) 5 && eqb c (tagOf c * 0x1000000000000000)) ≡ true → ConstantCell c
       pick true e = rw (eqb-true c (intCell (intOf c)) e) (integer-constant (intOf c) (omega arith))
       pick false e =
-          let x = both (leb 1 (tagOf c) && leb (tagOf c) 5) (eqb c (tagOf c * 0x1000000000000000)) e in
-          let y = both (leb 1 (tagOf c)) (leb (tagOf c) 5) (x .0) in
+          let x = and-eq-true-iff (leb 1 (tagOf c) && leb (tagOf c) 5) (eqb c (tagOf c * 0x1000000000000000)) .0 e in
+          let y = and-eq-true-iff (leb 1 (tagOf c)) (leb (tagOf c) 5) .0 (x .0) in
           plain-start (tagOf c) (leb-true 1 (tagOf c) (y .0)) (leb-true (tagOf c) 5 (y .1)) (eqb-true c (tagOf c * 0x1000000000000000) (x .1))
 
 -- globals that a run is not refused for, with 20 or 22

@@ -3,23 +3,20 @@ use Prim.Native.Nat.{ℕ, zero, suc, _+_, _*_, _-_, _≤_, _<_}
 use native.Mathlib.Nat.{zero-add}
 use native.Mathlib.Omega.{arith}
 use mathlib.Core.Path.{_≡_, refl, sym, ap, _∙_}
-use mathlib.Core.Bool.{Bool, true, false, cond, _&&_}
 use mathlib.Core.List.{List, [], _∷_, _++_, map, append-assoc}
 use borrow.Author.Tests.{le-leb}
 use lib.ListN.{length, set, replicate, length-append}
 use lib.Seq.{sets}
-use lib.Dec.{leb}
-use Rattle.files.specs.Reading.{Got, got, refused}
-use Rattle.files.specs.Entries.{Entry, then, field, valid, entriesAt}
+use Rattle.files.specs.Reading.{got}
 use Rattle.files.specs.EntriesLaws.{entries-read}
-use Rattle.files.specs.EntriesRead.{slotsAt, slots-all}
-use Rattle.files.specs.Tree.{Template, templateAt, templatesAt, paddedEnd, treeRead}
+use Rattle.files.specs.EntriesRead.{slots-all}
+use Rattle.files.specs.Tree.{Template, templateAt, templatesAt, treeRead}
 use Rattle.files.specs.Table.{slotOf, rowOf, treeRows, treeTable}
 use Rattle.files.specs.TableLaws.{row-length, rows-length, tree-rows, treeStart, treeEntries}
-use Rattle.files.specs.AllGot.{tree-read}
-use Rattle.files.specs.RowFilled.{row-filled, Unfilled, row-table, row-unfilled, rowsBefore}
+use Rattle.files.specs.AllGot.{got-value, tree-read}
+use Rattle.files.specs.RowFilled.{row-filled, Unfilled, row-table, row-unfilled}
 use Rattle.tree.specs.Filled.{startFilled, rowFilled, templateFilled, filledThen, templatesFilled, countFilled, treeFilled}
-use Rattle.tree.specs.Parts.{Before, before-got, got-value, TemplateParts, template-parts, TemplatesParts, templates-parts, templates-count, FileParts, tree-parts}
+use Rattle.tree.specs.Parts.{template-parts, templates-parts, templates-count, tree-parts}
 
 -- ---- the row of a template
 module _ (s : List ℕ) (own T p : ℕ) (few : T ≤ 64) {t : Template} {q : ℕ} (read : templateAt s own T p ≡ got t q) where

@@ -1,38 +1,16 @@
 -- What a template and the templates that were read are made of, and where they end. Assumes nothing.
-use Prim.Native.Nat.{ℕ, zero, suc, _+_, _*_, _^_, _≤_, _<_}
-use native.Mathlib.Omega.{arith}
+use Prim.Native.Nat.{ℕ, zero, suc, _+_, _*_, _≤_, _<_}
 use mathlib.Core.Path.{_≡_, refl, sym, ap, _∙_}
 use mathlib.Core.Bool.{Bool, true, false, cond, _&&_}
-use mathlib.Core.List.{List, [], _∷_}
+use mathlib.Core.List.{List, _∷_}
 use borrow.Author.Tests.{leb-true}
 use lib.Dec.{leb}
 use lib.ListN.{length}
-use Rattle.fields.specs.Laws.{read-cases}
-use Rattle.files.specs.Reading.{Got, got, refused, listAt}
-use Rattle.files.specs.Entries.{Entry, then, fieldGot, field, valid, entriesAt, toByte, zeroBits}
+use Rattle.files.specs.Reading.{got, refused, listAt}
+use Rattle.files.specs.Entries.{then, field, valid, entriesAt, toByte, zeroBits}
 use Rattle.files.specs.Tree.{Template, templateAt, templatesAt, paddedEnd, treeRead}
-use Rattle.files.specs.AllGot.{AllGot, got-all, then-all, zero-all, nothing-all, field-all}
+use Rattle.files.specs.AllGot.{AllGot, got-all, then-all, zero-all, nothing-all, field-all, refused-got, got-value, then-led}
 use Rattle.files.specs.ReadingLaws.{list-bits}
-
--- ---- what was read before what was read after it
-pub record Before {A B : Type 0} (g : Got A) (f : A → ℕ → Got B) (b : B) (q : ℕ) : Type 0 where
-  pub value : A
-  pub past : ℕ
-  pub is : g ≡ got value past
-  pub on : f value past ≡ got b q
-
-pub before-got : {A B : Type 0} (g : Got A) (f : A → ℕ → Got B) {b : B} {q : ℕ} → then g f ≡ got b q → Before g f b q
-unfolding then
-before-got (got a p) f e = record { value = a; past = p; is = refl; on = e }
-before-got (refused n p) f e = let z : _≡_ {A = ℕ} 0 1 = cc in absurd (omega arith)
-
-pub got-value : {A : Type 0} {a b : A} {p q : ℕ} → _≡_ {A = Got A} (got a p) (got b q) → (a ≡ b) × (p ≡ q)
-got-value e = (cc, cc)
-
--- a field that was read ends within the file
-pub field-within : (s : List ℕ) (p w : ℕ) {v q : ℕ} → field s p w ≡ got v q → q ≤ 8 * length s
-unfolding field fieldGot
-field-within s p w {v} {q} e = read-cases s p w (λ f. fieldGot p f ≡ got v q → q ≤ 8 * length s) (λ e. let z : _≡_ {A = ℕ} 0 1 = cc in absurd (omega arith)) (λ h e. rw (← got-value e .1) h) e
 
 -- ---- a template t that ends at q
 pub record TemplateParts (s : List ℕ) (own T p : ℕ) (t : Template) (q : ℕ) : Type 0 where
@@ -46,18 +24,21 @@ pub record TemplateParts (s : List ℕ) (own T p : ℕ) (t : Template) (q : ℕ)
 pub template-parts : (s : List ℕ) (own T p : ℕ) {t : Template} {q : ℕ} → templateAt s own T p ≡ got t q → TemplateParts s own T p t q
 unfolding templateAt
 template-parts s own T p {t} {q} e =
-    let a = before-got (field s p 8) _ e in
-    let b = before-got (entriesAt s own T (a .value) (a .past)) _ (a .on) in
-    let k = before-got (listAt s 15 (b .past)) _ (b .on) in
-    let i = got-value (k .on) in
+    then-led (field s p 8) _ e
+    (λ n r counted on₁.
+    then-led (entriesAt s own T n r) _ on₁
+    (λ es u entries on₂.
+    then-led (listAt s 15 u) _ on₂
+    (λ c z list on₃.
+    let i = got-value on₃ in
     record {
-      count = a .value;
-      first = a .past;
-      counted = a .is;
-      few = got-all (λ v. v < 256) (field-all s p 8) (a .is);
-      entries = b .is ∙ ap (λ (u : Template). got (u .entries) (u .start)) (i .0);
-      list = ap (λ (u : Template). listAt s 15 (u .start)) (sym (i .0)) ∙ k .is ∙ ap (λ (u : Template). got (u .code) (k .past)) (i .0) ∙ ap (got (t .code)) (i .1);
-    }
+      count = n;
+      first = r;
+      counted = counted;
+      few = got-all (λ v. v < 256) (field-all s p 8) counted;
+      entries = entries ∙ ap (λ (u : Template). got (u .entries) (u .start)) (i .0);
+      list = ap (λ (u : Template). listAt s 15 (u .start)) (sym (i .0)) ∙ list ∙ ap (λ (u : Template). got (u .code) z) (i .0) ∙ ap (got (t .code)) (i .1);
+    })))
 
 -- ---- templates ts from number own on, the last of which ends at q
 pub record TemplatesParts (s : List ℕ) (T own n p : ℕ) (ts : List Template) (q : ℕ) : Type 0 where
@@ -71,10 +52,10 @@ pub record TemplatesParts (s : List ℕ) (T own n p : ℕ) (ts : List Template) 
 pub templates-parts : (s : List ℕ) (T own n p : ℕ) {ts : List Template} {q : ℕ} → templatesAt s T own (suc n) p ≡ got ts q → TemplatesParts s T own n p ts q
 unfolding templatesAt
 templates-parts s T own n p {ts} {q} e =
-    let a = before-got (templateAt s own T p) _ e in
-    let b = before-got (templatesAt s T (own + 1) n (a .past)) _ (a .on) in
-    let i = got-value (b .on) in
-    record { head = a .value; tail = b .value; next = a .past; first = a .is; rest = b .is ∙ ap (got (b .value)) (i .1); are = sym (i .0) }
+    then-led (templateAt s own T p) _ e
+    (λ t r first on.
+    then-led (templatesAt s T (own + 1) n r) _ on
+    (λ us z rest end. let i = got-value end in record { head = t; tail = us; next = r; first = first; rest = rest ∙ ap (got us) (i .1); are = sym (i .0) }))
 
 pub templates-within : (s : List ℕ) (T own n p : ℕ) {ts : List Template} {q : ℕ} → p ≤ 8 * length s → templatesAt s T own n p ≡ got ts q → q ≤ 8 * length s
 unfolding templatesAt
@@ -111,29 +92,27 @@ pub tree-parts : (s : List ℕ) {ts : List Template} {q : ℕ} → treeRead s �
 unfolding treeRead
 tree-parts s {ts} {q} e = size (leb (length s) 65536) refl e
   where
-    none : {A : Type 0} {n p : ℕ} → _≡_ {A = Got (List Template)} (refused n p) (got ts q) → A
-    none e = let z : _≡_ {A = ℕ} 0 1 = cc in absurd (omega arith)
-
     number : (T p : ℕ) → length s ≤ 65536 → field s 0 8 ≡ got T p → (a b : Bool) → leb 1 T ≡ a → leb T 64 ≡ b
         → valid 0 (a && b) (then (templatesAt s T 0 T p) (λ us r. paddedEnd s us r)) ≡ got ts q → FileParts s ts q
     number T p h f true true i j e =
-        let a = before-got (templatesAt s T 0 T p) _ e in
-        let k : ts ≡ a .value = got-all (λ us. us ≡ a .value) (end-same s (a .value) (a .past)) (a .on) in
+        then-led (templatesAt s T 0 T p) _ e
+        (λ us r read on.
+        let k : ts ≡ us = got-all (λ vs. vs ≡ us) (end-same s us r) on in
         record {
           count = T;
           first = p;
-          past = a .past;
+          past = r;
           short = h;
           counted = f;
           some = leb-true 1 T i;
           few = leb-true T 64 j;
-          read = a .is ∙ ap (λ (us : List Template). got us (a .past)) (sym k);
-          end = ap (λ (us : List Template). paddedEnd s us (a .past)) k ∙ a .on;
-        }
-    number T p h f true false i j e = none e
-    number T p h f false b i j e = none e
+          read = read ∙ ap (λ (us : List Template). got us r) (sym k);
+          end = ap (λ (us : List Template). paddedEnd s us r) k ∙ on;
+        })
+    number T p h f true false i j e = refused-got e
+    number T p h f false b i j e = refused-got e
 
     size : (b : Bool) → leb (length s) 65536 ≡ b
         → cond b (then (field s 0 8) (λ T p. valid 0 (leb 1 T && leb T 64) (then (templatesAt s T 0 T p) (λ us r. paddedEnd s us r)))) (refused 1 0) ≡ got ts q → FileParts s ts q
-    size true i e = let a = before-got (field s 0 8) _ e in number (a .value) (a .past) (leb-true (length s) 65536 i) (a .is) (leb 1 (a .value)) (leb (a .value) 64) refl refl (a .on)
-    size false i e = none e
+    size true i e = then-led (field s 0 8) _ e (λ T p first on. number T p (leb-true (length s) 65536 i) first (leb 1 T) (leb T 64) refl refl on)
+    size false i e = refused-got e

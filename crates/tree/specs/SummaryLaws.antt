@@ -1,31 +1,22 @@
 -- The summary of the templates, one after the other, is the summary of all. Assumes nothing.
-use Prim.Native.Nat.{ℕ, zero, suc, _+_, _*_, _/_, _≤_, _<_}
+use Prim.Native.Nat.{ℕ, _+_, _/_, _≤_, _<_}
 use native.Mathlib.Nat.{add-zero, add-assoc}
 use native.Mathlib.Omega.{arith}
-use mathlib.Core.Path.{_≡_, refl, sym, ap, _∙_}
+use mathlib.Core.Path.{_≡_, refl, ap, _∙_}
 use mathlib.Core.Bool.{Bool, true, false, cond}
 use mathlib.Core.List.{List, [], _∷_, _++_}
-use mathlib.Core.Option.{Option, none, some}
+use mathlib.Core.Option.{some}
 use borrow.Author.Tests.{lt-ltb}
-use lib.ListN.{length, drop, length-append}
-use Rattle.files.specs.Reading.{Got, got, refused}
+use lib.ListN.{length, length-append}
+use Rattle.files.specs.EntriesLaws.{bytes-length}
 use Rattle.files.specs.Tree.{Template}
 use Rattle.files.specs.Flat.{flat, offsetTemplate}
 use Rattle.files.specs.Grammar.{lowest, closedTemplate, indexedTemplate}
-use Rattle.files.specs.Linear.{entriesBits, bytesFrom, bytesOf, threeBytes, templateBytes, templatesBytes, linearFile}
+use Rattle.files.specs.Linear.{entriesBits, bytesOf, threeBytes, templateBytes, templatesBytes, linearFile}
 use Rattle.tree.specs.declared.Summary.{Summary}
-use Rattle.tree.specs.Summary.{reportOf, numberOr64, summaryOf, templatesTold, lower, summaryAfter, begun, summaryFrom, toldFrom}
+use Rattle.tree.specs.Summary.{reportOf, numberOr64, summaryOf, lower, summaryAfter, begun, summaryFrom}
 
 -- ---- how many bytes a template takes
-bytes-from-length : (n : ℕ) (b : List ℕ) → length (bytesFrom n b) ≡ n
-unfolding bytesFrom
-bytes-from-length zero b = refl
-bytes-from-length (suc n) b = ap suc (bytes-from-length n (drop 8 b))
-
-pub bytes-length : (b : List ℕ) → length (bytesOf b) ≡ (length b + 7) / 8
-unfolding bytesOf
-bytes-length b = bytes-from-length ((length b + 7) / 8) b
-
 pub template-length : (t : Template) → length (templateBytes t) ≡ 1 + (length (entriesBits (t .entries)) + 7) / 8 + (3 + length (flat (t .code)))
 unfolding templateBytes
 template-length t =

@@ -1,9 +1,8 @@
 -- What the reader of a tree file does at each step, by what was read there. Assumes nothing.
-use Prim.Native.Nat.{ℕ, zero, suc, _+_, _*_, _-_, _≤_, _<_}
+use Prim.Native.Nat.{ℕ, _*_, _≤_, _<_}
 use native.Mathlib.Omega.{arith}
 use mathlib.Core.Path.{_≡_, refl, sym, ap, _∙_}
-use mathlib.Core.Bool.{Bool, true, false, cond, _&&_}
-use mathlib.Core.List.{List, [], _∷_}
+use mathlib.Core.List.{List}
 use borrow.Author.Tests.{le-leb, lt-leb}
 use lib.ListN.{length, replicate}
 use Rattle.cells.specs.declared.BitPlace.{BitPlace}
@@ -11,6 +10,7 @@ use Rattle.files.specs.declared.Padding.{Padding}
 use Rattle.files.specs.declared.Padding.the-variants.{Zero, Refused as Set}
 use Rattle.files.specs.Reading.{Got, got, refused}
 use Rattle.files.specs.Entries.{then, field, toByte, zeroBits, nothingMore}
+use Rattle.files.specs.AllGot.{field-got}
 use Rattle.files.specs.EntriesRead.{paddingTold}
 use Rattle.files.specs.PaddingSteps.{Padded, bad, zero-told, nothing-told}
 use Rattle.files.specs.Tree.{Template, templatesAt, paddedEnd, treeRead}
@@ -21,7 +21,7 @@ use Rattle.tree.specs.declared.TreeFile.{TreeFile}
 use Rattle.tree.specs.declared.TreeFile.the-variants.{Read, Refused}
 use Rattle.tree.specs.Summary.{summaryOf, templatesTold, treeTold}
 use Rattle.tree.specs.Filled.{templatesFilled, countFilled, treeFilled}
-use Rattle.tree.specs.Parts.{templates-within, field-within}
+use Rattle.tree.specs.Parts.{templates-within}
 
 -- ---- the padding after the last list, which ends at p, and the end
 module _ {A : Type 0} (a : A) (s : List ℕ) (p : ℕ) where
@@ -99,7 +99,7 @@ module _ (s : List ℕ) where
           all = templates-told (templatesAt s T 0 T p) (sym told ∙ is)
 
           pub file-within : q .0 ≤ 8 * length s
-          file-within = templates-within s T 0 T p (field-within s 0 8 counted) (all .is)
+          file-within = templates-within s T 0 T p (field-got s 0 8 counted .2) (all .is)
 
           module _ {z : Padding} (ended : z ≡ paddingTold (paddedEnd s (tt {0}) (q .0))) where
             pub file-set : {x : BitPlace} → z ≡ Set x → TreeDone (Refused 5 x) t

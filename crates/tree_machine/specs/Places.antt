@@ -1,5 +1,5 @@
 -- What is fetched in an accepted tree file, by its links and its table, is what stands there. Assumes nothing.
-use Prim.Native.Nat.{ℕ, zero, suc, _+_, _*_, _-_, _≤_, _<_}
+use Prim.Native.Nat.{ℕ, zero, suc, _+_, _*_, _≤_, _<_}
 use native.Mathlib.Omega.{arith}
 use mathlib.Core.Path.{_≡_, refl, _∙_}
 use mathlib.Core.Bool.{Bool, true, false}
@@ -8,9 +8,9 @@ use mathlib.Core.Option.{Option, none, some}
 use borrow.Author.Tests.{ne-eqb}
 use lib.ListN.{length, getD, List·getD-eq-default}
 use Rattle.files.specs.Grammar.{isClosed, lowest, closedTemplate, indexedTemplate}
-use Rattle.files.specs.Reading.{Got, got, refused}
+use Rattle.files.specs.Reading.{got}
 use Rattle.files.specs.Table.{treeTable}
-use Rattle.files.specs.AllGot.{tree-read}
+use Rattle.files.specs.AllGot.{refused-got, got-value, then-led, tree-read}
 use Rattle.files.specs.TableLaws.{Few, treeEntries, row-start, tree-slot, tree-beyond}
 use Rattle.files.specs.Tree.{Template, treeRead}
 use Rattle.files.specs.Accepted.{orLowest, treeChecked}
@@ -18,8 +18,7 @@ use Rattle.links.specs.Links.{linkedAll}
 use Rattle.links.specs.Templates.{TemplateLaid, short, template-there, template-stands, template-links}
 use Rattle.machines.specs.Fetched.{Fetched, bad, look, treeAt, noTemplate}
 use Rattle.machines.specs.Slots.{slotAt, RowStands, row-stands, slot-resolve}
-use Rattle.tree.specs.Parts.{before-got, got-value}
-use Rattle.rules.specs.Clean.{by-lt}
+use Rattle.rules.specs.Lists.{by-lt}
 use Rattle.tree_code.specs.Fetch.{fetchedAt}
 use Rattle.tree_machine.specs.Real.{fits, false-true, Real, first-real, real-within}
 use Rattle.tree_machine.specs.Look.{seen, Leads, Found, look-found}
@@ -32,16 +31,12 @@ pub record Accepted (s : List ℕ) (ts : List Template) (q : ℕ) : Type 0 where
 pub accepted-parts : (s : List ℕ) {ts : List Template} {q : ℕ} → treeChecked s ≡ got ts q → Accepted s ts q
 unfolding treeChecked orLowest
 accepted-parts s {ts} {q} e =
-    let a = before-got (treeRead s) _ e in
-    by (a .value) (a .past) (lowest closedTemplate 0 (a .value)) (lowest indexedTemplate 0 (a .value)) (a .is) refl (a .on)
+    then-led (treeRead s) _ e (λ us r first on. by us r (lowest closedTemplate 0 us) (lowest indexedTemplate 0 us) first refl on)
   where
-    refused-here : {A : Type 0} {n p : ℕ} → _≡_ {A = Got (List Template)} (refused n p) (got ts q) → A
-    refused-here e = let z : _≡_ {A = ℕ} 0 1 = cc in absurd (omega arith)
-
     by : (us : List Template) (r : ℕ) (o i : Option ℕ) → treeRead s ≡ got us r → lowest closedTemplate 0 us ≡ o → orLowest 6 o (orLowest 7 i (got us r)) ≡ got ts q → Accepted s ts q
     by us r none none e h on = let k = got-value on in record { read = e ∙ on; closed = rw (k .0) at h }
-    by us r none (some t) e h on = refused-here on
-    by us r (some t) i e h on = refused-here on
+    by us r none (some t) e h on = refused-got on
+    by us r (some t) i e h on = refused-got on
 
 none-refused : (ok : Template → Bool) (n : ℕ) (ts : List Template) (i : ℕ) (d : Template) → lowest ok n ts ≡ none → i < length ts → ok (getD ts i d) ≡ true
 unfolding lowest

@@ -2,13 +2,13 @@
 use Prim.Native.Nat.{ℕ, _+_, _*_, _≤_}
 use native.Mathlib.Omega.{arith}
 use mathlib.Core.Path.{_≡_, refl}
-use mathlib.Core.Bool.{Bool, true, false, cond, not, _&&_, _||_}
+use mathlib.Core.Bool.{Bool, true, false, cond, not, _&&_, _||_, and-eq-true-iff}
 use mathlib.Core.Logic.{_⊎_, inl, inr}
 use mathlib.Core.List.{List}
 use lib.ListN.{length}
 use Rattle.files.specs.Code.{Code, done, neutral, return, call, unless-false, make-cont, bits}
 use Rattle.files.specs.Grammar.{isEmpty, isOpen, isClosed}
-use Rattle.links.specs.LinksLaws.{some-bits}
+use Rattle.files.specs.ReadingLaws.{least-bits}
 
 -- ---- lists that are as they must be
 -- k: the list runs out, so it is open or empty; else it is closed
@@ -18,10 +18,6 @@ fits false c = isClosed c
 
 pub false-true : {A : Type 0} → _≡_ {A = Bool} false true → A
 false-true e = let z : _≡_ {A = ℕ} 0 1 = cc in absurd (omega arith)
-
-pub and-both : (a b : Bool) → a && b ≡ true → (a ≡ true) × (b ≡ true)
-and-both true b e = (refl, e)
-and-both false b e = false-true e
 
 or-one : {A : Type 0} (a b : Bool) → a || b ≡ true → (a ≡ true → A) → (b ≡ true → A) → A
 or-one true b e f g = f refl
@@ -51,15 +47,15 @@ open-not-closed (neutral op ns r) e = out-not-closed r (open-not-closed r) e
 open-not-closed (return r) e = false-true e
 open-not-closed (call n r) e = false-true e
 open-not-closed (unless-false x y r) e =
-    let a = and-both (isOpen x && isOpen y) (isEmpty r || isOpen r) e in
-    let b = and-both (isOpen x) (isOpen y) (a .0) in
+    let a = and-eq-true-iff (isOpen x && isOpen y) (isEmpty r || isOpen r) .0 e in
+    let b = and-eq-true-iff (isOpen x) (isOpen y) .0 (a .0) in
     rw (a .0, out-not-closed r (open-not-closed r) (a .1), open-not-closed x (b .0)) (no-and (isEmpty r) (isClosed y))
   where
     no-and : (a b : Bool) → a && false && b ≡ false
     no-and true b = refl
     no-and false b = refl
 open-not-closed (make-cont n x r) e =
-    let a = and-both (isEmpty x || isOpen x) (isClosed r) e in
+    let a = and-eq-true-iff (isEmpty x || isOpen x) (isClosed r) .0 e in
     rw (out-not-closed x (open-not-closed x) (a .0))
 
 pub fits-not-closed : (c : Code) → fits true c ≡ true → isClosed c ≡ false
@@ -75,18 +71,18 @@ pub data Arms (k : Bool) (x y r : Code) : Type 0 where
 pub arms : (k : Bool) (x y r : Code) → fits k (unless-false x y r) ≡ true → Arms k x y r
 unfolding fits isEmpty isOpen isClosed
 arms true x y r e =
-    let a = and-both (isOpen x && isOpen y) (isEmpty r || isOpen r) e in
-    let b = and-both (isOpen x) (isOpen y) (a .0) in
+    let a = and-eq-true-iff (isOpen x && isOpen y) (isEmpty r || isOpen r) .0 e in
+    let b = and-eq-true-iff (isOpen x) (isOpen y) .0 (a .0) in
     open-arms (open-not-closed x (b .0)) (or-right (isEmpty x) (isOpen x) (b .0)) (or-right (isEmpty y) (isOpen y) (b .1)) (a .1)
 arms false x y r e =
     or-one (isOpen x && isOpen y && isClosed r) (isEmpty r && isClosed x && isClosed y) e
     (λ e.
-    let a = and-both (isOpen x && isOpen y) (isClosed r) e in
-    let b = and-both (isOpen x) (isOpen y) (a .0) in
+    let a = and-eq-true-iff (isOpen x && isOpen y) (isClosed r) .0 e in
+    let b = and-eq-true-iff (isOpen x) (isOpen y) .0 (a .0) in
     open-arms (open-not-closed x (b .0)) (or-right (isEmpty x) (isOpen x) (b .0)) (or-right (isEmpty y) (isOpen y) (b .1)) (a .1))
     (λ e.
-    let a = and-both (isEmpty r && isClosed x) (isClosed y) e in
-    let b = and-both (isEmpty r) (isClosed x) (a .0) in
+    let a = and-eq-true-iff (isEmpty r && isClosed x) (isClosed y) .0 e in
+    let b = and-eq-true-iff (isEmpty r) (isClosed x) .0 (a .0) in
     closed-arms (b .1) refl (a .1) (b .0))
 
 -- the saved list and the rest of a make-cont
@@ -96,8 +92,8 @@ pub data Saved (k : Bool) (x r : Code) : Type 0 where
 
 pub saved : (k : Bool) (n : ℕ) (x r : Code) → fits k (make-cont n x r) ≡ true → Saved k x r
 unfolding fits isEmpty isOpen isClosed
-saved true n x r e = let a = and-both (isEmpty x || isOpen x) (isClosed r) e in open-saved (out-not-closed x (open-not-closed x) (a .0)) refl (a .0) (a .1)
-saved false n x r e = let a = and-both (isClosed x) (isClosed r) e in closed-saved (a .0) (a .1)
+saved true n x r e = let a = and-eq-true-iff (isEmpty x || isOpen x) (isClosed r) .0 e in open-saved (out-not-closed x (open-not-closed x) (a .0)) refl (a .0) (a .1)
+saved false n x r e = let a = and-eq-true-iff (isClosed x) (isClosed r) .0 e in closed-saved (a .0) (a .1)
 
 pub after-neutral : (k : Bool) (op : ℕ) (ns : List ℕ) (r : Code) → fits k (neutral op ns r) ≡ true → fits k r ≡ true
 unfolding fits isEmpty isOpen isClosed
@@ -133,15 +129,15 @@ Within a b p = (a ≤ p) × (p + 5 ≤ a + b)
 pub real-within : (k : Bool) (a : ℕ) (c : Code) (p : ℕ) → Real k a c p → Within a (bits c) p
 unfolding Real bits
 real-within k a done p h = omega arith
-real-within k a (neutral op ns r) p (inl e) = omega (arith, some-bits r)
+real-within k a (neutral op ns r) p (inl e) = omega (arith, least-bits r)
 real-within k a (neutral op ns r) p (inr h) = omega (arith, real-within k _ r p h)
-real-within k a (return r) p e = omega (arith, some-bits r)
-real-within k a (call n r) p e = omega (arith, some-bits r)
-real-within k a (unless-false x y r) p (inl e) = omega (arith, some-bits r)
+real-within k a (return r) p e = omega (arith, least-bits r)
+real-within k a (call n r) p e = omega (arith, least-bits r)
+real-within k a (unless-false x y r) p (inl e) = omega (arith, least-bits r)
 real-within k a (unless-false x y r) p (inr (inl h)) = omega (arith, real-within _ _ x p h)
 real-within k a (unless-false x y r) p (inr (inr (inl h))) = omega (arith, real-within _ _ y p h)
 real-within k a (unless-false x y r) p (inr (inr (inr h))) = omega (arith, real-within _ _ r p h)
-real-within k a (make-cont n x r) p (inl e) = omega (arith, some-bits r)
+real-within k a (make-cont n x r) p (inl e) = omega (arith, least-bits r)
 real-within k a (make-cont n x r) p (inr (inl h)) = omega (arith, real-within _ _ x p h)
 real-within k a (make-cont n x r) p (inr (inr h)) = omega (arith, real-within _ _ r p h)
 

@@ -1,7 +1,8 @@
 -- `emit::measure` meets its contract: what is read is told, and what is refused was not read. Assumes nothing.
 use mathlib.Core.Path.{sym, _∙_}
+use Rattle.files.specs.AllGot.{refused-got}
 use Rattle.lists.specs.ReadLaws.{listed-done, listed-refused}
-use Rattle.emit.specs.Steps.{measured-done, refused-got}
+use Rattle.emit.specs.Steps.{measured-done}
 use borrow.Author.Needs.{needs}
 use Rattle.emit.proofs.measure.Statement.{statement}
 use Rattle.emit.proofs.measure.Tie as tie
@@ -19,7 +20,7 @@ returns : tie.Need-returns
 returns c = λ k q e. let l = listed-done _ _ _ _ _ (sym (c .before .before .before .before .read-list .ensures) ∙ c .before .before .next .given .1) in measured-done _ _ _ _ (sym (l .1) ∙ e) (l .2)
 
 returns-2 : tie.Need-returns-2
-returns-2 c = λ k q e. let l = listed-refused _ _ _ _ _ (sym (c .before .before .before .read-list .ensures) ∙ c .before .next2 .given .1) in absurd (refused-got (sym l ∙ e))
+returns-2 c = λ k q e. let l = listed-refused _ _ _ _ _ (sym (c .before .before .before .read-list .ensures) ∙ c .before .next2 .given .1) in refused-got (sym l ∙ e)
 
 pub measure-spec : {M : Type 1} → statement M
 measure-spec =
