@@ -1,6 +1,7 @@
 /* The exporter's library for C: link target/staticlib/libexporter.a, which `rt staticlib exporter` makes (x86-64 Linux).
    Document 01 has the files, cells, rules and numbers. A slice is a pointer and then a length in elements: the pointer is
-   aligned and not null, also where the length is 0, and no two slices of a call overlap. Nothing is kept between calls. */
+   aligned and not null, also where the length is 0, and no two slices of a call overlap. Nothing is kept between calls,
+   nothing is allocated; a call uses up to 600 KB of its thread's stack. */
 #ifndef EXPORTER_H
 #define EXPORTER_H
 

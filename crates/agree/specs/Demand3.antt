@@ -7,7 +7,7 @@
 -- machine's steps plus its jumps, and there are never more jumps than open conditionals that took their first arm.
 use Prim.Native.Nat.{ℕ, _+_, _*_, _≤_}
 use mathlib.Core.Path.{_≡_}
-use mathlib.Core.Bool.{Bool, true, cond}
+use mathlib.Core.Bool.{true, cond}
 use mathlib.Core.List.{List, map}
 use mathlib.Core.Option.{none}
 use lib.Dec.{eqb}
@@ -20,7 +20,6 @@ use Rattle.files.specs.Accepted.{treeChecked}
 use Rattle.flatten.specs.Flatten.{flattened}
 use Rattle.machines.specs.Machine.{Counts, noCounts, treeProgram, linearProgram}
 use Rattle.machines.specs.Runs.{Memory, Ran, ran, rightLengths, lowestUnfit, programRun, treeRun, linearRun}
-use Rattle.machines.specs.declared.End.{End}
 use Rattle.machines.specs.declared.End.the-variants.{Halted, OutOfBudget}
 use Rattle.machines.specs.declared.Run.{Run}
 

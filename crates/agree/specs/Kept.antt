@@ -1,19 +1,18 @@
 -- The data rules keep two states the same but for their frames' code places. Assumes nothing.
 use Prim.Native.Nat.{ℕ, _+_, _≤_, _<_, _^_}
 use native.Mathlib.Omega.{arith}
-use mathlib.Core.Path.{_≡_, refl, sym, ap, _∙_, subst}
+use mathlib.Core.Path.{_≡_, refl, ap, subst}
 use mathlib.Core.Bool.{Bool, true, false, not}
-use mathlib.Core.List.{List}
 use mathlib.Core.Option.{Option, none, some}
 use lib.ListN.{getD, take}
 use lib.Dec.{ltb, leb, eqb}
 use borrow.Author.Tests.{leb-true}
-use Rattle.cells.specs.Cells.{tagOf, undefinedCell, closureTemplate, closureEnv}
+use Rattle.cells.specs.Cells.{tagOf, undefinedCell}
 use Rattle.rules.specs.State.{Mem, Held, Res, ok, wrong, need}
 use Rattle.rules.specs.Total.{allIntegers, within32, totalOf}
 use Rattle.rules.specs.Rules.{Data, plainRule, literalRule, closureRule, heldRule, globalRule, setGlobalRule, walk, found, localRule, setLocalRule, pushRule, makeEnvRule, checkArgsRule}
-use Rattle.rules.specs.Rules.{top, consRule, carRule, cdrRule, eqvRule, addRule, callRule, isFalse, returnRule, makeContRule}
-use Rattle.rules.specs.Related.{ResR, okR, wrongR, need-same, BackR}
+use Rattle.rules.specs.Rules.{top, consRule, carRule, cdrRule, eqvRule, addRule, callRule, isFalse}
+use Rattle.rules.specs.Related.{ResR, okR, wrongR, need-same}
 use Rattle.rules.specs.Frames.{Same, Savable, keep-same, back-same}
 use Rattle.rules.specs.declared.Regs.{Regs}
 use Rattle.rules.specs.declared.Plain.{Plain}

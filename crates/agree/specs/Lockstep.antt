@@ -2,12 +2,11 @@
 use Prim.Native.Nat.{ℕ, zero, suc, _+_, _*_, _≤_}
 use native.Mathlib.Omega.{arith}
 use native.Mathlib.Nat.{le-of-mul-le-mul-left}
-use mathlib.Core.Path.{_≡_, refl, sym, ap, _∙_, subst}
+use mathlib.Core.Path.{_≡_, refl, sym, _∙_}
 use mathlib.Core.Bool.{Bool, true, false, cond}
-use Rattle.rules.specs.State.{Res, ok, wrong, Held}
-use Rattle.rules.specs.Rules.{Data, plainRule, callRule, makeContRule, Back, noFrame, backTo, returnRule, isFalse}
+use Rattle.rules.specs.State.{Res}
+use Rattle.rules.specs.Rules.{Data, plainRule, callRule, makeContRule, Back, returnRule, isFalse}
 use Rattle.rules.specs.Related.{ResR, okR, wrongR, BackR, noneB, someB}
-use Rattle.rules.specs.declared.Regs.{Regs}
 use Rattle.rules.specs.declared.Plain.{Plain}
 use Rattle.machines.specs.Fetched.{Fetched, plain, returns, calls, branches, saves, jumps, bad}
 use Rattle.machines.specs.Machine.{Program, State, at, Step, go, halt, stop, bind, applied, called, returned, act, here, step}

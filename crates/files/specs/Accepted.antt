@@ -1,6 +1,5 @@
 -- Which tree files are accepted (document 01, 'File refusals'): 1 to 5 in reading order, then 6 over all templates, then 7, then 8.
 use Prim.Native.Nat.{ℕ}
-use mathlib.Core.Bool.{Bool}
 use mathlib.Core.List.{List}
 use mathlib.Core.Option.{Option, none, some}
 use Rattle.files.specs.Reading.{Got, got, refused}

@@ -2,11 +2,9 @@
 -- share a link). At unless-false: the first bit of the second arm; at make-cont: the first bit of its rest; at a list's end: where
 -- execution goes on. After an arm that is what follows its conditional, after a saved list the end of the list that holds its make-cont.
 use Prim.Native.Nat.{ℕ, _+_, _*_, _/_}
-use mathlib.Core.Path.{_≡_}
 use mathlib.Core.List.{List, [], _∷_}
 use lib.ListN.{length, getD, set}
 use Rattle.files.specs.Code.{Code, done, neutral, return, call, unless-false, make-cont, bits}
-use Rattle.files.specs.Reading.{Got, got, refused}
 use Rattle.files.specs.Tree.{Template}
 
 -- the link of a place

@@ -1,24 +1,23 @@
 -- What stands at a place, by what its fields and its lists are read as: one law for each way through it. Assumes nothing.
 use Prim.Native.Nat.{ℕ, zero, suc, _+_, _*_, _-_, _≤_, _<_}
 use native.Mathlib.Omega.{arith}
-use mathlib.Core.Path.{_≡_, refl, sym, ap, _∙_}
+use mathlib.Core.Path.{_≡_, refl, sym, ap}
 use mathlib.Core.Bool.{Bool, true, false, cond}
-use mathlib.Core.List.{List, [], _∷_}
+use mathlib.Core.List.{List, []}
 use borrow.Author.Tests.{leb-true, leb-false}
 use lib.ListN.{length, getD}
 use lib.Dec.{eqb, leb}
 use Rattle.cells.specs.declared.BitPlace.{BitPlace}
 use Rattle.fields.specs.declared.Field.the-variants.{Read, Cut}
-use Rattle.fields.specs.Field.{fieldAt, fieldRead}
+use Rattle.fields.specs.Field.{fieldRead}
 use Rattle.fields.specs.Laws.{whole, cut}
 use Rattle.files.specs.Code.{Code, neutral-i, return-i, call-i, simple, bits}
-use Rattle.files.specs.Reading.{Got, got, refused, Head, stop, item, bad, Deep, bottom, below, withField, shaped, headAt, deepOf, listAt}
+use Rattle.files.specs.Reading.{got, refused, item, bottom, shaped, listAt}
 use Rattle.files.specs.ReadingLaws.{list-bits}
 use Rattle.files.specs.Heads.{one-cut, one-read, first-cut, second-cut, two-read, first-arm-refused, second-arm-refused, conditional-read, count-cut, saved-refused, make-cont-read}
 use Rattle.lists.specs.Pass.{simpleAt, deepAt}
 use Rattle.links.specs.Parts.{place, instrParts, partsOf}
-use Rattle.links.specs.declared.Parts.{Parts}
-use Rattle.links.specs.declared.Parts.the-variants.{End, Simple, Arms, Saved, Bad}
+use Rattle.links.specs.declared.Parts.the-variants.{Simple, Arms, Saved, Bad}
 
 -- ---- an instruction without lists
 simple-item : (p v : ℕ) (ns : List ℕ) (q : ℕ) → Simple (place q) ≡ partsOf p (item (simple v ns) q)

@@ -1,20 +1,19 @@
 -- The links of a whole tree file, template by template. Assumes nothing.
-use Prim.Native.Nat.{ℕ, zero, suc, _+_, _*_, _-_, _≤_, _<_}
+use Prim.Native.Nat.{ℕ, _+_, _*_, _-_, _≤_, _<_}
 use native.Mathlib.Numerals.{add-one}
-use native.Mathlib.Nat.{add-zero, zero-add}
+use native.Mathlib.Nat.{add-zero}
 use native.Mathlib.Omega.{arith}
-use mathlib.Core.Path.{_≡_, refl, sym, ap, _∙_}
-use mathlib.Core.List.{List, [], _∷_}
+use mathlib.Core.Path.{_≡_, ap, _∙_}
+use mathlib.Core.List.{List, []}
 use lib.ListN.{length, getD, drop}
 use lib.Seq.{drop-cons, drop-length}
-use Rattle.files.specs.Code.{Code, done, bits}
+use Rattle.files.specs.Code.{done, bits}
 use Rattle.files.specs.Reading.{Got, got, refused, listAt}
-use Rattle.files.specs.ReadingLaws.{list-bits}
 use Rattle.files.specs.Table.{treeTable}
 use Rattle.files.specs.AllGot.{tree-read}
 use Rattle.files.specs.TableLaws.{row-start, tree-slot}
 use Rattle.files.specs.Tree.{Template, treeRead}
-use Rattle.links.specs.Links.{linked, linkedAll}
+use Rattle.links.specs.Links.{linkedAll}
 use Rattle.links.specs.Parts.{Whole, linkedGot}
 use Rattle.links.specs.Templates.{short, template-there}
 

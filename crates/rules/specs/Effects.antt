@@ -1,10 +1,10 @@
 -- What the plain rules leave, in eight cases: what holds in each of them holds of every plain rule that goes on. Assumes nothing.
 use mathlib.Core.Path.{_≡_, refl}
 use mathlib.Core.Bool.{Bool, true, false, cond, not}
-use mathlib.Core.List.{List, [], _∷_, reverse}
+use mathlib.Core.List.{[], _∷_, reverse}
 use mathlib.Core.Option.{Option, none, some}
 use mathlib.Core.Logic.{_⊎_, inl, inr}
-use Prim.Native.Nat.{ℕ, suc, _+_, _-_, _<_, _≤_, _^_}
+use Prim.Native.Nat.{ℕ, _+_, _-_, _<_, _≤_, _^_}
 use native.Mathlib.Omega.{arith}
 use lib.IntN.{ℤ, pos, negsuc}
 use lib.ListN.{getD, set, take}
@@ -15,8 +15,8 @@ use Rattle.runs.specs.Runs.{zeroed}
 use Rattle.cells.specs.Cells.{tagOf, trueCell, falseCell, unspecifiedCell, undefinedCell, intCell, closureCell, pairCell, pairFirst, pairSecond, layerCell, ValueCell, cellOf, Fits}
 use Rattle.cells.specs.declared.Value.{Value}
 use Rattle.rules.specs.Total.{totalOf, within32, bits32, allIntegers}
-use Rattle.rules.specs.State.{Mem, mem, regs, Held, Res, ok, wrong, on, need}
-use Rattle.rules.specs.Rules.{value, found, walk, top, under, emptied, partRule, plainRule}
+use Rattle.rules.specs.State.{Mem, mem, regs, Held, Res, ok, wrong, need}
+use Rattle.rules.specs.Rules.{value, found, walk, top, under, partRule, plainRule}
 use Rattle.rules.specs.Rules.{literalRule, closureRule, heldRule, globalRule, setGlobalRule, localRule, setLocalRule, pushRule, makeEnvRule, checkArgsRule, consRule, carRule, cdrRule, eqvRule, addRule}
 use Rattle.rules.specs.declared.Regs.{Regs}
 use Rattle.rules.specs.declared.Plain.{Plain}

@@ -3,7 +3,7 @@ use mathlib.Core.Path.{_≡_, refl}
 use mathlib.Core.List.{List, [], _∷_}
 use Prim.Native.Nat.{ℕ}
 use Rattle.cells.specs.Cells.{intCell, unspecifiedCell}
-use Rattle.rules.specs.State.{mem, regs, Held, Res, ok, wrong, on}
+use Rattle.rules.specs.State.{mem, regs, Held, Res, wrong, on}
 use Rattle.rules.specs.Total.{signed, totalOf, within32, bits32, allIntegers}
 use Rattle.rules.specs.Rules.{addRule}
 

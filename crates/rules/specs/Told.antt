@@ -1,5 +1,5 @@
 -- From what a function answers to how its rule ends. Assumes nothing.
-use mathlib.Core.Path.{_≡_, refl}
+use mathlib.Core.Path.{_≡_}
 use Prim.Native.Nat.{ℕ}
 use native.Mathlib.Omega.{arith}
 use Rattle.rules.specs.State.{Mem, Held, Res, ok, wrong, on, out, told}

@@ -1,7 +1,7 @@
 -- What a tree file is refused for, or accepted as, by what its reader answers: 1 to 7 by the tree machine, 1 to 8 by the flattener. Assumes nothing.
 use Prim.Native.Nat.{ℕ, _+_, _≤_, _<_}
 use native.Mathlib.Omega.{arith}
-use mathlib.Core.Path.{_≡_, refl, sym, ap, _∙_}
+use mathlib.Core.Path.{_≡_, refl, ap}
 use mathlib.Core.Bool.{Bool, true, false, cond}
 use mathlib.Core.List.{List, [], _∷_}
 use mathlib.Core.Option.{Option, none, some}
@@ -15,7 +15,6 @@ use Rattle.files.specs.Flat.{offsetTemplate}
 use Rattle.files.specs.Accepted.{orLowest, treeChecked, flatChecked}
 use Rattle.files.specs.AllGot.{tree-read}
 use Rattle.tree.specs.declared.Summary.{Summary}
-use Rattle.tree.specs.declared.TreeFile.{TreeFile}
 use Rattle.tree.specs.declared.TreeFile.the-variants.{Read, Refused}
 use Rattle.tree.specs.Summary.{numberOr64, summaryOf, treeTold}
 

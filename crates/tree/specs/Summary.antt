@@ -1,11 +1,10 @@
 -- What the readers of a tree file tell of what is read.
 use Prim.Native.Nat.{ℕ, _+_, _/_}
-use mathlib.Core.Bool.{Bool, true, cond}
+use mathlib.Core.Bool.{Bool, cond}
 use mathlib.Core.List.{List, [], _∷_}
 use mathlib.Core.Option.{Option, none, some}
 use lib.ListN.{length}
 use lib.Dec.{ltb, eqb}
-use Rattle.cells.specs.declared.BitPlace.{BitPlace}
 use Rattle.lists.specs.declared.Facts.{Facts}
 use Rattle.files.specs.Reading.{Got, got, refused}
 use Rattle.files.specs.Tree.{Template}

@@ -1,11 +1,10 @@
 -- What the readers of templates do at each step, by what was read there. Assumes nothing.
-use Prim.Native.Nat.{ℕ, zero, suc, _+_, _*_, _-_, _/_, _≤_, _<_}
+use Prim.Native.Nat.{ℕ, suc, _+_, _*_, _-_, _≤_, _<_}
 use native.Mathlib.Omega.{arith}
 use mathlib.Core.Path.{_≡_, refl, sym, ap, _∙_}
-use mathlib.Core.List.{List, [], _∷_, map}
+use mathlib.Core.List.{List, _∷_}
 use lib.ListN.{length, set, take, replicate}
 use lib.Seq.{sets}
-use lib.Dec.{eqb}
 use Rattle.cells.specs.declared.BitPlace.{BitPlace}
 use Rattle.files.specs.Code.{Code}
 use Rattle.files.specs.Reading.{Got, got, refused, listAt}
@@ -14,14 +13,11 @@ use Rattle.files.specs.Entries.{Entry, then, field, entriesAt}
 use Rattle.files.specs.EntriesLaws.{entries-read}
 use Rattle.files.specs.EntriesRead.{slotsAt, slots-all}
 use Rattle.files.specs.ValidEntries.{entries-valid}
-use Rattle.files.specs.Grammar.{isClosed, indicesFit}
-use Rattle.files.specs.Flat.{flat}
 use Rattle.files.specs.Linear.{entriesBits, templateBytes}
-use Rattle.files.specs.Table.{slotOf}
 use Rattle.files.specs.Tree.{Template, templateAt, templatesAt}
 use Rattle.files.specs.RowFilled.{Unfilled, front-length, row-table}
 use Rattle.lists.specs.declared.Facts.{Facts}
-use Rattle.lists.specs.Facts.{classOf, slotsFit, factsOf}
+use Rattle.lists.specs.Facts.{factsOf}
 use Rattle.lists.specs.PassLaws.{closed-class}
 use Rattle.lists.specs.SlotLaws.{Row, slots-named, row-among}
 use Rattle.tree.specs.declared.Report.{Report}
@@ -33,7 +29,7 @@ use Rattle.tree.specs.declared.TemplatesRead.the-variants.{Done as DoneT
 use Rattle.tree.specs.Summary.{reportOf, reportBy, templateTold, templatesTold, summaryAfter, begun, summaryFrom, toldFrom}
 use Rattle.tree.specs.SummaryLaws.{template-length, summary-all}
 use Rattle.tree.specs.Filled.{startFilled, rowFilled, templateFilled, filledThen, templatesFilled}
-use Rattle.tree.specs.Parts.{TemplateParts, template-parts, templates-count}
+use Rattle.tree.specs.Parts.{template-parts, templates-count}
 use Rattle.tree.specs.FilledLaws.{template-unfilled}
 
 -- ---- template own of T at p

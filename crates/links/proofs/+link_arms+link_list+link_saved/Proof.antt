@@ -2,11 +2,10 @@
 -- fall. Assumes nothing.
 use Prim.Native.Nat.{_+_, _*_, _-_}
 use native.Mathlib.Omega.{arith}
-use mathlib.Core.Path.{_≡_, refl, sym, ap, _∙_}
-use mathlib.Core.List.{List}
-use lib.ListN.{length, length-set}
+use mathlib.Core.Path.{_≡_, sym, _∙_}
+use lib.ListN.{length}
 use Rattle.files.specs.Reading.{listAt}
-use Rattle.links.specs.Parts.{Whole, linkedGot, linkedArms, linkedSaved}
+use Rattle.links.specs.Parts.{Whole, linkedGot}
 use Rattle.links.specs.LinkSteps.{Outcome, outcome, arms-linked, saved-linked, linked-on}
 use Rattle.links.specs.declared.Parts.{Parts}
 use borrow.Author.Needs.{needs}

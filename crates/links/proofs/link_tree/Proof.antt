@@ -1,8 +1,8 @@
 -- `links::link_tree` meets its contract. The loop's invariant: what is left to link from template `own` on gives what the whole gives.
 -- Assumes nothing.
-use Prim.Native.Nat.{ℕ, _+_, _*_, _-_, _≤_}
+use Prim.Native.Nat.{_-_, _≤_}
 use native.Mathlib.Omega.{arith}
-use mathlib.Core.Path.{_≡_, refl, sym, ap, _∙_}
+use mathlib.Core.Path.{_≡_, sym, _∙_}
 use lib.ListN.{length}
 use Rattle.files.specs.Tree.{treeRead}
 use Rattle.links.specs.TreeSteps.{linkedFrom, ready-short, at-most-64, linked-all, list-whole, template-linked, linked-on}

@@ -5,9 +5,6 @@ use Rattle.tree.specs.Judged.{judged-unclosed, judged-misnamed, judged-g
 use borrow.Author.Needs.{needs}
 use Rattle.tree.proofs.check_tree.Statement.{statement}
 use Rattle.tree.proofs.check_tree.Tie as tie
-use Rattle.tree.proofs.check_tree.Reads as reads
-use Rattle.tree.proofs.check_tree.Lts as lts
-use Rattle.tree.proofs.read_tree.Reads as read-tree-reads
 
 slice-aggregate-read-tree : tie.Need-slice-aggregate-read-tree
 slice-aggregate-read-tree c = search needs

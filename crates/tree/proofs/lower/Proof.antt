@@ -2,11 +2,8 @@
 use mathlib.Core.Path.{refl}
 use borrow.Author.Tests.{lt-ltb, le-ltb}
 use Rattle.tree.specs.Summary.{lower}
-use borrow.Author.Needs.{needs}
 use Rattle.tree.proofs.lower.Statement.{statement}
 use Rattle.tree.proofs.lower.Tie as tie
-use Rattle.tree.proofs.lower.Reads as reads
-use Rattle.tree.proofs.lower.Lts as lts
 
 returns : tie.Need-returns
 unfolding lower

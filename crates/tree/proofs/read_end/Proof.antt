@@ -5,10 +5,6 @@ use Rattle.tree.specs.TreeSteps.{end-on, end-set}
 use borrow.Author.Needs.{needs}
 use Rattle.tree.proofs.read_end.Statement.{statement}
 use Rattle.tree.proofs.read_end.Tie as tie
-use Rattle.tree.proofs.read_end.Reads as reads
-use Rattle.tree.proofs.read_end.Lts as lts
-use Rattle.files.proofs.nothing_more.Reads as nothing-more-reads
-use Rattle.files.proofs.zero_bits.Reads as zero-bits-reads
 
 sub-zero-bits : tie.Need-sub-zero-bits
 sub-zero-bits c = search needs

@@ -10,12 +10,6 @@ use Rattle.tree.specs.TemplateSteps.{count-cut, entries-stop, list-stop,
 use borrow.Author.Needs.{needs}
 use Rattle.tree.proofs.read_template.Statement.{statement}
 use Rattle.tree.proofs.read_template.Tie as tie
-use Rattle.tree.proofs.read_template.Reads as reads
-use Rattle.tree.proofs.read_template.Lts as lts
-use Rattle.fields.proofs.read_field.Reads as read-field-reads
-use Rattle.files.proofs.read_entries.Reads as read-entries-reads
-use Rattle.lists.proofs.read_list.Reads as read-list-reads
-use Rattle.tree.proofs.report_by.Reads as report-by-reads
 
 read-field-requires : tie.Need-read-field-requires
 read-field-requires c κs = search needs

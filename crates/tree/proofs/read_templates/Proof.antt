@@ -12,10 +12,6 @@ use Rattle.tree.specs.TemplateSteps.{templates-none, templates-stop, tem
 use borrow.Author.Needs.{needs}
 use Rattle.tree.proofs.read_templates.Statement.{statement}
 use Rattle.tree.proofs.read_templates.Tie as tie
-use Rattle.tree.proofs.read_templates.Reads as reads
-use Rattle.tree.proofs.read_templates.Lts as lts
-use Rattle.tree.proofs.read_template.Reads as read-template-reads
-use Rattle.tree.proofs.summary_after.Reads as summary-after-reads
 
 abbrev Inv-loop : tie.InvT-loop
 Inv-loop s table₀ count own₀ here₀ sum₀ table own here sum = (own ≤ count) × Unfilled own table × (sum .size ≤ 1 + 2097152 * own)

@@ -5,11 +5,6 @@ use Rattle.tree.specs.TreeSteps.{too-long, count-cut, count-none, count-
 use borrow.Author.Needs.{needs}
 use Rattle.tree.proofs.read_tree.Statement.{statement}
 use Rattle.tree.proofs.read_tree.Tie as tie
-use Rattle.tree.proofs.read_tree.Reads as reads
-use Rattle.tree.proofs.read_tree.Lts as lts
-use Rattle.fields.proofs.read_field.Reads as read-field-reads
-use Rattle.tree.proofs.read_end.Reads as read-end-reads
-use Rattle.tree.proofs.read_templates.Reads as read-templates-reads
 
 returns : tie.Need-returns
 returns c = rw (c .before .before .before .pre) (too-long _ (c .if1 .taken))

@@ -4,8 +4,6 @@ use Rattle.tree.specs.Summary.{reportBy}
 use borrow.Author.Needs.{needs}
 use Rattle.tree.proofs.report_by.Statement.{statement}
 use Rattle.tree.proofs.report_by.Tie as tie
-use Rattle.tree.proofs.report_by.Reads as reads
-use Rattle.tree.proofs.report_by.Lts as lts
 
 add-t4 : tie.Need-add-t4
 add-t4 c = search needs

@@ -4,9 +4,6 @@ use Rattle.tree.specs.Summary.{summaryAfter}
 use borrow.Author.Needs.{needs}
 use Rattle.tree.proofs.summary_after.Statement.{statement}
 use Rattle.tree.proofs.summary_after.Tie as tie
-use Rattle.tree.proofs.summary_after.Reads as reads
-use Rattle.tree.proofs.summary_after.Lts as lts
-use Rattle.tree.proofs.lower.Reads as lower-reads
 
 lower-requires : tie.Need-lower-requires
 lower-requires c κs = search needs
