@@ -12,8 +12,8 @@
 #include <string.h>
 #include <time.h>
 
-enum { LEAST_ROUNDS = 3, MOST_ROUNDS = 15 };
-static const double enough_seconds = 0.25;
+enum { LEAST_ROUNDS = 3, MOST_ROUNDS = 200 };
+static const double enough_seconds = 1.5;
 
 static double seconds(void)
 {
