@@ -75,46 +75,28 @@ struct State {
 
 // How a code is followed in a tree: 0 the end of the list; 1, 2, 3 no, one or two operand bytes; 4 two lists; 5 an operand byte and a
 // list; 6 no instruction.
-const SHAPES: [u8; 32] = [
-    0,
-    1,
-    2,
-    4,
-    5,
-    6,
-    2,
-    2,
-    2,
-    2,
-    3,
-    3,
-    1,
-    2,
-    6,
-    1,
-    2,
-    6,
-    1,
-    1,
-    1,
-    1,
-    1,
-    6,
-    6,
-    6,
-    6,
-    6,
-    6,
-    6,
-    6,
-    6,
-];
-
 pub fn shape_of(code: u32) -> u8
     requires { ⌜ code < 32 ⌝ }
     ensures { λ r. ⌜ r ≡ shapeOf code ⌝ }
 {
-    SHAPES[code as usize]
+    match code {
+        0 => 0,
+        1 => 1,
+        2 => 2,
+        3 => 4,
+        4 => 5,
+        5 => 6,
+        6..=9 => 2,
+        10..=11 => 3,
+        12 => 1,
+        13 => 2,
+        14 => 6,
+        15 => 1,
+        16 => 2,
+        17 => 6,
+        18..=22 => 1,
+        _ => 6,
+    }
 }
 
 fn both(x: bool, y: bool) -> bool

@@ -8,38 +8,10 @@ ghost use mathlib.Core.Bool.{false};
 ghost use mathlib.Core.List.{List};
 ghost use Prim.Native.Nat.{ℕ, _≤_, _<_};
 ghost use lib.ListN.{length};
-ghost use Rattle.fields.specs.Field.{fieldRead};
+ghost use Rattle.files.specs.Codes.{shapeOf};
 ghost use Rattle.machines.specs.Instruction.{fetchedAs, Places};
 ghost use Rattle.machines.specs.Slots.{slotAt};
-ghost use Rattle.tree_code.specs.Fetch.{isEnd, settled, shapedAs, instructionAt, fetchedAt};
-
-// A list's end is at a place.
-fn at_end(file: &[u8], at: BitPlace) -> bool
-    requires { ⌜ length (now file) ≤ 65536 ⌝ }
-    ensures { λ r. ⌜ r ≡ isEnd (fieldRead (now (file .entry)) (at .0) 5) ⌝ }
-{
-    match fields::read_field(file, at, 5) {
-        Field::Read(code, _) => code == 0,
-        Field::Cut => false,
-    }
-}
-
-// Where execution is: at a list's end it goes on where the link leads. No list is in more than 16 lists.
-fn settle(file: &[u8], links: &[u32], at: BitPlace) -> BitPlace
-    requires { ⌜ length (now file) ≤ 65536 ⌝ }
-    ensures { λ r. ⌜ r .0 ≡ settled (now (file .entry)) (now (links .entry)) 17 (at .0) ⌝ }
-{
-    let mut here = at;
-    let mut left: usize = 17;
-    while 0 < left {
-        if !at_end(file, here) {
-            return here;
-        }
-        here = links::link_at(links, here);
-        left = left - 1;
-    }
-    here
-}
+ghost use Rattle.tree_code.specs.Fetch.{shapedAs, fetchedAt};
 
 // A code that ends at a place and has one operand.
 fn fetch_one(file: &[u8], code: u32, at: BitPlace) -> Instruction
@@ -85,14 +57,17 @@ fn fetch_save(file: &[u8], links: &[u32], at: BitPlace, after: BitPlace) -> Inst
     )
 }
 
-// The instruction at a place.
-fn fetch_instruction(file: &[u8], links: &[u32], at: BitPlace) -> Instruction
-    requires { ⌜ length (now file) ≤ 65536 ⌝ }
-    ensures { λ r. ⌜ ((table : List ℕ) (t : ℕ) → fetchedAs (slotAt table t) r ≡ instructionAt (now (file .entry)) (now (links .entry)) table t (at .0)) × Places false r ⌝ }
+// The instruction at a place, whose code ends at `next`.
+fn fetch_instruction(
+    file: &[u8],
+    links: &[u32],
+    at: BitPlace,
+    code: u32,
+    next: BitPlace,
+) -> Instruction
+    requires { ⌜ (length (now file) ≤ 65536) × (code < 32) ⌝ }
+    ensures { λ r. ⌜ ((table : List ℕ) (t : ℕ) → fetchedAs (slotAt table t) r ≡ shapedAs (now (file .entry)) (now (links .entry)) table t (at .0) code (next .0) (shapeOf code)) × Places false r ⌝ }
 {
-    let Field::Read(code, next) = fields::read_field(file, at, 5) else {
-        return Instruction::Bad;
-    };
     match lists::shape_of(code) {
         1 => {
             if code == 1 {
@@ -112,7 +87,8 @@ fn fetch_instruction(file: &[u8], links: &[u32], at: BitPlace) -> Instruction
     }
 }
 
-// What stands at a place, in any template: its entries are not looked at.
+// What stands at a place, in any template: its entries are not looked at. At a list's end execution goes on where the link leads; no list is
+// in more than 16 lists.
 pub fn fetch(file: &[u8], links: &[u32], at: BitPlace) -> Instruction
     requires { ⌜ length (now file) ≤ 65536 ⌝ }
     ensures { λ r. ⌜ ((table : List ℕ) (t : ℕ) → fetchedAs (slotAt table t) r ≡ fetchedAt (now (file .entry)) (now (links .entry)) table t (at .0)) × Places false r ⌝ }
@@ -120,6 +96,19 @@ pub fn fetch(file: &[u8], links: &[u32], at: BitPlace) -> Instruction
     if at.0 == 0 {
         return Instruction::Return;
     }
-    let here = settle(file, links, at);
-    fetch_instruction(file, links, here)
+    let mut here = at;
+    let mut left: usize = 17;
+    loop {
+        let Field::Read(code, next) = fields::read_field(file, here, 5) else {
+            return Instruction::Bad;
+        };
+        if code != 0 {
+            return fetch_instruction(file, links, here, code, next);
+        }
+        if left == 0 {
+            return Instruction::Bad;
+        }
+        here = links::link_at(links, here);
+        left = left - 1;
+    }
 }

@@ -1,0 +1,2 @@
+-- The proofs of the crate lists that belong to no one function.
+pub mod Shapes
