@@ -1,17 +1,18 @@
--- Demand 3, the statement. Its proof stands in Proved.antt. Everything it speaks of is defined in the specs of files, flatten and machines.
+-- Demand 3, the statement. Its proof stands in Proved.antt. Everything it speaks of is defined in the specs of files, flatten and
+-- machines.
 --
 -- For a file the flattener accepts, the same starting globals and a budget of b steps (at most 1,000,000):
 --   Forward: if the tree machine with budget b ends (halts or goes wrong, not out of budget), the linear machine with budget 2 b ends alike;
 --   Backward: if the linear machine ends with budget b, so does the tree machine with b, alike.
 -- Alike: same end, answer, globals, stack, store, frames (only saved code places aside) and used counts; the linear machine takes the tree
 -- machine's steps plus its jumps, and there are never more jumps than open conditionals that took their first arm.
-use Prim.Native.Nat.{ℕ, _+_, _*_, _≤_}
+use Prim.Native.Nat.{ℕ, _+_, _*_, _-_, _≤_}
 use mathlib.Core.Path.{_≡_}
 use mathlib.Core.Bool.{true, cond}
 use mathlib.Core.List.{List, map}
 use mathlib.Core.Option.{none}
 use lib.Dec.{eqb}
-use Rattle.cells.specs.Cells.{tagOf, frameCell, frameCount, frameTemplate, frameEnv}
+use Rattle.cells.specs.Cells.{tagOf, framePlace}
 use Rattle.cells.specs.declared.Value.{Value}
 use Rattle.files.specs.Reading.{Got, got, refused}
 use Rattle.files.specs.Tree.{Template}
@@ -19,22 +20,14 @@ use Rattle.files.specs.Linear.{Linear, linearRead}
 use Rattle.files.specs.Accepted.{treeChecked}
 use Rattle.flatten.specs.Flatten.{flattened}
 use Rattle.machines.specs.Machine.{Counts, noCounts, treeProgram, linearProgram}
-use Rattle.machines.specs.Runs.{Memory, Ran, ran, rightLengths, lowestUnfit, programRun, treeRun, linearRun}
+use Rattle.machines.specs.Runs.{Memory, Ran, runOf, leftOf, rightLengths, lowestUnfit, programRun, treeRun, linearRun}
 use Rattle.machines.specs.declared.End.the-variants.{Halted, OutOfBudget}
-use Rattle.machines.specs.declared.Run.{Run}
 
--- a cell, its code place aside where it is a frame
+-- a cell, without the code place where it is a frame
 unfoldable pub aside : ℕ → ℕ
-aside c = cond (eqb (tagOf c) 10) (frameCell (frameCount c) (frameTemplate c) (frameEnv c) 0) c
+aside c = cond (eqb (tagOf c) 10) (c - framePlace c * 0x10) c
 
--- what a run returned, and what it left in the lent memory
-abbrev pub returned : Ran → Run
-returned (ran r m) = r
-
-abbrev pub left : Ran → Memory
-left (ran r m) = m
-
--- the jumps of a linear file's run, and the open conditionals that took their first arm in a tree file's run
+-- the jumps of a linear file's run, and the open conditionals that took their first arm in a tree file's run, from the globals g
 unfoldable pub linearCounts : ℕ → List ℕ → Got (List Linear) → Counts
 linearCounts b g (got ts q) = programRun (linearProgram ts) b g .counts
 linearCounts b g (refused n p) = noCounts
@@ -43,48 +36,50 @@ unfoldable pub treeCounts : ℕ → List ℕ → Got (List Template) → Counts
 treeCounts b g (got ts q) = programRun (treeProgram ts) b g .counts
 treeCounts b g (refused n p) = noCounts
 
-abbrev pub jumpsMade : List ℕ → ℕ → Memory → ℕ
-jumpsMade w b m = linearCounts b (m .globals) (linearRead w) .jumps
+abbrev pub jumpsMade : List ℕ → ℕ → List ℕ → ℕ
+jumpsMade w b g = linearCounts b g (linearRead w) .jumps
 
-abbrev pub firstArms : List ℕ → ℕ → Memory → ℕ
-firstArms s b m = treeCounts b (m .globals) (treeChecked s) .firsts
+abbrev pub firstArms : List ℕ → ℕ → List ℕ → ℕ
+firstArms s b g = treeCounts b g (treeChecked s) .firsts
 
 -- x of the tree machine, y of the linear machine
 pub record EndAlike (x y : Ran) (jumps firsts : ℕ) : Type 0 where
   -- the end with its number, and the answer
-  pub same-end : returned x .end ≡ returned y .end
-  pub same-globals : left x .globals ≡ left y .globals
-  pub same-stack : left x .stack ≡ left y .stack
-  pub same-store : left x .store ≡ left y .store
-  pub same-frames : map aside (left x .frames) ≡ map aside (left y .frames)
-  pub same-stack-used : returned x .stack ≡ returned y .stack
-  pub same-store-used : returned x .store ≡ returned y .store
-  pub same-frames-used : returned x .frames ≡ returned y .frames
-  pub steps : returned y .steps ≡ returned x .steps + jumps
+  pub same-end : runOf x .end ≡ runOf y .end
+  pub same-globals : leftOf x .globals ≡ leftOf y .globals
+  pub same-stack : leftOf x .stack ≡ leftOf y .stack
+  pub same-store : leftOf x .store ≡ leftOf y .store
+  pub same-frames : map aside (leftOf x .frames) ≡ map aside (leftOf y .frames)
+  pub same-stack-used : runOf x .stack ≡ runOf y .stack
+  pub same-store-used : runOf x .store ≡ runOf y .store
+  pub same-frames-used : runOf x .frames ≡ runOf y .frames
+  pub steps : runOf y .steps ≡ runOf x .steps + jumps
   -- the first arms taken are the jumps made and those still pending, here and in the frames; a halt leaves none pending
   pub pending : ℕ
   pub tally : jumps + pending ≡ firsts
-  pub none-pending : (v : Value) → returned x .end ≡ Halted v → pending ≡ 0
+  pub none-pending : (v : Value) → runOf x .end ≡ Halted v → pending ≡ 0
   pub bound : jumps ≤ firsts
 
 -- w is the linear file that the flattener writes for s into an output of n bytes
 abbrev pub Flattens : List ℕ → ℕ → List ℕ → Type 0
 Flattens s n w = (q : ℕ) × (flattened s n ≡ got w q)
 
--- what is lent passes 20 and 22
-pub record Startable (m : Memory) : Type 0 where
+-- what is lent passes 20 and 22, and has the starting globals g; stack, store and frames may hold anything
+pub record StartsFrom (g : List ℕ) (m : Memory) : Type 0 where
   pub lengths : rightLengths m ≡ true
-  pub globals : lowestUnfit 0 (m .globals) ≡ none
+  pub globals : m .globals ≡ g
+  pub fit : lowestUnfit 0 g ≡ none
 
 abbrev pub Ends : Ran → Type 0
-Ends x = returned x .end ≡ OutOfBudget → ⊥
+Ends x = runOf x .end ≡ OutOfBudget → ⊥
 
+-- m is lent to the tree machine, m′ to the linear machine
 abbrev pub Forward : Type 0
 Forward =
-    (s w : List ℕ) (n b : ℕ) (m : Memory) → Flattens s n w → Startable m → b ≤ 1000000 → Ends (treeRun s b m)
-    → EndAlike (treeRun s b m) (linearRun w (2 * b) m) (jumpsMade w (2 * b) m) (firstArms s b m)
+    (s w g : List ℕ) (n b : ℕ) (m m′ : Memory) → Flattens s n w → StartsFrom g m → StartsFrom g m′ → b ≤ 1000000 → Ends (treeRun s b m)
+    → EndAlike (treeRun s b m) (linearRun w (2 * b) m′) (jumpsMade w (2 * b) g) (firstArms s b g)
 
 abbrev pub Backward : Type 0
 Backward =
-    (s w : List ℕ) (n b : ℕ) (m : Memory) → Flattens s n w → Startable m → b ≤ 1000000 → Ends (linearRun w b m)
-    → EndAlike (treeRun s b m) (linearRun w b m) (jumpsMade w b m) (firstArms s b m)
+    (s w g : List ℕ) (n b : ℕ) (m m′ : Memory) → Flattens s n w → StartsFrom g m → StartsFrom g m′ → b ≤ 1000000 → Ends (linearRun w b m′)
+    → EndAlike (treeRun s b m) (linearRun w b m′) (jumpsMade w b g) (firstArms s b g)

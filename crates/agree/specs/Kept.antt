@@ -101,13 +101,14 @@ module _ (R : ℕ → ℕ → ℕ → ℕ → ℕ → Type 0) where
           },
         ))))
 
-  -- the same instructions and templates, and data that are the same but for the frames' code places
+  -- the same instructions and templates, data that are the same but for the frames' code places, and an instruction at every place
   unfoldable pub same-but-places : Kin R
   same-but-places = record {
     DR = Same R;
     IR = λ i i′. i ≡ i′;
     TR = λ t t′. (t ≡ t′) × (t < 2 ^ 8);
     SR = Savable R;
+    Hole = ⊥;
     apply-ok = λ {i} {i′} e s. rw (← e) (apply-same s i);
     call-ok = λ n s. call-same s n;
     keep-ok = keep-same R;

@@ -2,7 +2,7 @@
 use Prim.Native.Nat.{ℕ, suc, _+_, _*_, _≤_, _<_, _^_}
 use native.Mathlib.Omega.{arith}
 use mathlib.Core.Path.{_≡_, ap, _∙_}
-use mathlib.Core.Bool.{Bool, true, false}
+use mathlib.Core.Bool.{Bool, true, false, _&&_, and-eq-true-iff}
 use mathlib.Core.List.{List, _∷_, _++_, append-assoc}
 use lib.Dec.{ltb, eqb, eqb→eq, eqb-refl, ltb→lt, lt→ltb}
 use lib.ListN.{length, drop, length-append, length-drop}
@@ -11,6 +11,7 @@ use Rattle.files.specs.Code.{Code, done, neutral, return, call, unless-false, m
 use Rattle.files.specs.Entries.{Entry}
 use Rattle.files.specs.ReadingLaws.{least-bits}
 use Rattle.files.specs.Flat.{flat}
+use Rattle.files.specs.Grammar.{indexFits, indicesFit}
 use Rattle.machines.specs.Fetched.{Fetched, jumps, bad, first, look}
 use Rattle.agree.specs.Suits.{is-true, is-false, Ok}
 
@@ -58,57 +59,67 @@ module _ (es : List Entry) where
     pub record Sub (s : ℕ) (c : Code) (F : Fetched) : Type 0 where
       pub within : (p : ℕ) → s ≤ p → p < s + bits c → top p ≡ look es s c F p
       pub bound : s + bits c ≤ 2 ^ 24
+      pub indexed : indicesFit es c ≡ true
 
     pub sub-head : {s : ℕ} {c : Code} {F : Fetched} → Sub s c F → top s ≡ first es s c F
     sub-head {s} {c} {F} u = u .within s (omega arith) (omega (arith, least-bits c)) ∙ at-head s c F
 
     pub sub-neutral : {s op : ℕ} {ns : List ℕ} {r : Code} {F : Fetched} → Sub s (neutral op ns r) F → Sub (s + (5 + 8 * length ns)) r F
-    unfolding look bits
+    unfolding look bits indicesFit
     sub-neutral {s} {op} {ns} {r} {F} u =
-        record { within = λ p h l. u .within p (omega arith) (omega arith) ∙ rw (eqb-past s p (omega arith)); bound = omega (arith, u .bound) }
+        record {
+          within = λ p h l. u .within p (omega arith) (omega arith) ∙ rw (eqb-past s p (omega arith));
+          bound = omega (arith, u .bound);
+          indexed = and-eq-true-iff (indexFits es op ns) (indicesFit es r) .0 (u .indexed) .1;
+        }
 
     module _ {s : ℕ} {x y r : Code} {F : Fetched} (u : Sub s (unless-false x y r) F) where
       pub sub-first : Sub (s + 5) x (first es (s + 5 + bits x + bits y) r F)
-      unfolding look bits
+      unfolding look bits indicesFit
       sub-first =
           record {
             within = λ p h l. u .within p (omega arith) (omega arith) ∙ rw (eqb-past s p (omega arith), ltb-yes p (s + 5 + bits x) l);
             bound = omega (arith, u .bound);
+            indexed = and-eq-true-iff (indicesFit es x) (indicesFit es y) .0 (and-eq-true-iff (indicesFit es x && indicesFit es y) (indicesFit es r) .0 (u .indexed) .0) .0;
           }
 
       pub sub-second : Sub (s + 5 + bits x) y (first es (s + 5 + bits x + bits y) r F)
-      unfolding look bits
+      unfolding look bits indicesFit
       sub-second =
           record {
             within = λ p h l. u .within p (omega arith) (omega arith)
                 ∙ rw (eqb-past s p (omega arith), ltb-no p (s + 5 + bits x) h, ltb-yes p (s + 5 + bits x + bits y) l);
             bound = omega (arith, u .bound);
+            indexed = and-eq-true-iff (indicesFit es x) (indicesFit es y) .0 (and-eq-true-iff (indicesFit es x && indicesFit es y) (indicesFit es r) .0 (u .indexed) .0) .1;
           }
 
       pub sub-rest : Sub (s + 5 + bits x + bits y) r F
-      unfolding look bits
+      unfolding look bits indicesFit
       sub-rest =
           record {
             within = λ p h l. u .within p (omega arith) (omega arith)
                 ∙ rw (eqb-past s p (omega arith), ltb-no p (s + 5 + bits x) (omega arith), ltb-no p (s + 5 + bits x + bits y) h);
             bound = omega (arith, u .bound);
+            indexed = and-eq-true-iff (indicesFit es x && indicesFit es y) (indicesFit es r) .0 (u .indexed) .1;
           }
 
     module _ {s n : ℕ} {x r : Code} {F : Fetched} (u : Sub s (make-cont n x r) F) where
       pub sub-saved : Sub (s + 13) x F
-      unfolding look bits
+      unfolding look bits indicesFit
       sub-saved =
           record {
             within = λ p h l. u .within p (omega arith) (omega arith) ∙ rw (eqb-past s p (omega arith), ltb-yes p (s + 13 + bits x) l);
             bound = omega (arith, u .bound);
+            indexed = and-eq-true-iff (indicesFit es x) (indicesFit es r) .0 (u .indexed) .0;
           }
 
       pub sub-next : Sub (s + 13 + bits x) r bad
-      unfolding look bits
+      unfolding look bits indicesFit
       sub-next =
           record {
             within = λ p h l. u .within p (omega arith) (omega arith) ∙ rw (eqb-past s p (omega arith), ltb-no p (s + 13 + bits x) h);
             bound = omega (arith, u .bound);
+            indexed = and-eq-true-iff (indicesFit es x) (indicesFit es r) .0 (u .indexed) .1;
           }
 
     -- lin: what the linear code W says at a place

@@ -7,4 +7,5 @@ pub mod Places
 pub mod Files
 pub mod Demand3
 pub mod Proved
+pub mod Never16
 pub mod Functions

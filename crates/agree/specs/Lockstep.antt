@@ -7,6 +7,7 @@ use mathlib.Core.Bool.{Bool, true, false, cond}
 use Rattle.rules.specs.State.{Res}
 use Rattle.rules.specs.Rules.{Data, plainRule, callRule, makeContRule, Back, returnRule, isFalse}
 use Rattle.rules.specs.Related.{ResR, okR, wrongR, BackR, noneB, someB}
+use Rattle.rules.specs.Numbers.{Never16, other, plain-never, call-never, make-cont-never}
 use Rattle.rules.specs.declared.Plain.{Plain}
 use Rattle.machines.specs.Fetched.{Fetched, plain, returns, calls, branches, saves, jumps, bad}
 use Rattle.machines.specs.Machine.{Program, State, at, Step, go, halt, stop, bind, applied, called, returned, act, here, step}
@@ -22,6 +23,8 @@ module _ (R : ℕ → ℕ → ℕ → ℕ → ℕ → Type 0) where
     pub TR : ℕ → ℕ → Type 0
     -- n t p t′ q j: these places may be saved
     pub SR : ℕ → ℕ → ℕ → ℕ → ℕ → ℕ → Type 0
+    -- whether the programs may come to where no instruction stands
+    pub Hole : Type 0
     pub apply-ok : {i i′ : Plain} {d d′ : Data} {J : ℕ} → IR i i′ → DR d d′ J
         → ResR (λ h h′. DR (applied d h) (applied d′ h′) J) (plainRule i (d .mem) (d .regs)) (plainRule i′ (d′ .mem) (d′ .regs))
     pub call-ok : (n : ℕ) {d d′ : Data} {J : ℕ} → DR d d′ J
@@ -55,7 +58,7 @@ module _ (R : ℕ → ℕ → ℕ → ℕ → ℕ → Type 0) (K : Kin R) (w : �
     branchM : {o o′ p₁ p₂ q₁ q₂ j j₁ : ℕ} → w * o ≤ w → j₁ ≡ w * o + j → R t p₁ t′ q₁ j₁ → R t p₂ t′ q₂ j → Match t t′ (branches o p₁ p₂) (branches o′ q₁ q₂) j
     saveM : {n p₁ p₂ q₁ q₂ j : ℕ} → K .SR n t p₁ t′ q₁ j → R t p₂ t′ q₂ 0 → Match t t′ (saves n p₁ p₂) (saves n q₁ q₂) j
     hopM : {p q j : ℕ} → Hop → R t p t′ q j → Match t t′ (jumps p) (jumps q) j
-    badM : {j : ℕ} → Match t t′ bad bad j
+    badM : {j : ℕ} → K .Hole → Match t t′ bad bad j
 
   module _ (fetch₂ : ℕ → ℕ → Fetched) where
     -- after some jumps the second program does what the first does at once
@@ -80,6 +83,7 @@ module _ (R : ℕ → ℕ → ℕ → ℕ → ℕ → Type 0) (K : Kin R) (w : �
     pub data-ok : K .DR (s₁ .now) (s₂ .now) waiting
     pub counts : Tally k₁ k₂ pending waiting
     pub quiet : e ≡ halted → (pending ≡ 0) × (waiting ≡ 0)
+    pub only-there : e ≡ wrongly 16 → K .Hole
 
   module _ (P₁ P₂ : Program) (A : Agree P₁ P₂) where
     -- j jumps are pending at the place and J in the frames
@@ -105,22 +109,30 @@ module _ (R : ℕ → ℕ → ℕ → ℕ → ℕ → Type 0) (K : Kin R) (w : �
           (record { data-ok = q; place-ok = A .meets r; counts = record { clock = omega arith; tally = rw g₁ (omega arith); own = λ n. omega (arith, c .own n, l n) } })
           (omega arith)
 
-      wrongs : {k₁′ k₂′ : Counts} {m n : ℕ} → StepR k₁ k₂ k₁′ k₂′ s₁ s₂ (stop m) (stop m) n
-      wrongs {m = m} =
-          stopR {m = m} (record { pending = j; waiting = J; data-ok = d; counts = c; quiet = λ (e : wrongly m ≡ halted). let z : _≡_ {A = ℕ} 0 1 = cc in absurd (omega arith) })
+      wrongs : {k₁′ k₂′ : Counts} {m n : ℕ} → (m ≡ 16 → K .Hole) → StepR k₁ k₂ k₁′ k₂′ s₁ s₂ (stop m) (stop m) n
+      wrongs {m = m} f =
+          stopR {m = m} (record {
+            pending = j;
+            waiting = J;
+            data-ok = d;
+            counts = c;
+            quiet = λ (e : wrongly m ≡ halted). let z : _≡_ {A = ℕ} 0 1 = cc in absurd (omega arith);
+            only-there = λ (e : wrongly m ≡ wrongly 16). let z : m ≡ 16 = cc in f z;
+          })
 
       binds : {B : Type 0} {Q : B → B → Type 0} {r r′ : Res B} {f g : B → Step} {k₁′ k₂′ : Counts} {n : ℕ}
-          → ResR Q r r′ → ((a b : B) → Q a b → StepR k₁ k₂ k₁′ k₂′ s₁ s₂ (f a) (g b) n) → StepR k₁ k₂ k₁′ k₂′ s₁ s₂ (bind r f) (bind r′ g) n
+          → ResR Q r r′ → Never16 r → ((a b : B) → Q a b → StepR k₁ k₂ k₁′ k₂′ s₁ s₂ (f a) (g b) n)
+          → StepR k₁ k₂ k₁′ k₂′ s₁ s₂ (bind r f) (bind r′ g) n
       unfolding bind
-      binds (okR {a = a} {b = b} q) k = k a b q
-      binds wrongR k = wrongs
+      binds (okR {a = a} {b = b} q) h k = k a b q
+      binds wrongR (other h) k = wrongs (λ e. absurd (h e))
 
     module _ {k₁ k₂ : Counts} {s₁ s₂ : State} {J : ℕ} (d : K .DR (s₁ .now) (s₂ .now) J) (c : Tally k₁ k₂ 0 J) where
       backs : {x y : Back} {m : ℕ} → BackR R (K .DR) x y m → m ≡ J
           → StepR k₁ k₂ (counted returns s₁ k₁) (counted returns s₂ k₂) s₁ s₂ (returned x) (returned y) (w + (0 + J))
       unfolding returned counted jumpCount firstCount
       backs noneB e =
-          haltR (record { pending = 0; waiting = J; data-ok = d; counts = record { clock = omega arith; tally = omega arith; own = λ n. omega (arith, c .own n) }; quiet = λ h. (refl, sym e) })
+          haltR (record { pending = 0; waiting = J; data-ok = d; counts = record { clock = omega arith; tally = omega arith; own = λ n. omega (arith, c .own n) }; quiet = λ h. (refl, sym e); only-there = λ (h : halted ≡ wrongly 16). let z : _≡_ {A = ℕ} 0 1 = cc in absurd (omega arith) })
       backs (someB r q e) h = onward d c returns returns 0 0 0 q r refl refl refl refl (λ n. refl) (omega arith) (omega arith)
 
     module _ {k₁ k₂ : Counts} {s₁ s₂ : State} {j J : ℕ} (d : K .DR (s₁ .now) (s₂ .now) J) (c : Tally k₁ k₂ j J) where
@@ -139,15 +151,15 @@ module _ (R : ℕ → ℕ → ℕ → ℕ → ℕ → Type 0) (K : Kin R) (w : �
         → StepR k₁ k₂ (counted F s₁ k₁) (counted G s₂ k₂) s₁ s₂ (act P₁ F s₁) (act P₂ G s₂) (w + (j + J))
     unfolding act jumpCount firstCount
     acts d c (plainM {i = i} {i′ = i′} {p = p} {q = q} x r) =
-        binds d c (K .apply-ok x d) λ a b y. onward d c (plain i p) (plain i′ q) 0 0 0 y r refl refl refl refl (λ n. refl) (omega arith) (omega arith)
+        binds d c (K .apply-ok x d) (plain-never _ _ i) λ a b y. onward d c (plain i p) (plain i′ q) 0 0 0 y r refl refl refl refl (λ n. refl) (omega arith) (omega arith)
     acts d c returnM = backs d c (K .back-ok d) refl
     acts d c (callM {n = n}) =
-        binds d c (K .call-ok n d) λ a b y. onward d c (calls n) (calls n) 0 0 0 (y .1) (A .starts (y .0)) refl refl refl refl (λ n. refl) (omega arith) (omega arith)
+        binds d c (K .call-ok n d) (call-never n _) λ a b y. onward d c (calls n) (calls n) 0 0 0 (y .1) (A .starts (y .0)) refl refl refl refl (λ n. refl) (omega arith) (omega arith)
     acts {s₁ = s₁} d c (branchM {o = o} {o′ = o′} h i r₁ r₂) = rw (← K .false-ok d) (arms d c (isFalse (s₁ .now .regs)) o o′ refl (sym (K .false-ok d)) h i r₁ r₂)
     acts d c (saveM {n = n} {p₁ = p₁} {p₂ = p₂} {q₁ = q₁} {q₂ = q₂} r₁ r₂) =
-        binds d c (K .keep-ok r₁ d) λ a b y. onward d c (saves n p₁ p₂) (saves n q₁ q₂) 0 0 0 y r₂ refl refl refl refl (λ n. refl) (omega arith) (omega arith)
+        binds d c (K .keep-ok r₁ d) (make-cont-never n _ p₁ _) λ a b y. onward d c (saves n p₁ p₂) (saves n q₁ q₂) 0 0 0 y r₂ refl refl refl refl (λ n. refl) (omega arith) (omega arith)
     acts d c (hopM {p = p} {q = q} g r) = onward d c (jumps p) (jumps q) 1 0 0 d r refl refl refl refl (λ n. absurd (n g)) (omega arith) (omega arith)
-    acts d c badM = wrongs d c
+    acts d c (badM h) = wrongs d c (λ e. h)
 
     -- the runs' ends, and what they ended with
     pub data Alike : Ended → Ended → Type 0 where

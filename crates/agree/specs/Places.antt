@@ -3,9 +3,9 @@ use Prim.Native.Nat.{ℕ, suc, _+_, _*_, _/_, _%_, _≤_, _<_, _^_}
 use native.Mathlib.Omega.{arith}
 use native.Mathlib.Nat.{div-add-mod}
 use mathlib.Core.Path.{_≡_, refl, sym, _∙_, subst}
-use mathlib.Core.Bool.{Bool, true, false}
+use mathlib.Core.Bool.{Bool, true, false, and-eq-true-iff}
 use mathlib.Core.List.{List, [], _∷_, _++_, append-assoc, append-nil}
-use mathlib.Core.Option.{Option, none, some}
+use mathlib.Core.Option.{Option}
 use lib.ListN.{length, getD, drop, length-append}
 use lib.Dec.{leb, le→leb}
 use lib.Seq.{take-append-seam}
@@ -13,7 +13,7 @@ use Rattle.files.specs.Codes.{shapeOf, isNeutral, operands}
 use Rattle.files.specs.Code.{Code, done, neutral, return, call, unless-false, make-cont, bits}
 use Rattle.files.specs.Entries.{Entry}
 use Rattle.files.specs.ReadingLaws.{least-bits}
-use Rattle.files.specs.Grammar.{isClosed}
+use Rattle.files.specs.Grammar.{isClosed, indexFits, indicesFit}
 use Rattle.files.specs.Flat.{flat, conditional}
 use Rattle.files.specs.Tree.{Template}
 use Rattle.files.specs.Linear.{Linear}
@@ -21,7 +21,8 @@ use Rattle.rules.specs.declared.Plain.{Plain}
 use Rattle.machines.specs.Fetched.{Fetched, returns, calls, branches, saves, jumps, plainly, resolve, openCount, first}
 use Rattle.machines.specs.Fetched.{neutralIn, callIn, branchIn, contIn, jumpIn, decode, noTemplate, noLinear, treeAt, linearAt}
 use Rattle.machines.specs.Machine.{treeProgram, linearProgram}
-use Rattle.agree.specs.Lockstep.{Match, plainM, returnM, callM, branchM, saveM, badM, Meets, nowM, jumpM, Agree}
+use Rattle.machines.specs.Resolved.{Resolves, resolves, fits-resolves}
+use Rattle.agree.specs.Lockstep.{Match, plainM, returnM, callM, branchM, saveM, Meets, nowM, jumpM, Agree}
 use Rattle.agree.specs.Suits.{is-true, Only, Shut, Open, either, Ok}
 use Rattle.agree.specs.Layout.{At, at-skip, at-take, at-within, Sub, sub-neutral, sub-first, sub-second, sub-rest, sub-saved, sub-next, Spot, here, leap, Close, ends, flows, stands}
 use Rattle.agree.specs.Kept.{same-but-places}
@@ -31,6 +32,7 @@ pub record Twins (t : Template) (l : Linear) : Type 0 where
   pub same-entries : l .entries ≡ t .entries
   pub same-code : l .code ≡ flat (t .code)
   pub closed : Ok true (t .code)
+  pub indexed : indicesFit (t .entries) (t .code) ≡ true
   pub tree-fits : t .start + bits (t .code) ≤ 2 ^ 24
   pub linear-fits : length (flat (t .code)) < 2 ^ 24
 
@@ -104,10 +106,9 @@ module _ (ts : List Template) (ls : List Linear) (twins : (t : ℕ) → Twins (g
     unfolding decode isNeutral shapeOf jumpIn
     lin-jump {q} a = lin-is q ∙ rw (a .is)
 
-    plains : (m : Option Plain) {p q j : ℕ} → Pair t p t q j → MatchAt (plainly m p) (plainly m q) j
+    plains : {m : Option Plain} {p q j : ℕ} → Resolves m → Pair t p t q j → MatchAt (plainly m p) (plainly m q) j
     unfolding plainly same-but-places
-    plains (some i) r = plainM refl r
-    plains none r = badM
+    plains resolves r = plainM refl r
 
     -- a pair of places
     both : {k : Bool} {s : ℕ} {c : Code} {F : Fetched} {q e j : ℕ} → Ok k c → Sub es tree s c F → At W q (flat c) → q + length (flat c) ≡ e
@@ -128,10 +129,11 @@ module _ (ts : List Template) (ls : List Linear) (twins : (t : ℕ) → Twins (g
     module _ {k : Bool} (s : ℕ) {F : Fetched} {q e j : ℕ} (z : Close es tree W lin k F e j) where
       at-neutral : {op : ℕ} {ns : List ℕ} {r : Code} → Ok k (neutral op ns r) → Sub es tree s (neutral op ns r) F → At W q (flat (neutral op ns r))
           → q + length (flat (neutral op ns r)) ≡ e → MeetsAt (first es s (neutral op ns r) F) q j
-      unfolding Ok flat first
+      unfolding Ok flat first indicesFit
       at-neutral {op} {ns} {r} o u a h =
           nowM (lin-neutral ns (flat r) (o .0) (o .1) a)
-          (plains (resolve es op ns) (both (o .2) (sub-neutral es tree u) (at-skip W (op ∷ ns) (flat r) a (omega arith)) (omega (arith, length-append ns (flat r))) z))
+          (plains (fits-resolves es op ns (o .0) (and-eq-true-iff (indexFits es op ns) (indicesFit es r) .0 (u .indexed) .0))
+          (both (o .2) (sub-neutral es tree u) (at-skip W (op ∷ ns) (flat r) a (omega arith)) (omega (arith, length-append ns (flat r))) z))
 
       at-cont : {n : ℕ} {x r : Code} → Ok k (make-cont n x r) → Sub es tree s (make-cont n x r) F → At W q (flat (make-cont n x r))
           → q + length (flat (make-cont n x r)) ≡ e → MeetsAt (first es s (make-cont n x r) F) q j
@@ -217,7 +219,7 @@ module _ (ts : List Template) (ls : List Linear) (twins : (t : ℕ) → Twins (g
     at-start : Pair t (getD ts t noTemplate .start) t 0 0
     unfolding treeAt
     at-start =
-        both (twins t .closed) (record { within = λ p h l. refl; bound = twins t .tree-fits })
+        both (twins t .closed) (record { within = λ p h l. refl; bound = twins t .tree-fits; indexed = twins t .indexed })
         (record { rest = []; is = sym (append-nil W) }) refl ends
 
   pairs : {t p t′ q j : ℕ} → Pair t p t′ q j → Meets Pair (same-but-places Pair) 1 ⊥ (linearAt ls) t t′ (treeAt ts t p) q j

@@ -8,7 +8,7 @@ use lib.Dec.{leb}
 use lib.ListN.{length, getD, length-replicate, length-map, List·getD-map}
 use lib.Seq.{ext-getD}
 use borrow.Author.Tests.{le-leb, eq-eqb}
-use Rattle.cells.specs.Cells.{tagOf, frameCell}
+use Rattle.cells.specs.Cells.{tagOf, frameCell, framePlace}
 use Rattle.cells.specs.Laws.{frame-back}
 use Rattle.cells.specs.declared.Value.{Value}
 use Rattle.files.specs.Reading.{got, refused}
@@ -30,14 +30,14 @@ use Rattle.agree.specs.Lockstep.{Agree, Rel, Alike-ends, forward, backwa
 use Rattle.agree.specs.Kept.{same-but-places}
 use Rattle.agree.specs.Places.{Twins, Pair, pair, programs-agree}
 use Rattle.agree.specs.Files.{file-twins}
-use Rattle.agree.specs.Demand3.{aside, linearCounts, treeCounts, EndAlike, Startable, Ends, Forward, Backward}
+use Rattle.agree.specs.Demand3.{aside, linearCounts, treeCounts, jumpsMade, firstArms, EndAlike, StartsFrom, Ends, Forward, Backward}
 
 -- ---- frames that are the same but for their code places
 aside-frame : (n t e p : ℕ) → FrameFits n t e p → aside (frameCell n t e p) ≡ frameCell n t e 0
 unfolding aside
 aside-frame n t e p k =
     let b = frame-back n t e p (k .n-fits) (k .t-fits) (k .e-fits) (k .p-fits) in
-    rw (eq-eqb (tagOf (frameCell n t e p)) 10 (b .4), b .0, b .1, b .2) refl
+    rw (eq-eqb (tagOf (frameCell n t e p)) 10 (b .4), b .3) (omega arith)
 
 halts : (e : Ending) (c : ℕ) (v : Value) → endOf e c ≡ Halted v → e ≡ halted
 unfolding endOf
@@ -123,7 +123,7 @@ module _ (ts : List Template) (ls : List Linear) (twins : (t : ℕ) → Twins (g
   }
 
 -- ---- from the files' bytes
-flattens-read : (s w : List ℕ) (n q : ℕ) → flattened s n ≡ got w q → (ts : List Template) × (flatChecked s ≡ got ts q) × (w ≡ linearFile ts)
+pub flattens-read : (s w : List ℕ) (n q : ℕ) → flattened s n ≡ got w q → (ts : List Template) × (flatChecked s ≡ got ts q) × (w ≡ linearFile ts)
 unfolding flattened
 flattens-read s w n q e =
     then-led (flatChecked s) _ e (λ ts r first on. let x = into (leb (length (linearFile ts)) n) on in (ts, first ∙ ap (λ z. got ts z) (x .0), x .1))
@@ -132,64 +132,91 @@ flattens-read s w n q e =
     into true e = (cc, cc)
     into false e = refused-got e
 
-module _ (m : Memory) (st : Startable m) (b : ℕ) where
-  tree-is : (s : List ℕ) {ts : List Template} {q : ℕ} → treeChecked s ≡ got ts q → b ≤ 1000000 → treeRun s b m ≡ reported (programRun (treeProgram ts) b (m .globals))
+module _ {g : List ℕ} (m : Memory) (st : StartsFrom g m) (b : ℕ) where
+  tree-is : (s : List ℕ) {ts : List Template} {q : ℕ} → treeChecked s ≡ got ts q → b ≤ 1000000 → treeRun s b m ≡ reported (programRun (treeProgram ts) b g)
   unfolding treeRun started fitGlobals onTree
-  tree-is s e h = rw (st .lengths, le-leb b 1000000 h, st .globals, e) refl
+  tree-is s e h = rw (st .lengths, le-leb b 1000000 h, st .globals, st .fit, e) refl
 
-  linear-is : (w : List ℕ) {ls : List Linear} {q : ℕ} → linearRead w ≡ got ls q → b ≤ 2000000 → linearRun w b m ≡ reported (programRun (linearProgram ls) b (m .globals))
+  linear-is : (w : List ℕ) {ls : List Linear} {q : ℕ} → linearRead w ≡ got ls q → b ≤ 2000000
+      → linearRun w b m ≡ reported (programRun (linearProgram ls) b g)
   unfolding linearRun started fitGlobals onLinear
-  linear-is w e h = rw (st .lengths, le-leb b 2000000 h, st .globals, e) refl
+  linear-is w e h = rw (st .lengths, le-leb b 2000000 h, st .globals, st .fit, e) refl
 
-module _ (s w : List ℕ) (ts : List Template) (q : ℕ) (checked : flatChecked s ≡ got ts q) (is : w ≡ linearFile ts) (m : Memory) (st : Startable m) where
+-- the two programs of a tree file that passes 1 to 7, and their ends from the globals g
+module _ (s : List ℕ) (ts : List Template) (q : ℕ) (read : treeChecked s ≡ got ts q) (g : List ℕ) where
+  abbrev ls : List Linear
+  ls = linears 1 ts
+
+  abbrev treeEnd : ℕ → Ended
+  treeEnd b = programRun (treeProgram ts) b g
+
+  abbrev linearEnd : ℕ → Ended
+  linearEnd b = programRun (linearProgram ls) b g
+
+  pub twins : (t : ℕ) → Twins (getD ts t noTemplate) (getD ls t noLinear)
+  twins = file-twins s ts q read
+
+  unfoldable pub AlikeHere : Ended → Ended → Type 0
+  AlikeHere = Alike-ends (R ts ls twins) (same-but-places (R ts ls twins)) 1 ⊥ (treeProgram ts) (linearProgram ls) (A ts ls twins)
+
+  pub tree-ends : (b : ℕ) → (treeEnd b .ending ≡ spent → ⊥) → AlikeHere (treeEnd b) (linearEnd (2 * b))
+  unfolding programRun AlikeHere
+  tree-ends b h =
+      forward (R ts ls twins) (same-but-places (R ts ls twins)) 1 ⊥ (treeProgram ts) (linearProgram ls) (A ts ls twins) (begin ts ls twins g) b h
+
+  pub linear-ends : (b : ℕ) → (linearEnd b .ending ≡ spent → ⊥) → AlikeHere (treeEnd b) (linearEnd b)
+  unfolding programRun AlikeHere
+  linear-ends b h =
+      backward (R ts ls twins) (same-but-places (R ts ls twins)) 1 ⊥ (treeProgram ts) (linearProgram ls) (A ts ls twins) (begin ts ls twins g) b h
+
+module _ (s w : List ℕ) (ts : List Template) (q : ℕ) (checked : flatChecked s ≡ got ts q) (is : w ≡ linearFile ts) where
   tree-read : treeChecked s ≡ got ts q
   tree-read = flat-checked s ts q checked
 
-  linear-read : linearRead w ≡ got (linears 1 ts) (8 * length (linearFile ts))
+  pub linear-read : linearRead w ≡ got (linears 1 ts) (8 * length (linearFile ts))
   linear-read = ap linearRead is ∙ flattened-reads s ts q checked
 
-  abbrev treeEnd : ℕ → Ended
-  treeEnd b = programRun (treeProgram ts) b (m .globals)
+  module _ (g : List ℕ) (m m′ : Memory) (st : StartsFrom g m) (st′ : StartsFrom g m′) (b b′ : ℕ) (h : b ≤ 1000000) (h′ : b′ ≤ 2000000) where
+    abbrev x : Ended
+    x = treeEnd s ts q tree-read g b
 
-  abbrev linearEnd : ℕ → Ended
-  linearEnd b = programRun (linearProgram (linears 1 ts)) b (m .globals)
+    abbrev y : Ended
+    y = linearEnd s ts q tree-read g b′
 
-  -- the ends of the two machines, as ends of the two programs
-  end-alike : (b b′ : ℕ) → b ≤ 1000000 → b′ ≤ 2000000 → EndAlike (reported (treeEnd b)) (reported (linearEnd b′)) (linearEnd b′ .counts .jumps) (treeEnd b .counts .firsts)
-      → EndAlike (treeRun s b m) (linearRun w b′ m) (linearCounts b′ (m .globals) (linearRead w) .jumps) (treeCounts b (m .globals) (treeChecked s) .firsts)
-  unfolding linearCounts treeCounts
-  end-alike b b′ h h′ x = rw (tree-is m st b s tree-read h, linear-is m st b′ w linear-read h′, linear-read, tree-read) x
+    -- the ends of the two machines, as ends of the two programs
+    of-programs : EndAlike (reported x) (reported y) (y .counts .jumps) (x .counts .firsts)
+        → EndAlike (treeRun s b m) (linearRun w b′ m′) (jumpsMade w b′ g) (firstArms s b g)
+    unfolding linearCounts treeCounts
+    of-programs e =
+        let j : jumpsMade w b′ g ≡ y .counts .jumps = ap (λ z. linearCounts b′ g z .jumps) linear-read in
+        let f : firstArms s b g ≡ x .counts .firsts = ap (λ z. treeCounts b g z .firsts) tree-read in
+        rw (tree-is m st b s tree-read h, linear-is m′ st′ b′ w linear-read h′, j, f) e
 
-  forward-here : (b : ℕ) → b ≤ 1000000 → Ends (treeRun s b m)
-      → EndAlike (treeRun s b m) (linearRun w (2 * b) m) (linearCounts (2 * b) (m .globals) (linearRead w) .jumps) (treeCounts b (m .globals) (treeChecked s) .firsts)
-  unfolding programRun reported
-  forward-here b h e =
-      let t = file-twins s ts q checked in
-      let e′ : Ends (reported (treeEnd b)) = rw (tree-is m st b s tree-read h) at e in
-      end-alike b (2 * b) h (omega arith)
-      (reported-alike ts (linears 1 ts) t (treeEnd b) (linearEnd (2 * b))
-      (forward (Pair ts (linears 1 ts) t) (same-but-places (Pair ts (linears 1 ts) t)) 1 ⊥ (treeProgram ts) (linearProgram (linears 1 ts)) (programs-agree ts (linears 1 ts) t)
-      (begin ts (linears 1 ts) t (m .globals)) b
-      (λ z. e′ (spends (treeEnd b .ending) (treeEnd b .state .now .regs .v) z))))
+    end-alike : AlikeHere s ts q tree-read g x y → EndAlike (treeRun s b m) (linearRun w b′ m′) (jumpsMade w b′ g) (firstArms s b g)
+    unfolding AlikeHere
+    end-alike a = of-programs (reported-alike ts (linears 1 ts) (twins s ts q tree-read g) x y a)
 
-  backward-here : (b : ℕ) → b ≤ 1000000 → Ends (linearRun w b m)
-      → EndAlike (treeRun s b m) (linearRun w b m) (linearCounts b (m .globals) (linearRead w) .jumps) (treeCounts b (m .globals) (treeChecked s) .firsts)
-  unfolding programRun reported
-  backward-here b h e =
-      let t = file-twins s ts q checked in
-      let e′ : Ends (reported (linearEnd b)) = rw (linear-is m st b w linear-read (omega arith)) at e in
-      end-alike b b h (omega arith)
-      (reported-alike ts (linears 1 ts) t (treeEnd b) (linearEnd b)
-      (backward (Pair ts (linears 1 ts) t) (same-but-places (Pair ts (linears 1 ts) t)) 1 ⊥ (treeProgram ts) (linearProgram (linears 1 ts)) (programs-agree ts (linears 1 ts) t)
-      (begin ts (linears 1 ts) t (m .globals)) b
-      (λ z. e′ (spends (linearEnd b .ending) (linearEnd b .state .now .regs .v) z))))
+  module _ (g : List ℕ) (m m′ : Memory) (st : StartsFrom g m) (st′ : StartsFrom g m′) (b : ℕ) (h : b ≤ 1000000) where
+    forward-here : Ends (treeRun s b m) → EndAlike (treeRun s b m) (linearRun w (2 * b) m′) (jumpsMade w (2 * b) g) (firstArms s b g)
+    unfolding reported
+    forward-here e =
+        let x = treeEnd s ts q tree-read g b in
+        let e′ : Ends (reported x) = rw (tree-is m st b s tree-read h) at e in
+        end-alike g m m′ st st′ b (2 * b) h (omega arith) (tree-ends s ts q tree-read g b (λ z. e′ (spends (x .ending) (x .state .now .regs .v) z)))
+
+    backward-here : Ends (linearRun w b m′) → EndAlike (treeRun s b m) (linearRun w b m′) (jumpsMade w b g) (firstArms s b g)
+    unfolding reported
+    backward-here e =
+        let y = linearEnd s ts q tree-read g b in
+        let e′ : Ends (reported y) = rw (linear-is m′ st′ b w linear-read (omega arith)) at e in
+        end-alike g m m′ st st′ b b h (omega arith) (linear-ends s ts q tree-read g b (λ z. e′ (spends (y .ending) (y .state .now .regs .v) z)))
 
 pub demand-3-forward : Forward
-demand-3-forward s w n b m f st h e =
+demand-3-forward s w g n b m m′ f st st′ h e =
     let r = flattens-read s w n (f .0) (f .1) in
-    forward-here s w (r .0) (f .0) (r .1) (r .2) m st b h e
+    forward-here s w (r .0) (f .0) (r .1) (r .2) g m m′ st st′ b h e
 
 pub demand-3-backward : Backward
-demand-3-backward s w n b m f st h e =
+demand-3-backward s w g n b m m′ f st st′ h e =
     let r = flattens-read s w n (f .0) (f .1) in
-    backward-here s w (r .0) (f .0) (r .1) (r .2) m st b h e
+    backward-here s w (r .0) (f .0) (r .1) (r .2) g m m′ st st′ b h e

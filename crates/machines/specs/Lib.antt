@@ -3,6 +3,7 @@ pub mod Fetched
 pub mod Machine
 pub mod Runs
 pub mod Slots
+pub mod Resolved
 pub mod Instruction
 pub mod Start
 pub mod Steps

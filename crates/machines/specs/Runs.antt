@@ -31,6 +31,12 @@ memory g s t f = record { globals = g; stack = s; store = t; frames = f }
 pub data Ran : Type 0 where
   ran : Run → Memory → Ran
 
+abbrev pub runOf : Ran → Run
+runOf (ran r m) = r
+
+abbrev pub leftOf : Ran → Memory
+leftOf (ran r m) = m
+
 -- a refused run has its number and place, zero steps and counts, and leaves everything as it was
 unfoldable pub refusedRun : ℕ → ℕ → Memory → Ran
 refusedRun n p m = ran (record { end = Refused n p; steps = 0; stack = 0; store = 0; frames = 0 }) m

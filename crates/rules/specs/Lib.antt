@@ -7,6 +7,7 @@ pub mod Fit
 pub mod Answers
 pub mod Told
 pub mod Related
+pub mod Numbers
 pub mod Frames
 pub mod Effects
 pub mod Clean

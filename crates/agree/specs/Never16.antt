@@ -1,0 +1,99 @@
+-- 16 is a matter of linear code alone (document 01, 'Rules'): no sheet ends so. For every tree file, budget and memory no run of the tree machine
+-- ends wrong 16; for every file that the flattener writes no run of the linear machine does. Assumes nothing.
+use Prim.Native.Nat.{ℕ, _*_}
+use native.Mathlib.Omega.{arith}
+use mathlib.Core.Path.{_≡_, refl, _∙_}
+use mathlib.Core.Bool.{Bool, true, false, cond}
+use mathlib.Core.List.{List}
+use mathlib.Core.Option.{Option, none, some}
+use lib.Dec.{leb}
+use lib.ListN.{length}
+use Rattle.files.specs.Reading.{Got, got, refused}
+use Rattle.files.specs.Tree.{Template}
+use Rattle.files.specs.Linear.{Linear, linearRead}
+use Rattle.files.specs.Accepted.{treeChecked}
+use Rattle.readback.specs.Templates.{linears}
+use Rattle.readback.specs.ReadBack.{flat-checked}
+use Rattle.machines.specs.Machine.{treeProgram, linearProgram, Ending, halted, wrongly, spent, Ended}
+use Rattle.machines.specs.Runs.{Memory, Ran, runOf, refusedRun, rightLengths, lowestUnfit, fitGlobals, started, endOf, reported, programRun}
+use Rattle.machines.specs.Runs.{onTree, onLinear, treeRun, linearRun}
+use Rattle.machines.specs.declared.End.the-variants.{Wrong}
+use Rattle.agree.specs.Kept.{same-but-places}
+use Rattle.agree.specs.Demand3.{Flattens}
+use Rattle.agree.specs.Proved.{flattens-read, linear-read, AlikeHere, tree-ends, linear-ends}
+
+-- ---- the statements
+abbrev pub Ends16 : Ran → Type 0
+Ends16 x = runOf x .end ≡ Wrong 16
+
+abbrev pub TreeNever16 : Type 0
+TreeNever16 = (s : List ℕ) (b : ℕ) (m : Memory) → Ends16 (treeRun s b m) → ⊥
+
+abbrev pub LinearNever16 : Type 0
+LinearNever16 = (s w : List ℕ) (n b : ℕ) (m : Memory) → Flattens s n w → Ends16 (linearRun w b m) → ⊥
+
+-- ---- a start that is refused ends otherwise
+refused-never : (n p : ℕ) (m : Memory) → Ends16 (refusedRun n p m) → ⊥
+unfolding refusedRun
+refused-never n p m e = let z : _≡_ {A = ℕ} 0 1 = cc in omega arith
+
+started-never : (most b : ℕ) (m : Memory) (r : Ran) → (Ends16 r → ⊥) → Ends16 (started most b m r) → ⊥
+unfolding started fitGlobals
+started-never most b m r h = lengths (rightLengths m) (leb b most) (lowestUnfit 0 (m .globals))
+  where
+    lengths : (x y : Bool) (o : Option ℕ) → Ends16 (cond x (cond y (fitGlobals o m r) (refusedRun 21 0 m)) (refusedRun 20 0 m)) → ⊥
+    lengths true true (some g) = refused-never 22 g m
+    lengths true true none = h
+    lengths true false o = refused-never 21 0 m
+    lengths false y o = refused-never 20 0 m
+
+-- ---- the end of a program that is wrong 16
+ends-wrongly : (x : Ended) → Ends16 (reported x) → x .ending ≡ wrongly 16
+unfolding reported endOf
+ends-wrongly x = by (x .ending)
+  where
+    by : (e : Ending) → endOf e (x .state .now .regs .v) ≡ Wrong 16 → e ≡ wrongly 16
+    by halted h = let z : _≡_ {A = ℕ} 0 1 = cc in absurd (omega arith)
+    by (wrongly n) h = let z : n ≡ 16 = cc in rw z refl
+    by spent h = let z : _≡_ {A = ℕ} 0 1 = cc in absurd (omega arith)
+
+not-spent : (x : Ended) → x .ending ≡ wrongly 16 → x .ending ≡ spent → ⊥
+not-spent x e h = let z : _≡_ {A = ℕ} 0 1 = cc in omega arith
+
+module _ (s : List ℕ) (ts : List Template) (q : ℕ) (read : treeChecked s ≡ got ts q) (g : List ℕ) where
+  same-ending : (x y : Ended) → AlikeHere s ts q read g x y → x .ending ≡ y .ending
+  unfolding AlikeHere
+  same-ending x y a = a .same-ending
+
+  alike-never : (x y : Ended) → AlikeHere s ts q read g x y → x .ending ≡ wrongly 16 → ⊥
+  unfolding AlikeHere same-but-places
+  alike-never x y a e = a .related .only-there e
+
+  -- THE LAWS
+  tree-program-never : (b : ℕ) → Ends16 (reported (programRun (treeProgram ts) b g)) → ⊥
+  tree-program-never b h =
+      let x = programRun (treeProgram ts) b g in
+      let e = ends-wrongly x h in
+      alike-never x _ (tree-ends s ts q read g b (not-spent x e)) e
+
+  linear-program-never : (b : ℕ) → Ends16 (reported (programRun (linearProgram (linears 1 ts)) b g)) → ⊥
+  linear-program-never b h =
+      let y = programRun (linearProgram (linears 1 ts)) b g in
+      let e = ends-wrongly y h in
+      let a = linear-ends s ts q read g b (not-spent y e) in
+      alike-never _ y a (same-ending _ y a ∙ e)
+
+pub tree-never-16 : TreeNever16
+unfolding treeRun onTree
+tree-never-16 s b m = started-never 1000000 b m _ (by (treeChecked s) refl)
+  where
+    by : (x : Got (List Template)) → treeChecked s ≡ x → Ends16 (onTree b m x) → ⊥
+    by (got ts q) e = tree-program-never s ts q e (m .globals) b
+    by (refused n p) e = refused-never n p m
+
+pub linear-never-16 : LinearNever16
+unfolding linearRun onLinear
+linear-never-16 s w n b m f =
+    let r = flattens-read s w n (f .0) (f .1) in
+    started-never 2000000 b m _
+    (rw (linear-read s w (r .0) (f .0) (r .1) (r .2)) (linear-program-never s (r .0) (f .0) (flat-checked s (r .0) (f .0) (r .1)) (m .globals) b))
