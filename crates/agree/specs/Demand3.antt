@@ -1,11 +1,12 @@
--- Demand 3, the statement. Its proof stands in Proved.antt. Everything it speaks of is defined in the specs of files, flatten and
+-- Demand 3 and request 8, the statement. Its proof stands in Proved.antt. Everything it speaks of is defined in the specs of files, flatten and
 -- machines.
 --
 -- For a file the flattener accepts, the same starting globals and a budget of b steps (at most 1,000,000):
 --   Forward: if the tree machine with budget b ends (halts or goes wrong, not out of budget), the linear machine with budget 2 b ends alike;
 --   Backward: if the linear machine ends with budget b, so does the tree machine with b, alike.
 -- Alike: same end, answer, globals, stack, store, frames (only saved code places aside) and used counts; the linear machine takes the tree
--- machine's steps plus its jumps, and there are never more jumps than open conditionals that took their first arm.
+-- machine's steps plus its jumps; there are never more jumps than open conditionals that took their first arm, and where the runs halt exactly
+-- as many (request 8).
 use Prim.Native.Nat.{ℕ, _+_, _*_, _-_, _≤_}
 use mathlib.Core.Path.{_≡_}
 use mathlib.Core.Bool.{true, cond}
@@ -54,11 +55,8 @@ pub record EndAlike (x y : Ran) (jumps firsts : ℕ) : Type 0 where
   pub same-store-used : runOf x .store ≡ runOf y .store
   pub same-frames-used : runOf x .frames ≡ runOf y .frames
   pub steps : runOf y .steps ≡ runOf x .steps + jumps
-  -- the first arms taken are the jumps made and those still pending, here and in the frames; a halt leaves none pending
-  pub pending : ℕ
-  pub tally : jumps + pending ≡ firsts
-  pub none-pending : (v : Value) → runOf x .end ≡ Halted v → pending ≡ 0
-  pub bound : jumps ≤ firsts
+  pub at-most : jumps ≤ firsts
+  pub exactly : (v : Value) → runOf x .end ≡ Halted v → jumps ≡ firsts
 
 -- w is the linear file that the flattener writes for s into an output of n bytes
 abbrev pub Flattens : List ℕ → ℕ → List ℕ → Type 0

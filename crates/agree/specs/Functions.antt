@@ -1,4 +1,4 @@
--- Demand 3 of the functions themselves, from their promises alone. A promise is given here as the function's `ensures` has it: an
+-- Demand 3 and request 8 of the functions themselves, from their promises alone. A promise is given here as the function's `ensures` has it: an
 -- equation for what is answered and left, in the words of flatten/specs/Flatten and machines/specs/Runs. Assumes nothing.
 use Prim.Native.Nat.{ℕ, _*_, _≤_}
 use native.Mathlib.Omega.{arith}

@@ -1,4 +1,4 @@
--- Demand 3, proved: Forward and Backward of Demand3.antt. Assumes nothing.
+-- Demand 3 and request 8, proved: Forward and Backward of Demand3.antt. Assumes nothing.
 use Prim.Native.Nat.{ℕ, _+_, _*_, _-_, _≤_, _<_}
 use native.Mathlib.Omega.{arith}
 use mathlib.Core.Path.{_≡_, refl, sym, ap, _∙_}
@@ -97,10 +97,8 @@ module _ (ts : List Template) (ls : List Linear) (twins : (t : ℕ) → Twins (g
         same-store-used = ap (λ r. r .st) (s .regs-same);
         same-frames-used = s .fr-same;
         steps = omega arith;
-        pending = e .pending + e .waiting;
-        tally = omega arith;
-        none-pending = λ v h. let q = e .quiet (halts (x .ending) (x .state .now .regs .v) v h) in omega arith;
-        bound = omega arith;
+        at-most = omega arith;
+        exactly = λ v h. let q = e .quiet (halts (x .ending) (x .state .now .regs .v) v h) in omega arith;
       }
 
   -- both start alike, with nothing pending
