@@ -5,13 +5,12 @@ use mathlib.Core.List.{List, [], _∷_}
 use lib.Dec.{leb}
 use lib.ListN.{length}
 use lib.Seq.{sets}
-use Rattle.cells.specs.Cells.{cellOf}
 use Rattle.files.specs.Reading.{Got}
 use Rattle.flatten.specs.Flatten.{answered, written}
 use Rattle.flatten.specs.declared.Flattened.{Flattened}
 use Rattle.flatten.specs.declared.Flattened.the-variants.{Written}
 use Rattle.flatten.specs.declared.Flattened.the-variants.{Refused as FlatRefused}
-use Rattle.machines.specs.Runs.{Memory, Ran, ran, numberOf}
+use Rattle.machines.specs.Runs.{Memory, Ran, ran, numberOf, answerCell}
 use Rattle.machines.specs.declared.End.{End}
 use Rattle.machines.specs.declared.End.the-variants.{Halted, Wrong, OutOfBudget, Refused}
 use Rattle.machines.specs.declared.Run.{Run}
@@ -43,18 +42,11 @@ placeSlot (Wrong n) = 0
 placeSlot OutOfBudget = 0
 placeSlot (Refused n p) = p
 
--- the answer is cell 0 unless halted
-unfoldable pub answerSlot : End → ℕ
-answerSlot (Halted v) = cellOf v
-answerSlot (Wrong n) = 0
-answerSlot OutOfBudget = 0
-answerSlot (Refused n p) = 0
-
 abbrev pub endSlots : End → List ℕ
-endSlots e = endSlot e ∷ numberOf e ∷ placeSlot e ∷ answerSlot e ∷ []
+endSlots e = endSlot e ∷ numberOf e ∷ placeSlot e ∷ answerCell e ∷ []
 
 abbrev pub runSlots : Run → List ℕ
-runSlots r = endSlot (r .end) ∷ numberOf (r .end) ∷ placeSlot (r .end) ∷ answerSlot (r .end) ∷ r .steps ∷ r .stack ∷ r .store ∷ r .frames ∷ []
+runSlots r = endSlot (r .end) ∷ numberOf (r .end) ∷ placeSlot (r .end) ∷ answerCell (r .end) ∷ r .steps ∷ r .stack ∷ r .store ∷ r .frames ∷ []
 
 -- what is left in the four memories and in the result
 pub data Exported : Type 0 where

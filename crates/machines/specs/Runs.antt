@@ -5,7 +5,7 @@ use mathlib.Core.List.{List, [], _∷_}
 use mathlib.Core.Option.{Option, none, some}
 use lib.Dec.{leb, eqb}
 use lib.ListN.{length, replicate}
-use Rattle.cells.specs.Cells.{startingGlobal, unspecifiedCell, valueOf}
+use Rattle.cells.specs.Cells.{startingGlobal, unspecifiedCell, valueOf, cellOf}
 use Rattle.files.specs.Reading.{Got, got, refused}
 use Rattle.files.specs.Tree.{Template}
 use Rattle.files.specs.Linear.{Linear, linearRead}
@@ -116,3 +116,10 @@ numberOf (Halted v) = 0
 numberOf (Wrong n) = n
 numberOf OutOfBudget = 19
 numberOf (Refused n p) = n
+
+-- the answer's cell: cell 0 unless halted
+unfoldable pub answerCell : End → ℕ
+answerCell (Halted v) = cellOf v
+answerCell (Wrong n) = 0
+answerCell OutOfBudget = 0
+answerCell (Refused n p) = 0

@@ -1,5 +1,5 @@
--- The two machines: after an accepted start, at every end stack, store and frame cells not in use are zero (document 01, 'Cells'), and an answer
--- is a value. Assumes nothing.
+-- The two machines: after an accepted start, at every end stack, store and frame cells not in use are zero (document 01, 'Cells'), an answer is a
+-- value, and its cell is the one that v held. Assumes nothing.
 use Prim.Native.Nat.{ℕ, _≤_}
 use mathlib.Core.Path.{_≡_, refl}
 use mathlib.Core.Bool.{Bool, true, false, cond, and-eq-true-iff}
@@ -8,7 +8,7 @@ use mathlib.Core.Option.{Option, none, some}
 use borrow.Author.Tests.{eqb-true}
 use lib.Dec.{leb, eqb}
 use lib.ListN.{length}
-use Rattle.cells.specs.Cells.{valueOf}
+use Rattle.cells.specs.Cells.{valueOf, cellOf}
 use Rattle.cells.specs.declared.Value.the-variants.{NoValue}
 use Rattle.files.specs.Reading.{Got, got, refused}
 use Rattle.files.specs.AllGot.{AllGot}
@@ -18,7 +18,8 @@ use Rattle.files.specs.Accepted.{treeChecked}
 use Rattle.files.specs.Valid.{Bytes}
 use Rattle.rules.specs.Clean.{ZeroFrom}
 use Rattle.machines.specs.Machine.{Program, treeProgram, linearProgram, noCounts, Ending, halted, wrongly, spent, run}
-use Rattle.machines.specs.Runs.{Memory, Ran, ran, refusedRun, rightLengths, lowestUnfit, fitGlobals, started, startState, endOf, memoryOf, reported, programRun}
+use Rattle.machines.specs.Runs.{Memory, Ran, ran, runOf, refusedRun, rightLengths, lowestUnfit, fitGlobals, started, startState}
+use Rattle.machines.specs.Runs.{endOf, answerCell, memoryOf, reported, programRun}
 use Rattle.machines.specs.Runs.{onTree, onLinear, treeRun, linearRun}
 use Rattle.machines.specs.declared.End.{End}
 use Rattle.machines.specs.declared.End.the-variants.{Halted, Wrong, OutOfBudget, Refused}
@@ -81,6 +82,24 @@ program-ok P fit b g h =
       frames-zero = k .clean .clean-frames;
     })
     (value-run P fit g h b (P .start 0) .1)
+
+-- the answer's cell is the cell that v held where the run halted, and cell 0 elsewhere (document 01, 'Rules')
+abbrev answered : Ending → ℕ → ℕ
+answered halted v = v
+answered (wrongly n) v = 0
+answered spent v = 0
+
+pub answer-is : (P : Program) → ProgramOk P → (b : ℕ) (g : List ℕ) → FitGlobals g
+    → answerCell (runOf (reported (programRun P b g)) .end) ≡ answered (programRun P b g .ending) (programRun P b g .state .now .regs .v)
+unfolding reported programRun endOf answerCell
+answer-is P fit b g h =
+    let e = run P b noCounts (startState g (P .start 0)) in
+    by (e .ending) (e .state .now .regs .v) (value-run P fit g h b (P .start 0) .2)
+  where
+    by : (x : Ending) (v : ℕ) → cellOf (valueOf v) ≡ v → answerCell (endOf x v) ≡ answered x v
+    by halted v e = e
+    by (wrongly n) v e = refl
+    by spent v e = refl
 
 -- ---- the start
 started-ok : (most b : ℕ) (m : Memory) (r : Ran) → (FitGlobals (m .globals) → RanOk r) → RanOk (started most b m r)

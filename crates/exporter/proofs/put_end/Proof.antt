@@ -1,8 +1,8 @@
 -- `exporter::put_end` meets its contract: in each arm the end is known, and so are its slots. Assumes nothing.
 use borrow.Author.Needs.{needs}
 use Rattle.exporter.specs.Answers.{AnswerFits}
-use Rattle.exporter.specs.Exporter.{endSlot, placeSlot, answerSlot}
-use Rattle.machines.specs.Runs.{numberOf}
+use Rattle.exporter.specs.Exporter.{endSlot, placeSlot}
+use Rattle.machines.specs.Runs.{numberOf, answerCell}
 use Rattle.exporter.proofs.put_end.Statement.{statement}
 use Rattle.exporter.proofs.put_end.Tie as tie
 
@@ -44,28 +44,28 @@ same-length : tie.Need-same-length
 same-length c = search needs
 
 returns : tie.Need-returns
-unfolding endSlot numberOf placeSlot answerSlot
+unfolding endSlot numberOf placeSlot answerCell
 returns c = rw (c .before .before .before .before .before .before .end .given .1, ← c .before .before .before .answer-cell .ensures) (c .before .before .put-four .ensures)
 
 same-length-2 : tie.Need-same-length-2
 same-length-2 c = search needs
 
 returns-2 : tie.Need-returns-2
-unfolding endSlot numberOf placeSlot answerSlot
+unfolding endSlot numberOf placeSlot answerCell
 returns-2 c = rw (c .before .before .before .before .before .end2 .given .1) (c .before .before .put-four2 .ensures)
 
 same-length-3 : tie.Need-same-length-3
 same-length-3 c = search needs
 
 returns-3 : tie.Need-returns-3
-unfolding endSlot numberOf placeSlot answerSlot
+unfolding endSlot numberOf placeSlot answerCell
 returns-3 c = rw (c .before .before .before .before .enum-told .given .1) (c .before .before .put-four3 .ensures)
 
 same-length-4 : tie.Need-same-length-4
 same-length-4 c = search needs
 
 returns-4 : tie.Need-returns-4
-unfolding endSlot numberOf placeSlot answerSlot
+unfolding endSlot numberOf placeSlot answerCell
 returns-4 c = rw (c .before .before .before .before .before .end3 .given .1) (c .before .before .put-four4 .ensures)
 
 pub put-end-spec : {M : Type 1} → statement M
