@@ -3,9 +3,9 @@ use Prim.Native.Nat.{ℕ, suc, _+_, _*_, _-_, _≤_, _<_}
 use native.Mathlib.Nat.{add-zero, zero-add, sub-zero}
 use native.Mathlib.Omega.{arith}
 use mathlib.Core.Path.{_≡_, refl, sym, ap, _∙_}
-use mathlib.Core.Bool.{Bool, true, false, cond}
+use mathlib.Core.Bool.{true}
 use mathlib.Core.List.{List, [], _∷_, _++_, append-assoc}
-use mathlib.Core.Option.{none, some}
+use mathlib.Core.Option.{none}
 use borrow.Author.Tests.{le-leb, lt-leb}
 use lib.ListN.{length, getD, set, length-append}
 use lib.Seq.{sets, sets-eq, getD-append-seam}
@@ -19,6 +19,7 @@ use Rattle.files.specs.Tree.{Template, templatesAt, treeRead}
 use Rattle.files.specs.Table.{treeTable}
 use Rattle.files.specs.TableLaws.{Few, treeEntries, row-start, tree-slot}
 use Rattle.files.specs.AllGot.{got-value, field-got, tree-read}
+use Rattle.readback.specs.Led.{lowest-led}
 use Rattle.tree.specs.declared.Summary.{Summary}
 use Rattle.tree.specs.declared.TreeFile.the-variants.{Read}
 use Rattle.tree.specs.Summary.{summaryOf, treeTold}
@@ -94,14 +95,6 @@ module _ (s table : List ℕ) (T room : ℕ) (o₀ : List ℕ) where
             }
 
 -- ---- the templates of a file that was read
-lowest-none : (ok : Template → Bool) (n : ℕ) (t : Template) (ts : List Template) → lowest ok n (t ∷ ts) ≡ none → (ok t ≡ true) × (lowest ok (n + 1) ts ≡ none)
-unfolding lowest
-lowest-none ok n t ts = go (ok t)
-  where
-    go : (b : Bool) → cond b (lowest ok (n + 1) ts) (some n) ≡ none → (b ≡ true) × (lowest ok (n + 1) ts ≡ none)
-    go true e = (refl, e)
-    go false e = let z : _≡_ {A = ℕ} 0 1 = cc in absurd (omega arith)
-
 all-flattenable : (all : List Template) → Few treeEntries all → (front ts : List Template) (own : ℕ) → all ≡ front ++ ts → length front ≡ own → lowest offsetTemplate own ts ≡ none → Flattenable (treeTable all) own ts
 unfolding Flattenable
 all-flattenable all few front [] own e l h = tt
@@ -110,7 +103,7 @@ all-flattenable all few front (t ∷ ts) own e l h =
     let at : getD all own t ≡ t = rw (e, ← l) (getD-append-seam front t ts t) in
     let z : 256 * own + 0 ≡ 256 * own = add-zero (256 * own) in
     let slot : getD (treeTable all) (256 * own) 0 ≡ t .start = (rw z at (tree-slot all few own 0 t (omega arith) (omega arith))) ∙ row-start (getD all own t .start) (getD all own t .entries) ∙ ap (λ (x : Template). x .start) at in
-    let k = lowest-none offsetTemplate own t ts h in
+    let k = lowest-led offsetTemplate own t ts h in
     let a : all ≡ (front ++ (t ∷ [])) ++ ts = e ∙ sym (append-assoc front (t ∷ []) ts) in
     let b : length (front ++ (t ∷ [])) ≡ own + 1 = length-append front (t ∷ []) ∙ omega arith in
     (slot, k .0, all-flattenable all few (front ++ (t ∷ [])) ts (own + 1) a b (k .1))

@@ -14,13 +14,14 @@ use Rattle.files.specs.AllGot.{field-got}
 use Rattle.files.specs.EntriesLaws.{entries-read, bytes-length}
 use Rattle.files.specs.Flat.{flat}
 use Rattle.files.specs.Linear.{entriesBits, bytesOf, threeBytes, templateBytes}
+use Rattle.readback.specs.Lists.{bitsFrom, from-length}
+use Rattle.readback.specs.Standing.{entries-stand, entries-copied}
 use Rattle.tree.specs.Parts.{TemplateParts, template-parts}
 use Rattle.tree.specs.SummaryLaws.{template-length}
 use Rattle.emit.specs.declared.Measured.{Measured}
 use Rattle.emit.specs.Written.{measuredOf}
 use Rattle.emit.specs.ToWrite.{ToWrite}
 use Rattle.emit.specs.Stores.{sets-four}
-use Rattle.flatten.specs.Copied.{bitsFrom, bits-length, entries-copied}
 use Rattle.flatten.specs.ToFlatten.{TemplateToWrite, TemplateDone}
 
 -- m is what was measured of its list
@@ -43,7 +44,9 @@ module _ {s table : List ℕ} {own p front room : ℕ} (w : TemplateToWrite s ta
   counted = field-got s p 8 (parts .counted)
 
   copied : (parts .first ≤ w .template .start) × (entriesBits (w .template .entries) ≡ bitsFrom s (parts .first) (w .template .start - parts .first))
-  copied = entries-copied s own (w .count) (parts .count) (parts .first) (parts .entries)
+  copied =
+      let k = entries-stand s own (w .count) (parts .count) (parts .first) (counted .2) (parts .entries) in
+      (omega (arith, k .past), sym (entries-copied s own (w .count) (parts .count) (parts .first) (counted .2) (parts .entries)))
 
   bits-are : entriesBits (w .template .entries) ≡ bitsFrom s (p + 8) (listStart - (p + 8))
   bits-are = copied .1 ∙ rw (counted .1, w .start) refl
@@ -62,11 +65,11 @@ module _ {s table : List ℕ} {own p front room : ℕ} (w : TemplateToWrite s ta
   size-is = ap (λ (x : Measured). x .size) (measured (w .template .code) (w .past) list-read)
 
   bits-bytes : length (bytesOf (bitsFrom s (p + 8) (listStart - (p + 8)))) ≡ (listStart - (p + 8) + 7) / 8
-  bits-bytes = bytes-length (bitsFrom s (p + 8) (listStart - (p + 8))) ∙ rw (bits-length s (p + 8) (listStart - (p + 8))) refl
+  bits-bytes = bytes-length (bitsFrom s (p + 8) (listStart - (p + 8))) ∙ rw (from-length s (p + 8) (listStart - (p + 8))) refl
 
   pub all-bytes : lengthFront + 3 + m .size ≡ front + length (templateBytes (w .template))
   all-bytes =
-      let k : length (entriesBits (w .template .entries)) ≡ listStart - (p + 8) = ap length bits-are ∙ bits-length s (p + 8) (listStart - (p + 8)) in
+      let k : length (entriesBits (w .template .entries)) ≡ listStart - (p + 8) = ap length bits-are ∙ from-length s (p + 8) (listStart - (p + 8)) in
       omega (arith, template-length (w .template), size-is)
 
   pub room-enough : lengthFront + 3 + m .size ≤ room

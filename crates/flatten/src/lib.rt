@@ -7,7 +7,7 @@ ghost use lib.ListN.{length};
 ghost use lib.Seq.{sets};
 ghost use Rattle.files.specs.Linear.{byteOf, bytesOf, threeBytes, templatesBytes};
 ghost use Rattle.flatten.specs.Flatten.{flattened, answered, written};
-ghost use Rattle.flatten.specs.Copied.{bitsFrom};
+ghost use Rattle.readback.specs.Lists.{bitsFrom};
 ghost use Rattle.flatten.specs.ToFlatten.{TemplateToWrite, TemplatesToWrite, TemplateDone};
 
 // What flattening answers: the linear file's length, or a refusal's number and place.

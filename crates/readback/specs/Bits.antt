@@ -106,14 +106,14 @@ field-stands s p w v lt h =
     let f : p + length (bitsOf w v) ≤ 8 * length s = h .fits in
     field-here s p w (omega (arith, length-bits w v)) ∙ here (field-mod s w v p h ∙ mod-eq-of-lt lt) refl
 
-bits-at : (w v i : ℕ) → i < w → getD (bitsOf w v) i 0 ≡ v / 2 ^ (w - suc i) % 2
+pub bits-at : (w v i : ℕ) → i < w → getD (bitsOf w v) i 0 ≡ v / 2 ^ (w - suc i) % 2
 unfolding bitsOf
 bits-at zero v i lt = absurd (omega arith)
 bits-at (suc w) v zero lt = ap (λ (n : ℕ). v / 2 ^ n % 2) (omega arith)
 bits-at (suc w) v (suc i) lt = bits-at w v i (omega arith) ∙ ap (λ (n : ℕ). v / 2 ^ n % 2) (omega arith)
 
 -- a byte is its eight bits
-byte-stands : (s : List ℕ) (k : ℕ) → k < length s → Stands s (8 * k) (bitsOf 8 (getD s k 0))
+pub byte-stands : (s : List ℕ) (k : ℕ) → k < length s → Stands s (8 * k) (bitsOf 8 (getD s k 0))
 unfolding bitAt
 byte-stands s k lt = record { each = each; fits = omega (arith, length-bits 8 (getD s k 0)) }
   where

@@ -5,13 +5,14 @@ use mathlib.Core.Path.{_≡_, refl, sym, ap}
 use mathlib.Core.Bool.{Bool, true, false, cond}
 use mathlib.Core.List.{List, [], _∷_, _++_, append-nil}
 use borrow.Author.Tests.{lt-ltb, eqb-true, eqb-false}
-use lib.ListN.{length, getD, length-append}
+use lib.ListN.{length, length-append}
 use lib.Dec.{ltb, eqb}
 use Rattle.files.specs.Reading.{got}
 use Rattle.files.specs.Entries.{Entry, constant, global, template, then, field, valid, constantAt, kindAt, entryAt, entriesAt}
 use Rattle.files.specs.EntriesLaws.{EntryOk, EntriesOk}
 use Rattle.files.specs.Linear.{bitsOf, entryBits, entriesBits}
 use Rattle.readback.specs.Bits.{Stands, stands-left, stands-right, here, field-stands, length-bits, AreBits}
+use Rattle.readback.specs.Lists.{none-are, bits-are, append-are}
 
 -- a field before the bits b: its value, and where b stands
 module _ (s : List ℕ) (p w v : ℕ) (b : List ℕ) (h : Stands s p (bitsOf w v ++ b)) where
@@ -88,22 +89,6 @@ entries-back s own T (e ∷ es) p ok h =
     (here refl (simp length-append (omega arith)))
 
 -- ---- the bits of entries are 0 or 1
-none-are : AreBits []
-none-are = record { small = λ i. omega arith }
-
-bits-are : (w v : ℕ) → AreBits (bitsOf w v)
-unfolding bitsOf
-bits-are zero v = none-are
-bits-are (suc w) v = record { small = elim [ zero ↦ omega arith | suc i ↦ bits-are w v .small i ] }
-
-append-are : {a b : List ℕ} → AreBits a → AreBits b → AreBits (a ++ b)
-append-are {a} {b} h k = record { small = go a (h .small) }
-  where
-    go : (a : List ℕ) → ((i : ℕ) → getD a i 0 ≤ 1) → (i : ℕ) → getD (a ++ b) i 0 ≤ 1
-    go [] h i = k .small i
-    go (x ∷ a) h zero = h 0
-    go (x ∷ a) h (suc i) = go a (λ j. h (suc j)) i
-
 integer-are : (b : Bool) (x : ℕ) → AreBits (integerBits b x)
 integer-are true x = bits-are 32 x
 integer-are false x = none-are

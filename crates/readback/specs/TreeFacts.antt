@@ -1,45 +1,23 @@
 -- What is known of the templates of a tree file that is read: their linear file is short enough to be read. Assumes nothing.
 use Prim.Native.Nat.{ℕ, zero, suc, _+_, _*_, _^_, _≤_, _<_}
 use native.Mathlib.Omega.{arith}
-use mathlib.Core.Path.{_≡_, refl, ap, _∙_}
-use mathlib.Core.Bool.{Bool, true, false, cond, _&&_, and-eq-true-iff}
+use mathlib.Core.Path.{_≡_, refl, ap}
+use mathlib.Core.Bool.{_&&_, and-eq-true-iff}
 use mathlib.Core.List.{List, [], _∷_}
 use borrow.Author.Tests.{leb-true}
 use lib.ListN.{length, length-append}
-use lib.Dec.{leb, eqb}
-use Rattle.fields.specs.Field.{bitAt}
+use lib.Dec.{leb}
 use Rattle.files.specs.Code.{Code, bits}
-use Rattle.files.specs.Reading.{Got, got, refused, listAt}
+use Rattle.files.specs.Reading.{got, listAt}
 use Rattle.files.specs.ReadingLaws.{list-bits, list-valid, flat-bits-end}
 use Rattle.files.specs.Valid.{Valid}
-use Rattle.files.specs.Entries.{Entry, field, valid, entriesAt, toByte, zeroBits, nothingMore}
-use Rattle.files.specs.AllGot.{Each, got-all, field-all, refused-got, then-led, field-got}
+use Rattle.files.specs.Entries.{Entry, field, entriesAt}
+use Rattle.files.specs.AllGot.{Each, got-all, field-all, then-led, field-got}
 use Rattle.files.specs.EntriesLaws.{EntriesGood, entries-read, bytes-length}
-use Rattle.files.specs.Tree.{Template, templateAt, templatesAt, paddedEnd, treeRead}
+use Rattle.files.specs.Tree.{Template, templateAt, templatesAt, treeRead}
 use Rattle.files.specs.Linear.{entriesBits, templateBytes, templatesBytes, linearFile}
+use Rattle.readback.specs.Led.{cond-led, valid-led, padded-led}
 use Rattle.readback.specs.Templates.{Writable}
-
--- ---- what led to what was read
--- a test that a refusal hangs on was passed
-cond-led : {A : Type 0} (b : Bool) (g : Got A) (n p : ℕ) {a : A} {q : ℕ} → cond b g (refused n p) ≡ got a q → (b ≡ true) × (g ≡ got a q)
-cond-led true g n p e = (refl, e)
-cond-led false g n p e = refused-got e
-
-valid-led : {A : Type 0} (p : ℕ) (b : Bool) (g : Got A) {a : A} {q : ℕ} → valid p b g ≡ got a q → (b ≡ true) × (g ≡ got a q)
-valid-led p true g e = (refl, e)
-valid-led p false g e = refused-got e
-
-module _ (s : List ℕ) where
-  zeros-led : {A : Type 0} (n p : ℕ) (a : A) {b : A} {q : ℕ} → zeroBits s n p a ≡ got b q → a ≡ b
-  unfolding zeroBits
-  zeros-led zero p a e = cc
-  zeros-led (suc n) p a e = zeros-led n (p + 1) a (cond-led (eqb (bitAt s p) 0) (zeroBits s n (p + 1) a) 5 p e .1)
-
-  padded-led : {A : Type 0} (a : A) (p : ℕ) {b : A} {q : ℕ} → paddedEnd s a p ≡ got b q → a ≡ b
-  unfolding paddedEnd nothingMore
-  padded-led a p {b} {q} e =
-      then-led (zeroBits s (toByte p) p a) _ e
-      (λ c r first on. let f : got c r ≡ got b q = cond-led (eqb r (8 * length s)) (got c r) 5 r on .1 in zeros-led (toByte p) p a first ∙ (cc))
 
 -- ---- one template
 -- what is known of template own of T
@@ -128,7 +106,7 @@ tree-read s ts q e =
     let f = field-got s 0 8 first in
     then-led (templatesAt s T 0 T p) _ (v .1)
     (λ us r read padded.
-    let e₁ : us ≡ ts = padded-led s us r padded in
+    let e₁ : us ≡ ts = padded-led s us r padded .same in
     let g = templates-facts s small T (leb-true T 64 (a .1)) T 0 p (f .2) read in
     let n : length us ≡ T = g .0 in
     let facts : TemplatesFacts s T 0 p us r = g .1 in

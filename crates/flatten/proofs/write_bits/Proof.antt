@@ -5,7 +5,8 @@ use mathlib.Core.Path.{_≡_, refl, sym, _∙_}
 use lib.ListN.{length, length-set}
 use lib.Seq.{sets}
 use Rattle.files.specs.Linear.{bytesOf}
-use Rattle.flatten.specs.Copied.{bitsFrom, bytes-none, bytes-on}
+use Rattle.readback.specs.Lists.{bitsFrom}
+use Rattle.flatten.specs.Copied.{bytes-none, bytes-on}
 use borrow.Author.Needs.{needs}
 use Rattle.flatten.proofs.write_bits.Statement.{statement}
 use Rattle.flatten.proofs.write_bits.Tie as tie
