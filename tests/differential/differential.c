@@ -1,10 +1,13 @@
 /* differential COUNT SEED [tally]: runs generated files through the library and the plain implementation, each with buffers
-   of its own, and compares results and all that the buffers hold; then checks demand 3 on each accepted sheet. File i has the
-   seed SEED + i, so that `differential 1 SEED` does a single file again. */
+   of its own, and compares results and all that the buffers hold; then checks demand 3 on each accepted sheet. The library's
+   buffers have exactly the lent lengths and stand at guarded pages. File i has the seed SEED + i, so that `differential 1 SEED`
+   does a single file again. From 5,000 files on, every number and every kind of lent length must have come up. */
 #include "../plain/library.h"
 #include "generate.h"
+#include "guarded.h"
 
 #include <inttypes.h>
+#include <signal.h>
 #include <stdio.h>
 #include <stdlib.h>
 #include <string.h>
@@ -13,7 +16,7 @@ enum { GLOBALS = 256, STACK = 256, STORE = 2048, FRAMES = 2048, MARGIN = 8, RESU
 enum { TREE_BUDGET = 1000000, LINEAR_BUDGET = 2000000 };
 enum { HALTED, WRONG, OUT_OF_BUDGET, REFUSED };
 
-/* All that is lent to a run. Margins show writes beyond a slice. */
+/* All that is lent to a run, and room for lengths that are too long. */
 typedef struct {
     uint64_t globals[GLOBALS + MARGIN], stack[STACK + MARGIN], store[STORE + MARGIN], frames[FRAMES + MARGIN];
     uint64_t result[RESULT + MARGIN];
@@ -27,6 +30,9 @@ static const Lengths right_lengths = { GLOBALS, STACK, STORE, FRAMES, RESULT };
 
 static uint64_t seed, differences;
 static uint64_t flatten_tally[10], tree_tally[4][32], linear_tally[4][32];
+
+/* What was lent: how often, by kind of length. */
+static uint64_t empty_files, empty_outputs, longer_outputs, empty_memories, shorter_memories, longer_memories, empty_results, short_results, longer_results;
 
 /* Reports */
 
@@ -75,20 +81,52 @@ static void tell_memories(const Memory *library, const Memory *plain)
     tell_cells("result", library->result, plain->result, RESULT + MARGIN);
 }
 
-/* Files are lent to be read only. */
+/* Lending, to the library alone */
 
-static File before;
+static struct {
+    Guarded file, out, globals, stack, store, frames, result;
+} lent;
 
-static void remember(const File *file)
+static const char *calling; /* for the report of a fault */
+static uint64_t calls;      /* of this file */
+
+static void make_buffers(void)
 {
-    before.len = file->len;
-    memcpy(before.bytes, file->bytes, file->len);
+    make_guarded(&lent.file, FILE_ROOM);
+    make_guarded(&lent.out, 4 * FILE_ROOM);
+    make_guarded(&lent.globals, sizeof(uint64_t) * (GLOBALS + MARGIN));
+    make_guarded(&lent.stack, sizeof(uint64_t) * (STACK + MARGIN));
+    make_guarded(&lent.store, sizeof(uint64_t) * (STORE + MARGIN));
+    make_guarded(&lent.frames, sizeof(uint64_t) * (FRAMES + MARGIN));
+    make_guarded(&lent.result, sizeof(uint64_t) * (RESULT + MARGIN));
 }
 
-static void compare_file(const File *file)
+static void tell_fault(int signal_number)
 {
-    if (memcmp(before.bytes, file->bytes, before.len) != 0 && differs("the file itself"))
-        dump("file before", before.bytes, before.len);
+    (void)signal_number;
+    printf("DIFFERENCE in %s: it read or wrote outside of what was lent, seed %" PRIu64 " (again: tests/differential/run 1 %" PRIu64 ")\n",
+           calling, seed, seed);
+    fflush(stdout);
+    _Exit(1);
+}
+
+/* Buffers stand at the guarded end and at the guarded start by turns. */
+static bool next_end(void)
+{
+    return (seed + calls++) % 2 == 0;
+}
+
+static const uint8_t *lend_file(const File *file, bool at_end)
+{
+    empty_files += file->len == 0;
+    return lend(&lent.file, file->bytes, file->len, at_end);
+}
+
+static void check_file(const File *file)
+{
+    static uint8_t after[FILE_ROOM];
+    if ((!take_back(&lent.file, after) || memcmp(after, file->bytes, file->len) != 0) && differs("the file itself"))
+        dump("file before", file->bytes, file->len);
 }
 
 /* Flattening */
@@ -99,18 +137,25 @@ static uint8_t library_out[4 * FILE_ROOM], plain_out[4 * FILE_ROOM];
 static size_t flatten_both(Random *random, const File *file, size_t out_len, size_t result_len, uint64_t plain_result[4])
 {
     uint64_t library_result[4];
-    size_t room = out_len + 16;
-    memset(library_out, (int)below(random, 256), room);
-    memcpy(plain_out, library_out, room);
+    bool at_end = next_end(), inside;
+    memset(library_out, (int)below(random, 256), out_len);
+    memcpy(plain_out, library_out, out_len);
     for (unsigned i = 0; i < 4; i++)
         library_result[i] = plain_result[i] = draw(random);
-    remember(file);
-    exporter_flatten(file->bytes, file->len, library_out, out_len, library_result, result_len);
-    compare_file(file);
+    empty_outputs += out_len == 0;
+    empty_results += result_len == 0;
+    short_results += result_len == 1;
+    longer_results += result_len > 2;
+    calling = "flatten";
+    exporter_flatten(lend_file(file, at_end), file->len, lend(&lent.out, library_out, out_len, at_end), out_len,
+                     lend(&lent.result, library_result, result_len * sizeof(uint64_t), at_end), result_len);
+    check_file(file);
+    inside = take_back(&lent.out, library_out);
+    inside = take_back(&lent.result, library_result) && inside;
     plain_flatten(file->bytes, file->len, plain_out, out_len, plain_result, result_len);
-    if ((memcmp(library_result, plain_result, sizeof library_result) != 0 || memcmp(library_out, plain_out, room) != 0)
+    if ((!inside || memcmp(library_result, plain_result, sizeof library_result) != 0 || memcmp(library_out, plain_out, out_len) != 0)
         && differs("flatten")) {
-        printf("  out_len %zu, result_len %zu\n", out_len, result_len);
+        printf("  out_len %zu, result_len %zu%s\n", out_len, result_len, inside ? "" : ", written beside what was lent");
         tell_results("library", library_result, 4);
         tell_results("plain  ", plain_result, 4);
         dump("sheet", file->bytes, file->len);
@@ -118,6 +163,7 @@ static size_t flatten_both(Random *random, const File *file, size_t out_len, siz
     if (result_len < 2)
         return 0;
     flatten_tally[plain_result[0]]++;
+    longer_outputs += plain_result[0] == 0 && plain_result[1] < out_len;
     return plain_result[0] == 0 ? plain_result[1] : 0;
 }
 
@@ -137,9 +183,9 @@ static void compare_flattening(Random *random, const File *file, File *linear)
         flatten_both(random, file, needed, 4, result);
         flatten_both(random, file, needed - 1, 2, result);
         flatten_both(random, file, draw(random) % needed, 2, result);
-    } else if (result[0] == 8) {
-        flatten_both(random, file, 0, 2, result);
     }
+    if (result[0] == 8 || chance(random, 5))
+        flatten_both(random, file, 0, 2 + below(random, 3), result);
     if (chance(random, 5))
         flatten_both(random, file, ample(file), below(random, 2), result);
 }
@@ -161,18 +207,53 @@ static void run(Run *machine, const File *file, uint64_t budget, Memory *m, cons
             m->frames, lengths->frames, m->result, lengths->result);
 }
 
+static uint64_t *lend_cells(Guarded *buffer, const uint64_t *cells, size_t count, bool at_end)
+{
+    return lend(buffer, cells, count * sizeof cells[0], at_end);
+}
+
+/* Answers false where something beside the lent slices was written. */
+static bool run_library(Run *machine, const File *file, uint64_t budget, Memory *m, const Lengths *lengths)
+{
+    bool at_end = next_end(), inside;
+    machine(lend_file(file, at_end), file->len, budget, lend_cells(&lent.globals, m->globals, lengths->globals, at_end), lengths->globals,
+            lend_cells(&lent.stack, m->stack, lengths->stack, at_end), lengths->stack,
+            lend_cells(&lent.store, m->store, lengths->store, at_end), lengths->store,
+            lend_cells(&lent.frames, m->frames, lengths->frames, at_end), lengths->frames,
+            lend_cells(&lent.result, m->result, lengths->result, at_end), lengths->result);
+    check_file(file);
+    inside = take_back(&lent.globals, m->globals);
+    inside = take_back(&lent.stack, m->stack) && inside;
+    inside = take_back(&lent.store, m->store) && inside;
+    inside = take_back(&lent.frames, m->frames) && inside;
+    return take_back(&lent.result, m->result) && inside;
+}
+
+static void count_lengths(const Lengths *lengths)
+{
+    const size_t is[] = { lengths->globals, lengths->stack, lengths->store, lengths->frames }, right[] = { GLOBALS, STACK, STORE, FRAMES };
+    for (unsigned i = 0; i < 4; i++) {
+        empty_memories += is[i] == 0;
+        shorter_memories += is[i] > 0 && is[i] < right[i];
+        longer_memories += is[i] > right[i];
+    }
+    empty_results += lengths->result == 0;
+    short_results += lengths->result > 0 && lengths->result < RESULT;
+    longer_results += lengths->result > RESULT;
+}
+
 /* Leaves what the library made of it in memory. */
 static void run_both(const char *what, const File *file, uint64_t budget, Memory *memory, const Lengths *lengths, bool tree)
 {
     static Memory plain;
     plain = *memory;
-    remember(file);
-    run(tree ? exporter_run_tree : exporter_run_linear, file, budget, memory, lengths);
-    compare_file(file);
+    calling = what;
+    count_lengths(lengths);
+    bool inside = run_library(tree ? exporter_run_tree : exporter_run_linear, file, budget, memory, lengths);
     run(tree ? plain_run_tree : plain_run_linear, file, budget, &plain, lengths);
-    if (memcmp(memory, &plain, sizeof plain) != 0 && differs(what)) {
-        printf("  budget %" PRIu64 ", lengths %zu %zu %zu %zu %zu\n", budget, lengths->globals, lengths->stack, lengths->store,
-               lengths->frames, lengths->result);
+    if ((!inside || memcmp(memory, &plain, sizeof plain) != 0) && differs(what)) {
+        printf("  budget %" PRIu64 ", lengths %zu %zu %zu %zu %zu%s\n", budget, lengths->globals, lengths->stack, lengths->store,
+               lengths->frames, lengths->result, inside ? "" : ", written beside what was lent");
         tell_memories(memory, &plain);
         dump(tree ? "sheet" : "linear file", file->bytes, file->len);
     }
@@ -288,11 +369,20 @@ static void compare_machines(Random *random, const File *sheet, const File *flat
 
 /* Files */
 
+/* A result may be longer than it must be. */
+static Lengths good_lengths(Random *random)
+{
+    Lengths lengths = right_lengths;
+    lengths.result += chance(random, 20) ? below(random, MARGIN + 1) : 0;
+    return lengths;
+}
+
 static void compare_linear(Random *random, const File *file, const uint64_t *globals)
 {
     static Memory memory;
+    Lengths lengths = good_lengths(random);
     fill(random, &memory, globals);
-    run_both("linear", file, generate_budget(random, LINEAR_BUDGET), &memory, &right_lengths, false);
+    run_both("linear", file, generate_budget(random, LINEAR_BUDGET), &memory, &lengths, false);
     if (chance(random, 10))
         compare_bad_start(random, file, globals, false);
 }
@@ -336,26 +426,61 @@ static void print_tally(const char *machine, uint64_t tally[4][32])
     }
 }
 
+static void print_tallies(void)
+{
+    printf("flatten:");
+    for (unsigned n = 0; n < 10; n++)
+        printf(" %u x%" PRIu64, n, flatten_tally[n]);
+    printf("\n");
+    print_tally("tree", tree_tally);
+    print_tally("linear", linear_tally);
+    printf("lent: empty files x%" PRIu64 ", outputs empty x%" PRIu64 " longer x%" PRIu64 ", memories empty x%" PRIu64 " shorter x%" PRIu64
+           " longer x%" PRIu64 ", results empty x%" PRIu64 " short x%" PRIu64 " longer x%" PRIu64 "\n", empty_files, empty_outputs, longer_outputs,
+           empty_memories, shorter_memories, longer_memories, empty_results, short_results, longer_results);
+}
+
+/* The numbers that a machine can give, by end. */
+static bool all_ends_came_up(uint64_t tally[4][32], bool tree)
+{
+    static const uint8_t refusals[] = { 1, 2, 3, 5, 20, 21, 22, 4, 6, 7 }; /* the last three by the tree machine alone */
+    bool all = tally[HALTED][0] > 0 && tally[OUT_OF_BUDGET][19] > 0;
+    for (unsigned n = 10; n <= 18; n++)
+        all = all && (tally[WRONG][n] > 0 || (tree && n == 16));
+    for (unsigned i = 0; i < (tree ? 10 : 7); i++)
+        all = all && tally[REFUSED][refusals[i]] > 0;
+    return all;
+}
+
+static bool all_came_up(void)
+{
+    bool all = empty_files && empty_outputs && longer_outputs && empty_memories && shorter_memories && longer_memories && empty_results
+        && short_results && longer_results;
+    for (unsigned n = 0; n < 10; n++)
+        all = all && flatten_tally[n] > 0;
+    return all && all_ends_came_up(tree_tally, true) && all_ends_came_up(linear_tally, false);
+}
+
 int main(int argc, char **argv)
 {
     uint64_t count = argc > 1 ? strtoull(argv[1], NULL, 10) : 20000;
     uint64_t first = argc > 2 ? strtoull(argv[2], NULL, 10) : 1;
+    make_buffers();
+    signal(SIGSEGV, tell_fault);
+    signal(SIGBUS, tell_fault);
     for (uint64_t i = 0; i < count; i++) {
         seed = first + i;
+        calls = 0;
         Random random = { .state = seed * UINT64_C(0x2545f4914f6cdd1d) };
         if (chance(&random, 75))
             compare_sheet(&random);
         else
             compare_own_linear(&random);
     }
-    if (argc > 3) {
-        printf("flatten:");
-        for (unsigned n = 0; n < 10; n++)
-            printf(" %u x%" PRIu64, n, flatten_tally[n]);
-        printf("\n");
-        print_tally("tree", tree_tally);
-        print_tally("linear", linear_tally);
-    }
-    printf("differential: %" PRIu64 " files, %" PRIu64 " differences\n", count, differences);
-    return differences == 0 ? 0 : 1;
+    bool wanting = count >= 5000 && !all_came_up();
+    if (argc > 3 || wanting)
+        print_tallies();
+    if (wanting)
+        printf("differential: some number or kind of length never came up (above): the generator is too narrow\n");
+    printf("differential: %" PRIu64 " files from seed %" PRIu64 ", %" PRIu64 " differences\n", count, first, differences);
+    return differences == 0 && !wanting ? 0 : 1;
 }

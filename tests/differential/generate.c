@@ -737,47 +737,78 @@ static void write_layers(Random *random, Sheet *s)
     put_end(s);
 }
 
-/* Offsets of all four kinds at their limit. */
-static void write_large_offset(Random *random, Sheet *s)
+/* Neutrals that flatten to that many bytes, a fifth of them open conditionals (8 bytes for 25 bits). */
+static void put_body(Random *random, Sheet *s, unsigned bytes)
 {
-    unsigned kind = below(random, 4), over = below(random, 3);
-    sheet_begin(s, 1);
-    put_field(s, 8, 0);
+    while (bytes >= 8) {
+        if (chance(random, 20)) {
+            put0(s, UNLESS_FALSE);
+            put0(s, chance(random, 50) ? PUSH : UNSPECIFIED);
+            put0(s, END);
+            put0(s, UNSPECIFIED);
+            put0(s, END);
+            bytes -= 8;
+        } else if (chance(random, 3)) {
+            put1(s, CHECKARGS, 0);
+            bytes -= 2;
+        } else {
+            put0(s, UNSPECIFIED);
+            bytes--;
+        }
+    }
+    put_many(s, UNSPECIFIED, bytes);
+}
+
+/* A closed list with an offset of that many bytes, of one of the four kinds. */
+static void put_offset_list(Random *random, Sheet *s, unsigned kind, unsigned offset)
+{
     if (kind == 3) {
         put1(s, MAKE_CONT, 0);
         put_end(s);
-        put_many(s, UNSPECIFIED, 65534 - 1 + over);
+        put_body(random, s, offset - 1);
         put_end(s);
         return;
     }
     put0(s, UNLESS_FALSE);
-    if (kind == 0) {
-        put_many(s, UNSPECIFIED, 65531 + over);
-        put0(s, END);
-        put0(s, UNSPECIFIED);
-        put0(s, END);
-    } else if (kind == 1) {
-        put0(s, UNSPECIFIED);
-        put0(s, END);
-        put_many(s, UNSPECIFIED, 65534 + over);
-        put0(s, END);
-    } else {
-        put_many(s, UNSPECIFIED, 65533 + over);
+    if (kind == 2) {
+        put_body(random, s, offset - 1);
         put_end(s);
-        put0(s, RETURN);
-        put0(s, END);
+        put_end(s);
         put0(s, END);
         return;
     }
+    put_body(random, s, kind == 0 ? offset - 3 : 1);
+    put0(s, END);
+    put_body(random, s, kind == 0 ? 1 : offset);
+    put0(s, END);
     put_end(s);
 }
 
+/* Offsets of all four kinds, one below their limit to two beyond, in any of a few templates; some sheets have two of them. */
+static void write_large_offset(Random *random, Sheet *s)
+{
+    unsigned count = 1 + below(random, 4), large = below(random, count), second = chance(random, 30) ? below(random, count) : large;
+    sheet_begin(s, count);
+    for (unsigned t = 0; t < count; t++) {
+        put_field(s, 8, 0);
+        if (t == large || t == second)
+            put_offset_list(random, s, below(random, 4), 65534 + below(random, 4));
+        else
+            put_end(s);
+    }
+}
+
+/* Two bytes shorter than the longest to two bytes longer. */
 static void write_longest(Random *random, Sheet *s)
 {
+    size_t bits = 8 * (size_t)(65534 + below(random, 5));
     sheet_begin(s, 1);
     put_field(s, 8, 0);
-    put_many(s, UNSPECIFIED, (65536 * 8 - 26) / 5 - 2 + below(random, 5));
+    while (s->bits + 15 <= bits)
+        put0(s, UNSPECIFIED);
     put_end(s);
+    if (s->bits + 7 < bits)
+        put_field(s, 8, 0);
 }
 
 /* Instructions in any order: nearly always refused with 6 or 7. */
@@ -828,15 +859,15 @@ static void write_sheet(Random *random, Sheet *s)
 {
     static Writer writer;
     unsigned choice = below(random, 1000);
-    if (choice < 3)
+    if (choice < 14)
         write_large_offset(random, s);
-    else if (choice < 5)
+    else if (choice < 24)
         write_longest(random, s);
     else if (choice < 80)
         write_loop(random, s);
-    else if (choice < 140)
+    else if (choice < 130)
         write_deep(random, s);
-    else if (choice < 180)
+    else if (choice < 160)
         write_chain(random, s);
     else if (choice < 230)
         write_full_stack(random, s);
@@ -869,7 +900,9 @@ void generate_tree(Random *random, File *file)
     static Sheet sheet;
     write_sheet(random, &sheet);
     take_sheet(&sheet, file);
-    if (chance(random, 20))
+    if (chance(random, 1))
+        file->len = 0;
+    else if (chance(random, 20))
         damage(random, file);
 }
 
@@ -989,7 +1022,7 @@ static void add_linear_code(Random *random, File *file)
 
 static void longest_linear(Random *random, File *file)
 {
-    size_t length = 262144 - 5 - 2 + below(random, 4);
+    size_t length = 262144 - 5 - 2 + below(random, 6);
     file->len = length + 5;
     memset(file->bytes, UNSPECIFIED, file->len);
     file->bytes[0] = 1;
@@ -1005,7 +1038,7 @@ void generate_linear(Random *random, File *file)
 {
     unsigned count = chance(random, 2) ? 64 : 1 + below(random, 4);
     file->len = 0;
-    if (below(random, 1000) < 4) {
+    if (below(random, 1000) < 20) {
         longest_linear(random, file);
         return;
     }
