@@ -1,31 +1,19 @@
 -- The places of a tree list and of its flat form correspond. Assumes nothing.
 use Prim.Native.Nat.{ℕ, suc, _+_, _*_, _≤_, _<_, _^_}
 use native.Mathlib.Omega.{arith}
-use mathlib.Core.Path.{_≡_, ap, _∙_}
+use mathlib.Core.Path.{_≡_, refl, ap, _∙_}
 use mathlib.Core.Bool.{Bool, true, false, _&&_, and-eq-true-iff}
 use mathlib.Core.List.{List, _∷_, _++_, append-assoc}
-use lib.Dec.{ltb, eqb, eqb→eq, eqb-refl, ltb→lt, lt→ltb}
 use lib.ListN.{length, drop, length-append, length-drop}
 use lib.Seq.{drop-drop, drop-append-seam}
-use Rattle.files.specs.Code.{Code, done, neutral, return, call, unless-false, make-cont, bits}
+use Rattle.files.specs.Code.{Code, neutral, unless-false, make-cont, bits}
 use Rattle.files.specs.Entries.{Entry}
 use Rattle.files.specs.ReadingLaws.{least-bits}
 use Rattle.files.specs.Flat.{flat}
 use Rattle.files.specs.Grammar.{indexFits, indicesFit}
 use Rattle.machines.specs.Fetched.{Fetched, jumps, bad, first, look}
-use Rattle.agree.specs.Suits.{is-true, is-false, Ok}
-
-eqb-same : (n : ℕ) → eqb n n ≡ true
-eqb-same n = is-true _ (eqb-refl n)
-
-eqb-past : (s p : ℕ) → s < p → eqb p s ≡ false
-eqb-past s p h = is-false _ λ t. let e : p ≡ s = eqb→eq p s t in omega arith
-
-ltb-yes : (p n : ℕ) → p < n → ltb p n ≡ true
-ltb-yes p n h = is-true _ (lt→ltb p n h)
-
-ltb-no : (p n : ℕ) → n ≤ p → ltb p n ≡ false
-ltb-no p n h = is-false _ λ t. let e : p < n = ltb→lt p n t in omega arith
+use Rattle.machines.specs.FetchedLaws.{look-first, look-neutral, look-first-arm, look-second-arm, look-after-arms, look-saved, look-after-saved}
+use Rattle.agree.specs.Suits.{Ok}
 
 module _ (W : List ℕ) where
   -- xs stands at q
@@ -45,15 +33,6 @@ module _ (W : List ℕ) where
   at-within {q} {x} xs a = omega (arith, length-drop q W, ap length (a .is), length-append (x ∷ xs) (a .rest))
 
 module _ (es : List Entry) where
-  at-head : (s : ℕ) (c : Code) (F : Fetched) → look es s c F s ≡ first es s c F
-  unfolding look first
-  at-head s done F = rw (eqb-same s)
-  at-head s (neutral op ns r) F = rw (eqb-same s)
-  at-head s (return r) F = rw (eqb-same s)
-  at-head s (call n r) F = rw (eqb-same s)
-  at-head s (unless-false x y r) F = rw (eqb-same s)
-  at-head s (make-cont n x r) F = rw (eqb-same s)
-
   module _ (top : ℕ → Fetched) where
     -- within the list c at s what `top` finds is what stands in c
     pub record Sub (s : ℕ) (c : Code) (F : Fetched) : Type 0 where
@@ -62,65 +41,38 @@ module _ (es : List Entry) where
       pub indexed : indicesFit es c ≡ true
 
     pub sub-head : {s : ℕ} {c : Code} {F : Fetched} → Sub s c F → top s ≡ first es s c F
-    sub-head {s} {c} {F} u = u .within s (omega arith) (omega (arith, least-bits c)) ∙ at-head s c F
+    sub-head {s} {c} {F} u = u .within s (omega arith) (omega (arith, least-bits c)) ∙ look-first es s s c F refl
 
     pub sub-neutral : {s op : ℕ} {ns : List ℕ} {r : Code} {F : Fetched} → Sub s (neutral op ns r) F → Sub (s + (5 + 8 * length ns)) r F
-    unfolding look bits indicesFit
+    unfolding bits indicesFit
     sub-neutral {s} {op} {ns} {r} {F} u =
-        record {
-          within = λ p h l. u .within p (omega arith) (omega arith) ∙ rw (eqb-past s p (omega arith));
-          bound = omega (arith, u .bound);
-          indexed = and-eq-true-iff (indexFits es op ns) (indicesFit es r) .0 (u .indexed) .1;
-        }
+        record { within = λ p h l. u .within p (omega arith) (omega arith) ∙ look-neutral es s p op ns r F (omega arith); bound = omega (arith, u .bound); indexed = and-eq-true-iff (indexFits es op ns) (indicesFit es r) .0 (u .indexed) .1 }
 
     module _ {s : ℕ} {x y r : Code} {F : Fetched} (u : Sub s (unless-false x y r) F) where
       pub sub-first : Sub (s + 5) x (first es (s + 5 + bits x + bits y) r F)
-      unfolding look bits indicesFit
+      unfolding bits indicesFit
       sub-first =
-          record {
-            within = λ p h l. u .within p (omega arith) (omega arith) ∙ rw (eqb-past s p (omega arith), ltb-yes p (s + 5 + bits x) l);
-            bound = omega (arith, u .bound);
-            indexed = and-eq-true-iff (indicesFit es x) (indicesFit es y) .0 (and-eq-true-iff (indicesFit es x && indicesFit es y) (indicesFit es r) .0 (u .indexed) .0) .0;
-          }
+          record { within = λ p h l. u .within p (omega arith) (omega arith) ∙ look-first-arm es s p x y r F h l; bound = omega (arith, u .bound); indexed = and-eq-true-iff (indicesFit es x) (indicesFit es y) .0 (and-eq-true-iff (indicesFit es x && indicesFit es y) (indicesFit es r) .0 (u .indexed) .0) .0 }
 
       pub sub-second : Sub (s + 5 + bits x) y (first es (s + 5 + bits x + bits y) r F)
-      unfolding look bits indicesFit
+      unfolding bits indicesFit
       sub-second =
-          record {
-            within = λ p h l. u .within p (omega arith) (omega arith)
-                ∙ rw (eqb-past s p (omega arith), ltb-no p (s + 5 + bits x) h, ltb-yes p (s + 5 + bits x + bits y) l);
-            bound = omega (arith, u .bound);
-            indexed = and-eq-true-iff (indicesFit es x) (indicesFit es y) .0 (and-eq-true-iff (indicesFit es x && indicesFit es y) (indicesFit es r) .0 (u .indexed) .0) .1;
-          }
+          record { within = λ p h l. u .within p (omega arith) (omega arith) ∙ look-second-arm es s p x y r F (omega arith) h l; bound = omega (arith, u .bound); indexed = and-eq-true-iff (indicesFit es x) (indicesFit es y) .0 (and-eq-true-iff (indicesFit es x && indicesFit es y) (indicesFit es r) .0 (u .indexed) .0) .1 }
 
       pub sub-rest : Sub (s + 5 + bits x + bits y) r F
-      unfolding look bits indicesFit
+      unfolding bits indicesFit
       sub-rest =
-          record {
-            within = λ p h l. u .within p (omega arith) (omega arith)
-                ∙ rw (eqb-past s p (omega arith), ltb-no p (s + 5 + bits x) (omega arith), ltb-no p (s + 5 + bits x + bits y) h);
-            bound = omega (arith, u .bound);
-            indexed = and-eq-true-iff (indicesFit es x && indicesFit es y) (indicesFit es r) .0 (u .indexed) .1;
-          }
+          record { within = λ p h l. u .within p (omega arith) (omega arith) ∙ look-after-arms es s p x y r F (omega arith) h; bound = omega (arith, u .bound); indexed = and-eq-true-iff (indicesFit es x && indicesFit es y) (indicesFit es r) .0 (u .indexed) .1 }
 
     module _ {s n : ℕ} {x r : Code} {F : Fetched} (u : Sub s (make-cont n x r) F) where
       pub sub-saved : Sub (s + 13) x F
-      unfolding look bits indicesFit
-      sub-saved =
-          record {
-            within = λ p h l. u .within p (omega arith) (omega arith) ∙ rw (eqb-past s p (omega arith), ltb-yes p (s + 13 + bits x) l);
-            bound = omega (arith, u .bound);
-            indexed = and-eq-true-iff (indicesFit es x) (indicesFit es r) .0 (u .indexed) .0;
-          }
+      unfolding bits indicesFit
+      sub-saved = record { within = λ p h l. u .within p (omega arith) (omega arith) ∙ look-saved es s p n x r F h l; bound = omega (arith, u .bound); indexed = and-eq-true-iff (indicesFit es x) (indicesFit es r) .0 (u .indexed) .0 }
 
       pub sub-next : Sub (s + 13 + bits x) r bad
-      unfolding look bits indicesFit
+      unfolding bits indicesFit
       sub-next =
-          record {
-            within = λ p h l. u .within p (omega arith) (omega arith) ∙ rw (eqb-past s p (omega arith), ltb-no p (s + 13 + bits x) h);
-            bound = omega (arith, u .bound);
-            indexed = and-eq-true-iff (indicesFit es x) (indicesFit es r) .0 (u .indexed) .1;
-          }
+          record { within = λ p h l. u .within p (omega arith) (omega arith) ∙ look-after-saved es s p n x r F (omega arith) h; bound = omega (arith, u .bound); indexed = and-eq-true-iff (indicesFit es x) (indicesFit es r) .0 (u .indexed) .1 }
 
     -- lin: what the linear code W says at a place
     module _ (W : List ℕ) (lin : ℕ → Fetched) where

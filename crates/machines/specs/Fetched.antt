@@ -88,21 +88,25 @@ module _ (es : List Entry) where
   first s (unless-false x y r) F = branches (openCount (isClosed x)) (s + 5) (s + 5 + bits x)
   first s (make-cont n x r) F = saves n (s + 13) (s + 13 + bits x)
 
-  -- what stands at place p of a list
+  -- what stands at place p of a list: what begins it, or by `more` what stands beyond that
+  abbrev pub lookBy : (ℕ → Fetched → ℕ → Fetched) → ℕ → Code → Fetched → ℕ → Fetched
+  lookBy more s c F p = cond (eqb p s) (first s c F) (more s F p)
+
+  unfoldable pub beyond : Code → ℕ → Fetched → ℕ → Fetched
+  unfolding first
+  beyond done s F p = bad
+  beyond (neutral op ns r) s F p = lookBy (beyond r) (s + (5 + 8 * length ns)) r F p
+  beyond (return r) s F p = lookBy (beyond r) (s + 5) r F p
+  beyond (call n r) s F p = lookBy (beyond r) (s + 13) r F p
+  beyond (unless-false x y r) s F p =
+      cond (ltb p (s + 5 + bits x)) (lookBy (beyond x) (s + 5) x (first (s + 5 + bits x + bits y) r F) p)
+      (cond (ltb p (s + 5 + bits x + bits y)) (lookBy (beyond y) (s + 5 + bits x) y (first (s + 5 + bits x + bits y) r F) p)
+      (lookBy (beyond r) (s + 5 + bits x + bits y) r F p))
+  beyond (make-cont n x r) s F p = cond (ltb p (s + 13 + bits x)) (lookBy (beyond x) (s + 13) x F p) (lookBy (beyond r) (s + 13 + bits x) r bad p)
+
   unfoldable pub look : ℕ → Code → Fetched → ℕ → Fetched
-  unfolding first openCount plainly resolve
-  look s done F p = cond (eqb p s) F bad
-  look s (neutral op ns r) F p = cond (eqb p s) (plainly (resolve es op ns) (s + (5 + 8 * length ns))) (look (s + (5 + 8 * length ns)) r F p)
-  look s (return r) F p = cond (eqb p s) returns (look (s + 5) r F p)
-  look s (call n r) F p = cond (eqb p s) (calls n) (look (s + 13) r F p)
-  look s (unless-false x y r) F p =
-      cond (eqb p s) (branches (openCount (isClosed x)) (s + 5) (s + 5 + bits x))
-      (cond (ltb p (s + 5 + bits x)) (look (s + 5) x (first (s + 5 + bits x + bits y) r F) p)
-      (cond (ltb p (s + 5 + bits x + bits y)) (look (s + 5 + bits x) y (first (s + 5 + bits x + bits y) r F) p)
-      (look (s + 5 + bits x + bits y) r F p)))
-  look s (make-cont n x r) F p =
-      cond (eqb p s) (saves n (s + 13) (s + 13 + bits x))
-      (cond (ltb p (s + 13 + bits x)) (look (s + 13) x F p) (look (s + 13 + bits x) r bad p))
+  unfolding first beyond
+  look s c F p = lookBy (beyond c) s c F p
 
   -- ---- linear code w that stands at q; an instruction that is cut is bad
   unfoldable pub callIn : List ℕ → Fetched

@@ -1,5 +1,6 @@
 -- The specs of the crate machines.
 pub mod Fetched
+pub mod FetchedLaws
 pub mod Machine
 pub mod Runs
 pub mod Slots

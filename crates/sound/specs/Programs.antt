@@ -25,7 +25,7 @@ use Rattle.rules.specs.SoundRules.{PlainOk}
 use Rattle.rules.specs.declared.Plain.{Plain}
 use Rattle.rules.specs.declared.Plain.the-variants.{Global, SetGlobal}
 use Rattle.machines.specs.Fetched.{Fetched, plain, returns, calls, branches, saves, jumps, bad, asLiteral, asClosure, asGlobal, resolve, plainly}
-use Rattle.machines.specs.Fetched.{first, look, callIn, branchIn, contIn, jumpIn, neutralIn, decode, noTemplate, noLinear, treeAt, linearAt}
+use Rattle.machines.specs.Fetched.{first, lookBy, beyond, look, callIn, branchIn, contIn, jumpIn, neutralIn, decode, noTemplate, noLinear, treeAt, linearAt}
 use Rattle.machines.specs.Machine.{Program, treeProgram, linearProgram}
 
 -- ---- the statements
@@ -164,22 +164,28 @@ module _ (own T : ℕ) (es : List Entry) (fit : EntriesOk own T es) where
   first-ok s (unless-false x y r) F v h f = tt
   first-ok s (make-cont n x r) F v h f = (v .0, omega arith)
 
-  one-of-four : (a b c : Bool) (w x y z : Fetched) → FetchedOk w → FetchedOk x → FetchedOk y → FetchedOk z → FetchedOk (cond a w (cond b x (cond c y z)))
-  one-of-four a b c w x y z h i j k = either FetchedOk a w (cond b x (cond c y z)) h (either FetchedOk b x (cond c y z) i (either FetchedOk c y z j k))
+  look-by-ok : (c : Code) (s : ℕ) (F : Fetched) (p : ℕ) → Valid c → s + bits c < 2 ^ 24 → FetchedOk F → FetchedOk (beyond es c s F p)
+      → FetchedOk (lookBy es (beyond es c) s c F p)
+  look-by-ok c s F p v h f b = either FetchedOk (eqb p s) (first es s c F) (beyond es c s F p) (first-ok s c F v h f) b
+
+  beyond-ok : (c : Code) (s : ℕ) (F : Fetched) (p : ℕ) → Valid c → s + bits c < 2 ^ 24 → FetchedOk F → FetchedOk (beyond es c s F p)
+  unfolding beyond Valid bits
+  beyond-ok done s F p v h f = tt
+  beyond-ok (neutral op ns r) s F p v h f = look-by-ok r _ F p (v .3) (omega arith) f (beyond-ok r _ F p (v .3) (omega arith) f)
+  beyond-ok (return r) s F p v h f = look-by-ok r _ F p v (omega arith) f (beyond-ok r _ F p v (omega arith) f)
+  beyond-ok (call n r) s F p v h f = look-by-ok r _ F p (v .1) (omega arith) f (beyond-ok r _ F p (v .1) (omega arith) f)
+  beyond-ok (unless-false x y r) s F p v h f =
+      let after : FetchedOk (first es (s + 5 + bits x + bits y) r F) = first-ok _ r F (v .2) (omega arith) f in
+      either FetchedOk (ltb p (s + 5 + bits x)) _ _ (look-by-ok x _ _ p (v .0) (omega arith) after (beyond-ok x _ _ p (v .0) (omega arith) after))
+      (either FetchedOk (ltb p (s + 5 + bits x + bits y)) _ _ (look-by-ok y _ _ p (v .1) (omega arith) after (beyond-ok y _ _ p (v .1) (omega arith) after))
+      (look-by-ok r _ F p (v .2) (omega arith) f (beyond-ok r _ F p (v .2) (omega arith) f)))
+  beyond-ok (make-cont n x r) s F p v h f =
+      either FetchedOk (ltb p (s + 13 + bits x)) _ _ (look-by-ok x _ F p (v .1) (omega arith) f (beyond-ok x _ F p (v .1) (omega arith) f))
+      (look-by-ok r _ bad p (v .2) (omega arith) tt (beyond-ok r _ bad p (v .2) (omega arith) tt))
 
   look-ok : (s : ℕ) (c : Code) (F : Fetched) (p : ℕ) → Valid c → s + bits c < 2 ^ 24 → FetchedOk F → FetchedOk (look es s c F p)
-  unfolding look Valid bits
-  look-ok s done F p v h f = either FetchedOk (eqb p s) F bad f tt
-  look-ok s (neutral op ns r) F p v h f = either FetchedOk (eqb p s) _ _ (neutral-ok op ns _ (v .2)) (look-ok _ r F p (v .3) (omega arith) f)
-  look-ok s (return r) F p v h f = either FetchedOk (eqb p s) _ _ tt (look-ok _ r F p v (omega arith) f)
-  look-ok s (call n r) F p v h f = either FetchedOk (eqb p s) _ _ tt (look-ok _ r F p (v .1) (omega arith) f)
-  look-ok s (unless-false x y r) F p v h f =
-      let after : FetchedOk (first es (s + 5 + bits x + bits y) r F) = first-ok _ r F (v .2) (omega arith) f in
-      one-of-four (eqb p s) (ltb p (s + 5 + bits x)) (ltb p (s + 5 + bits x + bits y)) _ _ _ _ tt
-      (look-ok _ x _ p (v .0) (omega arith) after) (look-ok _ y _ p (v .1) (omega arith) after) (look-ok _ r F p (v .2) (omega arith) f)
-  look-ok s (make-cont n x r) F p v h f =
-      either FetchedOk (eqb p s) _ _ (v .0, omega arith)
-      (either FetchedOk (ltb p (s + 13 + bits x)) _ _ (look-ok _ x F p (v .1) (omega arith) f) (look-ok _ r bad p (v .2) (omega arith) tt))
+  unfolding look
+  look-ok s c F p v h f = look-by-ok c s F p v h f (beyond-ok c s F p v h f)
 
   -- ---- linear code
   call-in-ok : (w : List ℕ) → FetchedOk (callIn es w)

@@ -6,7 +6,7 @@ use mathlib.Core.Bool.{Bool, true, false, cond, not}
 use mathlib.Core.Logic.{inl, inr}
 use mathlib.Core.List.{List, [], _∷_}
 use mathlib.Core.Option.{Option, none, some}
-use borrow.Author.Tests.{eq-eqb, ne-eqb, lt-ltb, le-ltb}
+use borrow.Author.Tests.{ne-eqb}
 use lib.ListN.{length, getD}
 use Rattle.fields.specs.Laws.{value-of, field-small}
 use Rattle.files.specs.Codes.{shapeOf}
@@ -17,6 +17,7 @@ use Rattle.links.specs.Links.{linkAt}
 use Rattle.links.specs.LinksLaws.{Linked}
 use Rattle.links.specs.Stands.{Reads, Operands, Takes, Stands}
 use Rattle.machines.specs.Fetched.{Fetched, plain, returns, calls, branches, saves, jumps, bad, plainly, resolve, first, look}
+use Rattle.machines.specs.FetchedLaws.{look-first, look-neutral, look-first-arm, look-second-arm, look-after-arms, look-saved, look-after-saved}
 use Rattle.machines.specs.Slots.{slotAt, slotResolve}
 use Rattle.rules.specs.declared.Plain.{Plain}
 use Rattle.tree_code.specs.Fetch.{isEnd, settled, withRead, shapedAs, instructionAt}
@@ -52,15 +53,6 @@ leads-plainly : (P : ℕ → Type 0) (o : Option Plain) (p : ℕ) → P p → Le
 unfolding Leads plainly
 leads-plainly P none p h = tt
 leads-plainly P (some i) p h = h
-
-look-first : (es : List Entry) (a : ℕ) (c : Code) (F : Fetched) → look es a c F a ≡ first es a c F
-unfolding look first
-look-first es a done F = rw (eq-eqb a a refl)
-look-first es a (neutral op ns r) F = rw (eq-eqb a a refl)
-look-first es a (return r) F = rw (eq-eqb a a refl)
-look-first es a (call n r) F = rw (eq-eqb a a refl)
-look-first es a (unless-false x y r) F = rw (eq-eqb a a refl)
-look-first es a (make-cont n x r) F = rw (eq-eqb a a refl)
 
 -- the end of a list, and its link
 ends-at : (s L : List ℕ) (c : Code) (l a e f : ℕ) → Stands s l a c → Linked L a e f c → e + 5 ≡ a + bits c → Reads s e 5 0 × (linkAt L e ≡ f)
@@ -162,7 +154,7 @@ module _ (s L table : List ℕ) (t : ℕ) (es : List Entry) (P : ℕ → Type 0)
       at-first : {c : Code} (p : ℕ) → Sits k l a e f n F c → p ≡ a → Found 16 p (look es a c F p)
       at-first {c} p x q =
           let h : suc n ≤ 16 = omega (arith, x .levels) in
-          rw (q, look-first es a c F) (later h (head-found c k l a e f n F (x .there) (x .links) (x .fit) (x .follows) (x .inside)))
+          rw (look-first es a p c F q, q) (later h (head-found c k l a e f n F (x .there) (x .links) (x .fit) (x .follows) (x .inside)))
 
       neutral-rest : {op : ℕ} {ns : List ℕ} {r : Code} → Sits k l a e f n F (neutral op ns r) → Sits k l (a + (5 + 8 * length ns)) e f n F r
       unfolding Stands Linked Real bits
@@ -271,37 +263,35 @@ module _ (s L table : List ℕ) (t : ℕ) (es : List Entry) (P : ℕ → Type 0)
     Finds c = (k : Bool) (l a e f n : ℕ) (F : Fetched) → Sits k l a e f n F c → (p : ℕ) → Real k a c p → Found 16 p (look es a c F p)
 
     finds-neutral : (op : ℕ) (ns : List ℕ) (r : Code) → Finds r → Finds (neutral op ns r)
-    unfolding look Real
+    unfolding Real
     finds-neutral op ns r found k l a e f n F x p (inl q) = at-first p x q
     finds-neutral op ns r found k l a e f n F x p (inr q) =
-        let w = real-within k _ r p q in rw (ne-eqb p a (λ z. omega arith)) (found k l _ e f n F (neutral-rest x) p q)
+        let w = real-within k _ r p q in rw (look-neutral es a p op ns r F (omega arith)) (found k l _ e f n F (neutral-rest x) p q)
 
     finds-conditional : (x y r : Code) → Finds x → Finds y → Finds r → Finds (unless-false x y r)
-    unfolding look Real Stands
+    unfolding Real Stands
     finds-conditional x y r in-x in-y in-r k zero a e f n F z p q = absurd (z .there)
     finds-conditional x y r in-x in-y in-r k (suc l) a e f n F z p (inl q) = at-first p z q
     finds-conditional x y r in-x in-y in-r k (suc l) a e f n F z p (inr (inl q)) =
         let w = real-within _ _ x p q in
-        rw (ne-eqb p a (λ z. omega arith), lt-ltb p (a + 5 + bits x) (omega arith)) (in-x _ _ _ _ _ _ _ (first-arm z) p q)
+        rw (look-first-arm es a p x y r F (omega arith) (omega arith)) (in-x _ _ _ _ _ _ _ (first-arm z) p q)
     finds-conditional x y r in-x in-y in-r k (suc l) a e f n F z p (inr (inr (inl q))) =
         let w = real-within _ _ y p q in
-        rw (ne-eqb p a (λ z. omega arith), le-ltb p (a + 5 + bits x) (omega arith), lt-ltb p (a + 5 + bits x + bits y) (omega arith))
-        (in-y _ _ _ _ _ _ _ (second-arm z) p q)
+        rw (look-second-arm es a p x y r F (omega arith) (omega arith) (omega arith)) (in-y _ _ _ _ _ _ _ (second-arm z) p q)
     finds-conditional x y r in-x in-y in-r k (suc l) a e f n F z p (inr (inr (inr q))) =
         let w = real-within _ _ r p q in
-        rw (ne-eqb p a (λ z. omega arith), le-ltb p (a + 5 + bits x) (omega arith), le-ltb p (a + 5 + bits x + bits y) (omega arith))
-        (in-rest z p (λ o. in-r k (suc l) _ e f n F o p) q)
+        rw (look-after-arms es a p x y r F (omega arith) (omega arith)) (in-rest z p (λ o. in-r k (suc l) _ e f n F o p) q)
 
     finds-make-cont : (m : ℕ) (x r : Code) → Finds x → Finds r → Finds (make-cont m x r)
-    unfolding look Real Stands
+    unfolding Real Stands
     finds-make-cont m x r in-x in-r k zero a e f n F z p q = absurd (z .there)
     finds-make-cont m x r in-x in-r k (suc l) a e f n F z p (inl q) = at-first p z q
     finds-make-cont m x r in-x in-r k (suc l) a e f n F z p (inr (inl q)) =
         let w = real-within _ _ x p q in
-        rw (ne-eqb p a (λ z. omega arith), lt-ltb p (a + 13 + bits x) (omega arith)) (in-x _ _ _ _ _ _ _ (saved-list z) p q)
+        rw (look-saved es a p m x r F (omega arith) (omega arith)) (in-x _ _ _ _ _ _ _ (saved-list z) p q)
     finds-make-cont m x r in-x in-r k (suc l) a e f n F z p (inr (inr q)) =
         let w = real-within _ _ r p q in
-        rw (ne-eqb p a (λ z. omega arith), le-ltb p (a + 13 + bits x) (omega arith)) (in-r _ _ _ _ _ _ _ (cont-rest z) p q)
+        rw (look-after-saved es a p m x r F (omega arith) (omega arith)) (in-r _ _ _ _ _ _ _ (cont-rest z) p q)
 
     -- a list of which only the first place is real
     finds-first : (c : Code) → ((k : Bool) (a p : ℕ) → Real k a c p → p ≡ a) → Finds c

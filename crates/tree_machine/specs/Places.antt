@@ -16,7 +16,7 @@ use Rattle.files.specs.Tree.{Template, treeRead}
 use Rattle.files.specs.Accepted.{orLowest, treeChecked}
 use Rattle.links.specs.Links.{linkedAll}
 use Rattle.links.specs.Templates.{TemplateLaid, short, template-there, template-stands, template-links}
-use Rattle.machines.specs.Fetched.{Fetched, bad, look, treeAt, noTemplate}
+use Rattle.machines.specs.Fetched.{Fetched, bad, first, look, treeAt, noTemplate}
 use Rattle.machines.specs.Slots.{slotAt, RowStands, row-stands, slot-resolve}
 use Rattle.rules.specs.Lists.{by-lt}
 use Rattle.tree_code.specs.Fetch.{fetchedAt}
@@ -121,7 +121,7 @@ module _ (s : List ℕ) (ts : List Template) (q : ℕ) (accepted : treeChecked s
 
     -- THE LAW
     pub fetches : (t p : ℕ) → Standing ts t p → Fetches s (linkedAll L₀ ts) (treeTable ts) ts t p (treeAt ts t p)
-    unfolding treeAt look fetchedAt seen Leads
+    unfolding treeAt first look fetchedAt seen Leads
     fetches t p (inside h r) = real-fetches t p h r
     fetches t p (nowhere h e) = rw (e, no-template t h) (record { fetched = refl; leads = tt })
 
