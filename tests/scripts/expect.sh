@@ -24,7 +24,7 @@ expect() {
 tools_without_rt() {
   mkdir -p "$room/bin"
   local tool
-  for tool in sh bash env awk cat chmod cp date dirname find head id ln mkdir printf readlink sed sleep tail tee touch tr uname; do
+  for tool in sh bash env awk cat chmod cp date dirname find head id ln mkdir printf readlink rm sed sleep tail tee touch tr uname; do
     ln -sf "$(type -P "$tool")" "$room/bin/$tool"
   done
 }
