@@ -1,6 +1,7 @@
 // The program of document 01: a sheet on standard input, its lines on standard output.
 use libc::STDIN_FILENO;
 use libc::STDOUT_FILENO;
+use lines::Printed;
 ghost use Prim.Native.Nat.{_≤_};
 ghost use lib.ListN.{length};
 
@@ -15,6 +16,9 @@ fn main() {
     let mut sheet = [0u8; 4097];
     let length = io::read_full(STDIN_FILENO, &mut sheet);
     let mut out = [0u8; 256];
-    let count = shown(lines::program(&sheet[..length], &mut out), &out);
+    let Printed::Written(written) = lines::program(&sheet[..length], &mut out) else {
+        return;
+    };
+    let count = shown(written, &out);
     io::write_all(STDOUT_FILENO, &out[..count]);
 }

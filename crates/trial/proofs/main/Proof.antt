@@ -23,6 +23,15 @@ slice-aggregate-program-2 c = search needs
 program-requires : tie.Need-program-requires
 program-requires c κs = search needs
 
+enum-known-written : tie.Need-enum-known-written
+enum-known-written c = search needs
+
+enum-told : tie.Need-enum-told
+enum-told c = search needs
+
+returns : tie.Need-returns
+returns c = search needs
+
 slice-aggregate-shown : tie.Need-slice-aggregate-shown
 slice-aggregate-shown c = search needs
 
@@ -38,8 +47,8 @@ slice-aggregate-write-all c = sym (length-take-le _ _ (c .before .shown .ensures
 write-all-requires : tie.Need-write-all-requires
 write-all-requires c κs = search needs
 
-returns : tie.Need-returns
-returns c = search needs
+returns-2 : tie.Need-returns-2
+returns-2 c = search needs
 
 pub main-spec : {M : Type 1} → statement M
 main-spec =
@@ -51,9 +60,12 @@ main-spec =
     slice-aggregate-program
     slice-aggregate-program-2
     program-requires
+    enum-known-written
+    enum-told
+    returns
     slice-aggregate-shown
     shown-requires
     array-share-prefix-out
     slice-aggregate-write-all
     write-all-requires
-    returns)
+    returns-2)
