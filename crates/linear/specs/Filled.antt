@@ -14,6 +14,8 @@ use Rattle.linear.specs.declared.Part.{Part}
 use Rattle.linear.specs.declared.Part.the-variants.{Read, Refused}
 use Rattle.linear.specs.declared.LinearFile.{LinearFile}
 use Rattle.linear.specs.declared.LinearFile.the-variants.{Read as ReadFile, Refused as RefusedFile}
+use Rattle.linear.specs.declared.Checked.{Checked}
+use Rattle.linear.specs.declared.Checked.the-variants.{Accepted, Refused as RefusedChecked}
 
 -- ---- what is told
 -- of a part: the place past it
@@ -25,6 +27,11 @@ partTold (refused n p) = Refused n (record { 0 = p })
 unfoldable pub linearTold : Got (List Linear) → LinearFile
 linearTold (got ts q) = ReadFile (length ts)
 linearTold (refused n p) = RefusedFile n (record { 0 = p })
+
+-- whether the file is accepted
+unfoldable pub checkedTold : Got (List Linear) → Checked
+checkedTold (got ts q) = Accepted
+checkedTold (refused n p) = RefusedChecked n p
 
 -- ---- what is left in the table
 -- what follows the entries es of a template

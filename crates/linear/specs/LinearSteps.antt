@@ -19,7 +19,9 @@ use Rattle.linear.specs.declared.Part.{Part}
 use Rattle.linear.specs.declared.Part.the-variants.{Read, Refused}
 use Rattle.linear.specs.declared.LinearFile.{LinearFile}
 use Rattle.linear.specs.declared.LinearFile.the-variants.{Read as ReadFile, Refused as RefusedFile}
-use Rattle.linear.specs.Filled.{partTold, linearTold, paddedCode, codeFilled, entriesFilled, templateFilled, filledThen, templatesFilled, countFilled, linearFilled}
+use Rattle.linear.specs.declared.Checked.{Checked}
+use Rattle.linear.specs.declared.Checked.the-variants.{Accepted, Refused as RefusedChecked}
+use Rattle.linear.specs.Filled.{partTold, linearTold, checkedTold, paddedCode, codeFilled, entriesFilled, templateFilled, filledThen, templatesFilled, countFilled, linearFilled}
 
 -- ---- what was told was read
 module _ {A : Type 0} where
@@ -177,3 +179,14 @@ module _ (s : List ℕ) (table : List ℕ) where
             file-done e =
                 let g = part-told (linearsAt s T 0 T p) (sym (done .0) ∙ is) in
                 (rw (read-ending g, nothing-told (g .part) s (q .0) .zero-read (sym ending ∙ e), linears-read s T few T 0 p (g .is) .0), filled)
+
+-- ---- whether the file is accepted, by what its reader told
+pub checked-read : (g : Got (List Linear)) {n : ℕ} → linearTold g ≡ ReadFile n → Accepted ≡ checkedTold g
+unfolding linearTold checkedTold
+checked-read (got ts q) h = refl
+checked-read (refused n p) h = let z : _≡_ {A = ℕ} 0 1 = cc in absurd (omega arith)
+
+pub checked-refused : (g : Got (List Linear)) {n : ℕ} {p : BitPlace} → linearTold g ≡ RefusedFile n p → RefusedChecked n (p .0) ≡ checkedTold g
+unfolding linearTold checkedTold
+checked-refused (got ts q) h = let z : _≡_ {A = ℕ} 0 1 = cc in absurd (omega arith)
+checked-refused (refused m z) {n} {p} h = let k : _≡_ {A = BitPlace} (record { 0 = z }) p = cc in let i : m ≡ n = cc in rw (i, ← k)

@@ -9,7 +9,7 @@ ghost use Prim.Native.Nat.{_+_, _*_, _≤_, _<_};
 ghost use lib.ListN.{length};
 ghost use Rattle.files.specs.Entries.{Entry};
 ghost use Rattle.files.specs.Linear.{linearAt, linearsAt, linearRead};
-ghost use Rattle.linear.specs.Filled.{partTold, linearTold, paddedCode, codeFilled, templateFilled, templatesFilled, linearFilled};
+ghost use Rattle.linear.specs.Filled.{partTold, linearTold, checkedTold, paddedCode, codeFilled, templateFilled, templatesFilled, linearFilled};
 
 // What reading a part of the file finds: the place past it, or a refusal's number and place.
 pub enum Part {
@@ -21,6 +21,12 @@ pub enum Part {
 pub enum LinearFile {
     Read(u8),
     Refused(u8, BitPlace),
+}
+
+// What the linear machine says of a file before it runs it: a refusal has its number and place.
+pub enum Checked {
+    Accepted,
+    Refused(u8, usize),
 }
 
 // What follows a template's entries: padding, the code's length, the code. Where the code begins, and its length, go to slot 0 of row `own`.
@@ -110,5 +116,16 @@ pub fn read_linear(s: &[u8], table: &mut [u64]) -> LinearFile
             Padding::Refused(place) => LinearFile::Refused(5, place),
         },
         Part::Refused(no, place) => LinearFile::Refused(no, place),
+    }
+}
+
+// 1, 2, 3 and 5: what the linear machine says of a file.
+pub fn check_linear(s: &[u8]) -> Checked
+    ensures { λ r. ⌜ r ≡ checkedTold (linearRead (now (s .entry))) ⌝ }
+{
+    let mut table = [0u64; 16384];
+    match read_linear(s, &mut table) {
+        LinearFile::Read(_) => Checked::Accepted,
+        LinearFile::Refused(no, place) => Checked::Refused(no, place.0),
     }
 }

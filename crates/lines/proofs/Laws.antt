@@ -8,7 +8,9 @@ use mathlib.Core.List.{List, [], _∷_, _++_, append-assoc}
 use borrow.Author.Tests.{le-leb, lt-leb}
 use lib.ListN.{length, set, getD, take, drop, length-append, drop-of-length-le}
 use lib.Seq.{sets, length-sets, drop-cons, sets-eq, take-at}
-use Rattle.lines.specs.Lines.{line, programCount, programOutput}
+use Rattle.lines.specs.declared.Printed.{Printed}
+use Rattle.lines.specs.declared.Printed.the-variants.{Written, Refused}
+use Rattle.lines.specs.Lines.{line, printed, programOutput}
 use Rattle.lines.specs.Put.{Put}
 
 sets-append : (l : List ℕ) (i : ℕ) (xs ys : List ℕ) → sets (sets l i xs) (i + length xs) ys ≡ sets l i (xs ++ ys)
@@ -40,13 +42,16 @@ put-taken {old} {new} {r} bs p h =
     let n : length bs ≡ r = omega arith in
     rw (p .holds, sets-eq bs old 0 (omega arith)) (take-at bs _ r n)
 
-pub lines-fit : {old new : List ℕ} {r : ℕ} (bs : List ℕ) → Put old 0 new r bs → r ≤ length old → (r ≡ programCount bs (length old)) × (new ≡ programOutput bs old)
-unfolding programCount programOutput
+pub lines-fit : {old new : List ℕ} {r : ℕ} (bs : List ℕ) → Put old 0 new r bs → r ≤ length old → (Written r ≡ printed bs (length old)) × (new ≡ programOutput bs old)
+unfolding printed programOutput
 lines-fit {old} {new} {r} bs p h =
     let k : length bs ≤ length old = omega arith in
     let z : 0 + length bs ≡ length bs = omega arith in
-    (simp (le-leb _ _ k) (p .next ∙ z), simp (le-leb _ _ k) (p .holds ∙ sets-eq bs old 0 (omega arith) ∙ rw z))
+    (simp (le-leb _ _ k) (ap Written (p .next ∙ z)), simp (le-leb _ _ k) (p .holds ∙ sets-eq bs old 0 (omega arith) ∙ rw z))
 
-pub lines-do-not-fit : (bs old : List ℕ) → length old < length bs → (0 ≡ programCount bs (length old)) × (old ≡ programOutput bs old)
-unfolding programCount programOutput
-lines-do-not-fit bs old h = (simp (lt-leb _ _ h), simp (lt-leb _ _ h))
+pub lines-do-not-fit : {old new : List ℕ} {r : ℕ} (bs out : List ℕ) → Put old 0 new r bs → length out < r → (Refused 9 r ≡ printed bs (length out)) × (out ≡ programOutput bs out)
+unfolding printed programOutput
+lines-do-not-fit {old} {new} {r} bs out p h =
+    let k : length out < length bs = omega (arith, p .next) in
+    let e : r ≡ length bs = omega (arith, p .next) in
+    (simp (lt-leb _ _ k) (ap (Refused 9) e), simp (lt-leb _ _ k))

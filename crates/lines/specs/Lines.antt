@@ -15,6 +15,8 @@ use Rattle.machines.specs.Runs.{Memory, memory, Ran, ran, treeRun, linearRun}
 use Rattle.machines.specs.declared.End.{End}
 use Rattle.machines.specs.declared.End.the-variants.{Halted, Wrong, OutOfBudget, Refused}
 use Rattle.machines.specs.declared.Run.{Run}
+use Rattle.lines.specs.declared.Printed.{Printed}
+use Rattle.lines.specs.declared.Printed.the-variants.{Written, Refused as RefusedLines}
 
 -- ---- numbers
 -- the last digit of n
@@ -125,9 +127,11 @@ sheetLines s (refused n p) = refusedLine n p
 unfoldable pub programLines : List ℕ → List ℕ
 programLines s = cond (leb (length s) 4096) (sheetLines s (linearOf s)) (refusedLine 1 0)
 
--- ---- the lines in a lent output that held old; where they do not fit, nothing is written
-unfoldable pub programCount : List ℕ → ℕ → ℕ
-programCount ls n = cond (leb (length ls) n) (length ls) 0
+-- ---- the lines in a lent output
+-- what the program answers for an output of n bytes: how many the lines are; 9 and the bytes needed where they do not fit
+unfoldable pub printed : List ℕ → ℕ → Printed
+printed ls n = cond (leb (length ls) n) (Written (length ls)) (RefusedLines 9 (length ls))
 
+-- what the output holds that held old: the lines in its first bytes; where they do not fit it is unchanged
 unfoldable pub programOutput : List ℕ → List ℕ → List ℕ
 programOutput ls old = cond (leb (length ls) (length old)) (ls ++ drop (length ls) old) old

@@ -5,11 +5,17 @@ ghost use Prim.Native.Nat.{_+_, _≤_};
 ghost use lib.ListN.{length};
 ghost use Rattle.lines.specs.Put.{Put};
 ghost use Rattle.lines.specs.Lines.{decimal, integer, answerWord, line, endWords, machineLine, linearLine};
-ghost use Rattle.lines.specs.Lines.{tabularRun, flatRun, acceptedLines, linearOf, sheetLines, programLines, programCount, programOutput};
+ghost use Rattle.lines.specs.Lines.{tabularRun, flatRun, acceptedLines, linearOf, sheetLines, programLines, printed, programOutput};
 use cells::Value;
 use flatten::Flattened;
 use machines::End;
 use machines::Run;
+
+// What the program answers: how many bytes its lines are, or a refusal's number and place: 9 and the bytes needed.
+pub enum Printed {
+    Written(usize),
+    Refused(u8, usize),
+}
 
 // ---- bytes into a buffer, from place at on; each answers the place after them
 
@@ -221,16 +227,15 @@ fn put_lines(out: &mut [u8], sheet: &[u8]) -> usize
     }
 }
 
-// The lines of a sheet, in the first bytes of out, and how many bytes they are; 0 and nothing written where they do not fit.
-pub fn program(sheet: &[u8], out: &mut [u8]) -> usize
-    ensures { λ r. ⌜ r ≡ programCount (programLines (now (sheet .entry))) (length (now (out .entry))) ⌝ }
+// The lines of a sheet, in the first bytes of out; nothing is written where they do not fit.
+pub fn program(sheet: &[u8], out: &mut [u8]) -> Printed
+    ensures { λ r. ⌜ r ≡ printed (programLines (now (sheet .entry))) (length (now (out .entry))) ⌝ }
     ensures { λ r. ⌜ now (out .exit) ≡ programOutput (programLines (now (sheet .entry))) (now (out .entry)) ⌝ }
 {
     let mut lines = [0u8; 256];
     let count = put_lines(&mut lines, sheet);
-    if count <= out.len() {
-        put_bytes(out, 0, &lines[..count])
-    } else {
-        0
+    if out.len() < count {
+        return Printed::Refused(9, count);
     }
+    Printed::Written(put_bytes(out, 0, &lines[..count]))
 }

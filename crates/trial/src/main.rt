@@ -2,6 +2,7 @@
 // end of the input, and what was read before it is no sheet.
 use libc::STDIN_FILENO;
 use libc::STDOUT_FILENO;
+use lines::Printed;
 ghost use Prim.Native.Nat.{_≤_};
 ghost use lib.ListN.{length};
 ghost use Rattle.trial.specs.Input.{Within};
@@ -48,7 +49,10 @@ fn main() {
         return;
     };
     let mut out = [0u8; 256];
-    let count = lines::program(&sheet[..length], &mut out);
+    let printed = lines::program(&sheet[..length], &mut out);
+    let Printed::Written(count) = printed else {
+        return;
+    };
     if count <= 256 {
         io::write_all(STDOUT_FILENO, &out[..count]);
     }

@@ -13,6 +13,9 @@ slice-aggregate-put-lines c = search needs
 put-lines-requires : tie.Need-put-lines-requires
 put-lines-requires c κs = search needs
 
+returns : tie.Need-returns
+returns c = lines-do-not-fit _ _ (c .before .before .put-lines .ensures .0) (c .if1 .taken)
+
 array-share-prefix-lines : tie.Need-array-share-prefix-lines
 array-share-prefix-lines c = search needs
 
@@ -27,14 +30,11 @@ put-bytes-requires c κs =
 same-length : tie.Need-same-length
 same-length c = search needs
 
-returns : tie.Need-returns
-returns c =
+returns-2 : tie.Need-returns-2
+returns-2 c =
     let p = c .before .before .before .before .before .before .before .put-lines in
     let q = rw (put-taken _ (p .ensures .0) (omega arith)) at (c .before .before .put-bytes .ensures) in
     lines-fit _ q (omega (arith, p .ensures .0 .next, q .next))
-
-returns-2 : tie.Need-returns-2
-returns-2 c = lines-do-not-fit _ _ (omega arith)
 
 pub program-spec : {M : Type 1} → statement M
 program-spec =
@@ -42,9 +42,9 @@ program-spec =
     (tie.spec
     slice-aggregate-put-lines
     put-lines-requires
+    returns
     array-share-prefix-lines
     slice-aggregate-put-bytes
     put-bytes-requires
     same-length
-    returns
     returns-2)
