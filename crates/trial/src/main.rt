@@ -50,10 +50,9 @@ fn main() {
     };
     let mut out = [0u8; 256];
     let printed = lines::program(&sheet[..length], &mut out);
-    let Printed::Written(count) = printed else {
-        return;
-    };
-    if count <= 256 {
-        io::write_all(STDOUT_FILENO, &out[..count]);
+    if let Printed::Written(count) = printed {
+        if count <= 256 {
+            io::write_all(STDOUT_FILENO, &out[..count]);
+        }
     }
 }

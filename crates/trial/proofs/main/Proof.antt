@@ -34,20 +34,29 @@ slice-aggregate-program-2 c = search needs
 program-requires : tie.Need-program-requires
 program-requires c κs = search needs
 
+enum-known-printed : tie.Need-enum-known-printed
+enum-known-printed c = search needs
+
 array-share-prefix-out : tie.Need-array-share-prefix-out
 array-share-prefix-out c = search needs
 
 slice-aggregate-write-all : tie.Need-slice-aggregate-write-all
-slice-aggregate-write-all c = sym (length-take-le _ _ (omega (arith, c .before .if1 .taken, c .before .before .before .program .kept)))
+slice-aggregate-write-all c = sym (length-take-le _ _ (omega (arith, c .before .if1 .taken, c .before .before .before .before .before .before .program .kept)))
 
 write-all-requires : tie.Need-write-all-requires
 write-all-requires c κs = search needs
+
+enum-told-2 : tie.Need-enum-told-2
+enum-told-2 c = search needs
 
 returns-2 : tie.Need-returns-2
 returns-2 c = search needs
 
 returns-3 : tie.Need-returns-3
 returns-3 c = search needs
+
+returns-4 : tie.Need-returns-4
+returns-4 c = search needs
 
 pub main-spec : {M : Type 1} → statement M
 main-spec =
@@ -62,8 +71,11 @@ main-spec =
     slice-aggregate-program
     slice-aggregate-program-2
     program-requires
+    enum-known-printed
     array-share-prefix-out
     slice-aggregate-write-all
     write-all-requires
+    enum-told-2
     returns-2
-    returns-3)
+    returns-3
+    returns-4)
