@@ -7,7 +7,6 @@ pub mod Fit
 pub mod Answers
 pub mod Told
 pub mod Related
-pub mod Frames
 pub mod Effects
 pub mod Clean
 pub mod Sound
