@@ -1,7 +1,5 @@
 -- The specs of the crate agree.
-pub mod Lockstep
 pub mod Suits
-pub mod Kept
 pub mod Layout
 pub mod Places
 pub mod Files

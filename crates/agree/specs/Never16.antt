@@ -18,7 +18,7 @@ use Rattle.machines.specs.Machine.{treeProgram, linearProgram, Ending, halted, 
 use Rattle.machines.specs.Runs.{Memory, Ran, runOf, refusedRun, rightLengths, lowestUnfit, fitGlobals, started, endOf, reported, programRun}
 use Rattle.machines.specs.Runs.{onTree, onLinear, treeRun, linearRun}
 use Rattle.machines.specs.declared.End.the-variants.{Wrong}
-use Rattle.agree.specs.Kept.{same-but-places}
+use Rattle.lockstep.specs.Same.{same-but-places}
 use Rattle.agree.specs.Demand3.{Flattens}
 use Rattle.agree.specs.Proved.{flattens-read, linear-read, AlikeHere, tree-ends, linear-ends}
 

@@ -22,10 +22,10 @@ use Rattle.machines.specs.Fetched.{Fetched, returns, calls, branches, saves, ju
 use Rattle.machines.specs.Fetched.{neutralIn, callIn, branchIn, contIn, jumpIn, decode, noTemplate, noLinear, treeAt, linearAt}
 use Rattle.machines.specs.Machine.{treeProgram, linearProgram}
 use Rattle.machines.specs.Resolved.{Resolves, resolves, fits-resolves}
-use Rattle.agree.specs.Lockstep.{Match, plainM, returnM, callM, branchM, saveM, Meets, nowM, jumpM, Agree}
+use Rattle.lockstep.specs.Lockstep.{Match, plainM, returnM, callM, branchM, saveM, Meets, nowM, jumpM, Agree}
 use Rattle.agree.specs.Suits.{is-true, Only, Shut, Open, either, Ok}
 use Rattle.agree.specs.Layout.{At, at-skip, at-take, at-within, Sub, sub-neutral, sub-first, sub-second, sub-rest, sub-saved, sub-next, Spot, here, leap, Close, ends, flows, stands}
-use Rattle.agree.specs.Kept.{same-but-places}
+use Rattle.lockstep.specs.Same.{same-but-places}
 
 -- a template of a tree file, and the same of its linear file
 pub record Twins (t : Template) (l : Linear) : Type 0 where

@@ -21,13 +21,13 @@ use Rattle.readback.specs.Templates.{linears}
 use Rattle.readback.specs.ReadBack.{flat-checked, flattened-reads}
 use Rattle.rules.specs.Rules.{Data}
 use Rattle.rules.specs.Lists.{by-lt}
-use Rattle.rules.specs.Frames.{FramesR, noneF, moreF, FrameFits, Same}
+use Rattle.lockstep.specs.Frames.{noneF, moreF, FrameFits}
 use Rattle.machines.specs.Fetched.{noTemplate, noLinear}
 use Rattle.machines.specs.Machine.{treeProgram, linearProgram, noCounts, Ending, halted, wrongly, spent, Ended}
 use Rattle.machines.specs.Runs.{Memory, started, fitGlobals, startState, endOf, memoryOf, reported, programRun, onTree, onLinear, treeRun, linearRun}
 use Rattle.machines.specs.declared.End.the-variants.{Halted, OutOfBudget}
-use Rattle.agree.specs.Lockstep.{Agree, Rel, Alike-ends, forward, backward}
-use Rattle.agree.specs.Kept.{same-but-places}
+use Rattle.lockstep.specs.Lockstep.{Agree, Rel, Alike-ends, forward, backward}
+use Rattle.lockstep.specs.Same.{FramesR, Same, same-but-places}
 use Rattle.agree.specs.Places.{Twins, Pair, pair, programs-agree}
 use Rattle.agree.specs.Files.{file-twins}
 use Rattle.agree.specs.Demand3.{aside, linearCounts, treeCounts, jumpsMade, firstArms, EndAlike, StartsFrom, Ends, Forward, Backward}

@@ -8,6 +8,7 @@ use lib.ListN.{length}
 use Rattle.files.specs.Codes.{isNeutral, operands}
 use Rattle.files.specs.Code.{Code, done, neutral, return, call, unless-false, make-cont}
 use Rattle.files.specs.Grammar.{isEmpty, isOpen, isClosed}
+use Rattle.files.specs.GrammarLaws.{empty-done}
 use Rattle.files.specs.Valid.{Valid}
 
 pub is-true : (b : Bool) → T b → b ≡ true
@@ -91,22 +92,12 @@ open-arms : (x : Code) → T (isOpen x) → isClosed x ≡ false
 open-arms x o = is-false (isClosed x) (λ t. exclusive x o t)
 
 only : (r : Code) → T (isEmpty r) → Only r
-unfolding isEmpty Only
-only done t = tt
-only (neutral op ns r) t = absurd t
-only (return r) t = absurd t
-only (call n r) t = absurd t
-only (unless-false x y r) t = absurd t
-only (make-cont n x r) t = absurd t
+unfolding Only
+only r t = rw (empty-done r (is-true (isEmpty r) t)) tt
 
 ok-empty : (r : Code) → T (isEmpty r) → Ok false r
-unfolding isEmpty Ok Open
-ok-empty done t = tt
-ok-empty (neutral op ns r) t = absurd t
-ok-empty (return r) t = absurd t
-ok-empty (call n r) t = absurd t
-ok-empty (unless-false x y r) t = absurd t
-ok-empty (make-cont n x r) t = absurd t
+unfolding Ok Open
+ok-empty r t = rw (empty-done r (is-true (isEmpty r) t)) tt
 
 mutual
   unfolding isOpen isClosed Valid Ok Shut either

@@ -5,11 +5,13 @@ pub mod Reading
 pub mod Entries
 pub mod Tree
 pub mod Grammar
+pub mod GrammarLaws
 pub mod Flat
 pub mod Linear
 pub mod Accepted
 pub mod Table
 pub mod Valid
+pub mod BytesLaws
 pub mod ReadingLaws
 pub mod EntriesLaws
 pub mod TableLaws

@@ -51,7 +51,12 @@ module _ {s : List ℕ} {k : ℕ} (a b : List ℕ) (h : Holds s k (a ++ b)) wher
   holds-left = record { pre = h .pre; post = b ++ h .post; is = h .is ∙ simp append-assoc; at = h .at }
 
   pub holds-right : Holds s (k + length a) b
-  holds-right = record { pre = h .pre ++ a; post = h .post; is = h .is ∙ simp append-assoc; at = length-append (h .pre) a ∙ ap (λ (n : ℕ). n + length a) (h .at) }
+  holds-right = record {
+    pre = h .pre ++ a;
+    post = h .post;
+    is = h .is ∙ simp append-assoc;
+    at = length-append (h .pre) a ∙ ap (λ (n : ℕ). n + length a) (h .at);
+  }
 
 -- ---- bytes
 module _ {s : List ℕ} {k : ℕ} {m : List ℕ} (h : Holds s k m) where
@@ -141,7 +146,8 @@ module _ {s : List ℕ} {k : ℕ} where
   pub length-field : (n : ℕ) → n < 2 ^ 24 → Holds s k (threeBytes n) → field s (8 * k) 24 ≡ got n (8 * (k + 3))
   length-field n small h =
       let f : k + 3 ≤ length s = holds-fits h in
-      let b : (i : ℕ) → i < 3 → getD (threeBytes n) i 0 < 256 → fieldAt s (8 * (k + i)) 8 ≡ getD (threeBytes n) i 0 = λ i lt lt′. byte-value (threeBytes n) i h lt lt′ in
+      let b : (i : ℕ) → i < 3 → getD (threeBytes n) i 0 < 256 → fieldAt s (8 * (k + i)) 8 ≡ getD (threeBytes n) i 0 =
+      λ i lt lt′. byte-value (threeBytes n) i h lt lt′ in
       let e₀ : fieldAt s (8 * k) 8 ≡ n / 65536 = ap (λ (x : ℕ). fieldAt s x 8) (omega arith) ∙ b 0 (omega arith) (omega arith) in
       let e₁ : fieldAt s (8 * k + 8) 8 ≡ n / 256 % 256 = ap (λ (x : ℕ). fieldAt s x 8) (omega arith) ∙ b 1 (omega arith) (omega arith) in
       let e₂ : fieldAt s (8 * k + 8 + 8) 8 ≡ n % 256 = ap (λ (x : ℕ). fieldAt s x 8) (omega arith) ∙ b 2 (omega arith) (omega arith) in

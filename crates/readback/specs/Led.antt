@@ -3,10 +3,10 @@ use Prim.Native.Nat.{ℕ, zero, suc, _+_, _*_, _/_, _≤_, _<_}
 use native.Mathlib.Omega.{arith}
 use mathlib.Core.Path.{_≡_, refl, ap, _∙_}
 use mathlib.Core.Bool.{Bool, true, false, cond}
-use mathlib.Core.List.{List, _∷_}
+use mathlib.Core.List.{List, [], _∷_}
 use mathlib.Core.Option.{Option, none, some}
 use borrow.Author.Tests.{leb-true, leb-false, eqb-true}
-use lib.ListN.{length}
+use lib.ListN.{length, getD}
 use lib.Dec.{leb, eqb}
 use Rattle.fields.specs.Field.{bitAt}
 use Rattle.files.specs.Reading.{Got, got, refused}
@@ -32,13 +32,19 @@ or-led n (some t) g e = refused-got e
 or-led n none g e = (refl, e)
 
 -- what a check over all templates lets pass, passes at each
-pub lowest-led : (ok : Template → Bool) (n : ℕ) (t : Template) (ts : List Template) → lowest ok n (t ∷ ts) ≡ none → (ok t ≡ true) × (lowest ok (n + 1) ts ≡ none)
+pub lowest-led : (ok : Template → Bool) (n : ℕ) (t : Template) (ts : List Template) → lowest ok n (t ∷ ts) ≡ none
+    → (ok t ≡ true) × (lowest ok (n + 1) ts ≡ none)
 unfolding lowest
 lowest-led ok n t ts e = go (ok t) e
   where
     go : (b : Bool) → cond b (lowest ok (n + 1) ts) (some n) ≡ none → (b ≡ true) × (lowest ok (n + 1) ts ≡ none)
     go true e = (refl, e)
     go false e = let z : _≡_ {A = ℕ} 0 1 = cc in absurd (omega arith)
+
+pub lowest-at : (ok : Template → Bool) (n : ℕ) (ts : List Template) (d : Template) → lowest ok n ts ≡ none → (i : ℕ) → i < length ts → ok (getD ts i d) ≡ true
+lowest-at ok n [] d e i h = absurd (omega arith)
+lowest-at ok n (t ∷ ts) d e zero h = lowest-led ok n t ts e .0
+lowest-at ok n (t ∷ ts) d e (suc i) h = lowest-at ok (n + 1) ts d (lowest-led ok n t ts e .1) i (omega arith)
 
 module _ (s : List ℕ) where
   -- ---- n zero bits from p to q

@@ -63,10 +63,21 @@ bits-join (suc m) n a b h = rw (suc-add m n, bits-low m n a b h, bits-join m n a
 pub byte-same : (a b : List ℕ) → ((i : ℕ) → i < 8 → getD a i 0 ≡ getD b i 0) → byteOf a ≡ byteOf b
 unfolding byteOf
 byte-same a b h =
-    rw (h 0 (omega arith), h 1 (omega arith), h 2 (omega arith), h 3 (omega arith), h 4 (omega arith), h 5 (omega arith), h 6 (omega arith), h 7 (omega arith)) refl
+    rw (
+      h 0 (omega arith),
+      h 1 (omega arith),
+      h 2 (omega arith),
+      h 3 (omega arith),
+      h 4 (omega arith),
+      h 5 (omega arith),
+      h 6 (omega arith),
+      h 7
+          (omega arith),
+    ) refl
 
 -- a byte is its eight bits
-halves : (x : ℕ) → x < 256 → 128 * (x / 128 % 2) + 64 * (x / 64 % 2) + 32 * (x / 32 % 2) + 16 * (x / 16 % 2) + 8 * (x / 8 % 2) + 4 * (x / 4 % 2) + 2 * (x / 2 % 2) + x / 1 % 2 ≡ x
+halves : (x : ℕ) → x < 256
+    → 128 * (x / 128 % 2) + 64 * (x / 64 % 2) + 32 * (x / 32 % 2) + 16 * (x / 16 % 2) + 8 * (x / 8 % 2) + 4 * (x / 4 % 2) + 2 * (x / 2 % 2) + x / 1 % 2 ≡ x
 halves x h =
     let h₁ : x ≡ 2 * (x / 2) + x / 1 % 2 = omega arith in
     let h₂ : x / 2 ≡ 2 * (x / 4) + x / 2 % 2 = omega arith in
@@ -78,7 +89,8 @@ halves x h =
     let h₈ : x / 128 ≡ x / 128 % 2 = omega arith in
     add-up (x / 2) (x / 4) (x / 8) (x / 16) (x / 32) (x / 64) (x / 128) _ _ _ _ _ _ _ _ h₁ h₂ h₃ h₄ h₅ h₆ h₇ h₈
   where
-    add-up : (x₁ x₂ x₃ x₄ x₅ x₆ x₇ b₀ b₁ b₂ b₃ b₄ b₅ b₆ b₇ : ℕ) → x ≡ 2 * x₁ + b₀ → x₁ ≡ 2 * x₂ + b₁ → x₂ ≡ 2 * x₃ + b₂ → x₃ ≡ 2 * x₄ + b₃ → x₄ ≡ 2 * x₅ + b₄ → x₅ ≡ 2 * x₆ + b₅ → x₆ ≡ 2 * x₇ + b₆ → x₇ ≡ b₇
+    add-up : (x₁ x₂ x₃ x₄ x₅ x₆ x₇ b₀ b₁ b₂ b₃ b₄ b₅ b₆ b₇ : ℕ) → x ≡ 2 * x₁ + b₀ → x₁ ≡ 2 * x₂ + b₁ → x₂ ≡ 2 * x₃ + b₂ → x₃ ≡ 2 * x₄ + b₃ → x₄ ≡ 2 * x₅ + b₄
+        → x₅ ≡ 2 * x₆ + b₅ → x₆ ≡ 2 * x₇ + b₆ → x₇ ≡ b₇
         → 128 * b₇ + 64 * b₆ + 32 * b₅ + 16 * b₄ + 8 * b₃ + 4 * b₂ + 2 * b₁ + b₀ ≡ x
     add-up x₁ x₂ x₃ x₄ x₅ x₆ x₇ b₀ b₁ b₂ b₃ b₄ b₅ b₆ b₇ h₁ h₂ h₃ h₄ h₅ h₆ h₇ h₈ = omega arith
 
@@ -153,7 +165,8 @@ padded {s} {p} b n h zeros i lt = go (leb (length b) i) refl
     go false e = sym (h .each i (leb-false (length b) i e))
 
 -- n bytes from byte k on, by their bits
-pub bytes-slice : (z : List ℕ) → ((i : ℕ) → getD z i 0 < 256) → (n k : ℕ) (b : List ℕ) → k + n ≤ length z → ((i : ℕ) → i < 8 * n → getD b i 0 ≡ bitAt z (8 * k + i))
+pub bytes-slice : (z : List ℕ) → ((i : ℕ) → getD z i 0 < 256) → (n k : ℕ) (b : List ℕ) → k + n ≤ length z
+    → ((i : ℕ) → i < 8 * n → getD b i 0 ≡ bitAt z (8 * k + i))
     → bytesFrom n b ≡ take n (drop k z)
 unfolding bytesFrom
 bytes-slice z small zero k b h e = refl
@@ -161,7 +174,8 @@ bytes-slice z small (suc n) k b h e =
     let x : ℕ = getD z k 0 in
     let l : length (bitsOf 8 x) ≡ 8 = length-bits 8 x in
     let first : byteOf b ≡ x =
-    byte-same b (bitsOf 8 x ++ []) (λ i lt. e i (omega arith) ∙ byte-stands z k (omega arith) .each i (omega arith) ∙ rw (append-nil (bitsOf 8 x)) refl) ∙ byte-is x [] (small k) in
+    byte-same b (bitsOf 8 x ++ []) (λ i lt. e i (omega arith) ∙ byte-stands z k (omega arith) .each i (omega arith) ∙ rw (append-nil (bitsOf 8 x)) refl)
+    ∙ byte-is x [] (small k) in
     let rest : bytesFrom n (drop 8 b) ≡ take n (drop (suc k) z) =
     bytes-slice z small n (suc k) (drop 8 b) (omega arith) (λ i lt. getD-drop 8 b i 0 ∙ e (8 + i) (omega arith) ∙ ap (bitAt z) (omega arith)) in
     rw (first, rest, drop-cons z k 0 (omega arith))

@@ -53,5 +53,6 @@ flat-offsets s ts q e = offsets-led s ts q e .1
 pub facts-read-back : (ts : List Template) → TreeFacts ts → linearRead (linearFile ts) ≡ got (linears 1 ts) (8 * length (linearFile ts))
 facts-read-back ts f = linear-back ts (f .at-least-one) (f .at-most-64) (each-weaker (λ n t h. h .writable) 0 ts (f .each)) (omega (arith, f .fits))
 
-pub flattened-reads : (s : List ℕ) (ts : List Template) (q : ℕ) → flatChecked s ≡ got ts q → linearRead (linearFile ts) ≡ got (linears 1 ts) (8 * length (linearFile ts))
+pub flattened-reads : (s : List ℕ) (ts : List Template) (q : ℕ) → flatChecked s ≡ got ts q
+    → linearRead (linearFile ts) ≡ got (linears 1 ts) (8 * length (linearFile ts))
 flattened-reads s ts q e = facts-read-back ts (tree-facts s ts q (checked-read s ts q (flat-checked s ts q e)))

@@ -51,7 +51,8 @@ module _ (s : List ℕ) where
     kind-stands : (k : ℕ) → k < 4 → k ≡ fieldAt s p 2 → Entered (kindAt s own T p (p + 2) k)
     unfolding kindAt constantAt entryBits
     kind-stands zero l e = tt
-    kind-stands (suc zero) l e = then-field Entered s (p + 2) 3 _ tt (λ h. constant-stands (fieldAt s (p + 2) 3) (p + 2) e refl h (eqb (fieldAt s (p + 2) 3) 4) refl)
+    kind-stands (suc zero) l e =
+        then-field Entered s (p + 2) 3 _ tt (λ h. constant-stands (fieldAt s (p + 2) 3) (p + 2) e refl h (eqb (fieldAt s (p + 2) 3) 4) refl)
     kind-stands (suc (suc zero)) l e = then-field Entered s (p + 2) 8 _ tt (λ h. (omega arith, field-then p 2 2 _ e (stands-field (p + 2) 8 _ h refl)))
     kind-stands (suc (suc (suc zero))) l e = then-field Entered s (p + 2) 8 _ tt (λ h. go h (ltb own (fieldAt s (p + 2) 8)) (ltb (fieldAt s (p + 2) 8) T))
       where

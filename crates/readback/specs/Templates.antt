@@ -34,7 +34,8 @@ linears k [] = []
 linears k (t ∷ ts) = linear k t ∷ linears (k + length (templateBytes t)) ts
 
 module _ {s : List ℕ} where
-  code-back : (es : List Entry) {j : ℕ} (m : List ℕ) → Holds s j m → codeAt s es (length m) (8 * j) ≡ got (record { entries = es; start = j; code = m }) (8 * (j + length m))
+  code-back : (es : List Entry) {j : ℕ} (m : List ℕ) → Holds s j m
+      → codeAt s es (length m) (8 * j) ≡ got (record { entries = es; start = j; code = m }) (8 * (j + length m))
   unfolding codeAt
   code-back es {j} m h =
       let f : j + length m ≤ length s = holds-fits h in
@@ -42,7 +43,8 @@ module _ {s : List ℕ} where
       rw (le-leb (8 * j + 8 * length m) (8 * length s) (omega arith), e, holds-code h) (here refl (omega arith))
 
   module _ (T own : ℕ) where
-    template-back : {k : ℕ} (t : Template) → Writable T own t → Holds s k (templateBytes t) → linearAt s own T (8 * k) ≡ got (linear k t) (8 * (k + length (templateBytes t)))
+    template-back : {k : ℕ} (t : Template) → Writable T own t → Holds s k (templateBytes t)
+        → linearAt s own T (8 * k) ≡ got (linear k t) (8 * (k + length (templateBytes t)))
     unfolding linearAt then templateBytes
     template-back {k} t ok h =
         let es = t .entries in

@@ -54,8 +54,19 @@ module _ (s : List ℕ) (small : length s ≤ 65536) (T : ℕ) (few : T ≤ 64) 
   parts own p n p₁ es p₂ c p₃ {t} {q} f g l v e =
       let e₁ : record { entries = es; start = p₂; code = c } ≡ t = cc in
       let e₂ : p₃ ≡ q = cc in
-      rw (← e₁, ← e₂)
-      (record { writable = record { entries-ok = g .ok; few = omega arith; short = omega (arith, flat-bits-end c) }; within = omega arith; valid-code = v }, omega arith, l .1)
+      rw (← e₁, ← e₂) (
+        record {
+          writable = record {
+            entries-ok = g .ok;
+            few = omega arith;
+            short = omega (arith, flat-bits-end c);
+          };
+          within = omega arith;
+          valid-code = v;
+        },
+        omega arith,
+        l .1,
+      )
 
   template-facts : (own p : ℕ) {t : Template} {q : ℕ} → templateAt s own T p ≡ got t q → TemplateFacts T own t × (q ≡ p + templateBits t) × (q ≤ 8 * length s)
   unfolding templateAt
@@ -65,9 +76,11 @@ module _ (s : List ℕ) (small : length s ≤ 65536) (T : ℕ) (few : T ≤ 64) 
       then-led (entriesAt s own T n p₁) _ on₁
       (λ es p₂ e₂ on₂.
       then-led (listAt s 15 p₂) _ on₂
-      (λ c p₃ e₃ on₃. parts own p n p₁ es p₂ c p₃ (got-all (λ v. v < 2 ^ 8) (field-all s p 8) e₁, field-got s p 8 e₁ .1, field-got s p 8 e₁ .2) (entries-read s own T few n p₁ e₂) (list-bits s 15 p₂ c p₃ e₃) (list-valid s 15 p₂ c p₃ e₃) on₃)))
+      (λ c p₃ e₃ on₃. parts own p n p₁ es p₂ c p₃ (got-all (λ v. v < 2 ^ 8) (field-all s p 8) e₁, field-got s p 8 e₁ .1, field-got s p 8 e₁ .2)
+      (entries-read s own T few n p₁ e₂) (list-bits s 15 p₂ c p₃ e₃) (list-valid s 15 p₂ c p₃ e₃) on₃)))
 
-  templates-facts : (n own p : ℕ) {ts : List Template} {q : ℕ} → p ≤ 8 * length s → templatesAt s T own n p ≡ got ts q → (length ts ≡ n) × TemplatesFacts s T own p ts q
+  templates-facts : (n own p : ℕ) {ts : List Template} {q : ℕ} → p ≤ 8 * length s → templatesAt s T own n p ≡ got ts q
+      → (length ts ≡ n) × TemplatesFacts s T own p ts q
   unfolding templatesAt templatesBytes
   templates-facts zero own p {ts} {q} h e =
       let e₁ : [] ≡ ts = cc in

@@ -8,7 +8,6 @@ pub mod Answers
 pub mod Told
 pub mod Related
 pub mod Numbers
-pub mod Frames
 pub mod Effects
 pub mod Clean
 pub mod Sound

@@ -20,7 +20,8 @@ use Rattle.files.specs.Grammar.{lowest, closedTemplate, indexedTemplate}
 use Rattle.files.specs.Valid.{Bytes}
 use Rattle.machines.specs.Fetched.{noTemplate, noLinear}
 use Rattle.machines.specs.Machine.{treeProgram, linearProgram}
-use Rattle.sound.specs.Programs.{ProgramOk, TemplateOk, LinearOk, bytes-take, bytes-drop, tree-program-ok, linear-program-ok}
+use Rattle.files.specs.BytesLaws.{bytes-take, bytes-drop}
+use Rattle.sound.specs.Programs.{ProgramOk, TemplateOk, LinearOk, tree-program-ok, linear-program-ok}
 
 -- ---- templates one after the other, each with its number
 module _ {A : Type 0} where

@@ -19,6 +19,7 @@ use Rattle.files.specs.Linear.{Linear}
 use Rattle.files.specs.Table.{constantCell}
 use Rattle.files.specs.Tree.{Template}
 use Rattle.files.specs.Valid.{Bytes, Valid}
+use Rattle.files.specs.BytesLaws.{bytes-at, bytes-take, bytes-drop}
 use Rattle.rules.specs.Lists.{either, by-lt}
 use Rattle.rules.specs.Effects.{ConstantCell, integer-constant}
 use Rattle.rules.specs.SoundRules.{PlainOk}
@@ -53,25 +54,6 @@ pub record LinearOk (T own : ℕ) (t : Linear) : Type 0 where
   pub entries-ok : EntriesOk own T (t .entries)
   pub code-ok : Bytes (t .code)
   pub short : length (t .code) ≤ 262144
-
--- ---- bytes
-byte-at : (ns : List ℕ) (i : ℕ) → Bytes ns → getD ns i 0 < 256
-unfolding Bytes
-byte-at [] i b = omega arith
-byte-at (n ∷ ns) zero b = b .0
-byte-at (n ∷ ns) (suc i) b = byte-at ns i (b .1)
-
-pub bytes-take : (n : ℕ) (ns : List ℕ) → Bytes ns → Bytes (take n ns)
-unfolding Bytes
-bytes-take zero ns b = tt
-bytes-take (suc n) [] b = tt
-bytes-take (suc n) (m ∷ ns) b = (b .0, bytes-take n ns (b .1))
-
-pub bytes-drop : (n : ℕ) (ns : List ℕ) → Bytes ns → Bytes (drop n ns)
-unfolding Bytes
-bytes-drop zero ns b = b
-bytes-drop (suc n) [] b = tt
-bytes-drop (suc n) (m ∷ ns) b = bytes-drop n ns (b .1)
 
 -- ---- entries
 pub constant-cell : (t x : ℕ) → t < 5 → x < 2 ^ 32 → ConstantCell (constantCell t x)
@@ -134,7 +116,7 @@ module _ (own T : ℕ) (es : List Entry) (fit : EntriesOk own T es) where
       (or 10 _ _ tt
       (or 11 _ _ tt
       (or 12 _ _ tt
-      (or 13 _ _ (byte-at ns 0 b)
+      (or 13 _ _ (bytes-at ns b 0)
       (or 15 _ _ tt
       (or 16 _ _ tt
       (or 18 _ _ tt

@@ -1,19 +1,20 @@
 -- What is fetched in an accepted tree file, by its links and its table, is what stands there. Assumes nothing.
-use Prim.Native.Nat.{ℕ, zero, suc, _+_, _*_, _≤_, _<_}
+use Prim.Native.Nat.{ℕ, _+_, _*_, _≤_, _<_}
 use native.Mathlib.Omega.{arith}
 use mathlib.Core.Path.{_≡_, refl, _∙_}
-use mathlib.Core.Bool.{Bool, true, false}
-use mathlib.Core.List.{List, [], _∷_}
-use mathlib.Core.Option.{Option, none, some}
+use mathlib.Core.Bool.{true, false}
+use mathlib.Core.List.{List}
 use borrow.Author.Tests.{ne-eqb}
 use lib.ListN.{length, getD, List·getD-eq-default}
-use Rattle.files.specs.Grammar.{isClosed, lowest, closedTemplate, indexedTemplate}
+use Rattle.files.specs.Grammar.{isClosed, closedTemplate}
 use Rattle.files.specs.Reading.{got}
 use Rattle.files.specs.Table.{treeTable}
-use Rattle.files.specs.AllGot.{refused-got, got-value, then-led, tree-read}
+use Rattle.files.specs.AllGot.{tree-read}
 use Rattle.files.specs.TableLaws.{Few, treeEntries, row-start, tree-slot, tree-beyond}
-use Rattle.files.specs.Tree.{Template, treeRead}
-use Rattle.files.specs.Accepted.{orLowest, treeChecked}
+use Rattle.files.specs.Tree.{Template}
+use Rattle.files.specs.Accepted.{treeChecked}
+use Rattle.readback.specs.Led.{lowest-at}
+use Rattle.readback.specs.ReadBack.{Checked, checked}
 use Rattle.links.specs.Links.{linkedAll}
 use Rattle.links.specs.Templates.{TemplateLaid, short, template-there, template-stands, template-links}
 use Rattle.machines.specs.Fetched.{Fetched, bad, first, look, treeAt, noTemplate}
@@ -22,31 +23,6 @@ use Rattle.rules.specs.Lists.{by-lt}
 use Rattle.tree_code.specs.Fetch.{fetchedAt}
 use Rattle.tree_machine.specs.Real.{fits, false-true, Real, first-real, real-within}
 use Rattle.tree_machine.specs.Look.{seen, Leads, Found, look-found}
-
--- ---- what is known of an accepted file
-pub record Accepted (s : List ℕ) (ts : List Template) (q : ℕ) : Type 0 where
-  pub read : treeRead s ≡ got ts q
-  pub closed : lowest closedTemplate 0 ts ≡ none
-
-pub accepted-parts : (s : List ℕ) {ts : List Template} {q : ℕ} → treeChecked s ≡ got ts q → Accepted s ts q
-unfolding treeChecked orLowest
-accepted-parts s {ts} {q} e =
-    then-led (treeRead s) _ e (λ us r first on. by us r (lowest closedTemplate 0 us) (lowest indexedTemplate 0 us) first refl on)
-  where
-    by : (us : List Template) (r : ℕ) (o i : Option ℕ) → treeRead s ≡ got us r → lowest closedTemplate 0 us ≡ o → orLowest 6 o (orLowest 7 i (got us r)) ≡ got ts q → Accepted s ts q
-    by us r none none e h on = let k = got-value on in record { read = e ∙ on; closed = rw (k .0) at h }
-    by us r none (some t) e h on = refused-got on
-    by us r (some t) i e h on = refused-got on
-
-none-refused : (ok : Template → Bool) (n : ℕ) (ts : List Template) (i : ℕ) (d : Template) → lowest ok n ts ≡ none → i < length ts → ok (getD ts i d) ≡ true
-unfolding lowest
-none-refused ok n [] i d e l = absurd (omega arith)
-none-refused ok n (t ∷ ts) i d e l = by (ok t) refl i l (λ h j m. none-refused ok (n + 1) ts j d h m)
-  where
-    by : (b : Bool) → ok t ≡ b → (i : ℕ) → i < length (t ∷ ts) → (lowest ok (n + 1) ts ≡ none → (j : ℕ) → j < length ts → ok (getD ts j d) ≡ true) → ok (getD (t ∷ ts) i d) ≡ true
-    by true h zero l f = h
-    by true h (suc i) l f = f (rw h at e) i (omega arith)
-    by false h i l f = let j : some n ≡ none = rw h at e in let z : _≡_ {A = ℕ} 0 1 = cc in absurd (omega arith)
 
 -- ---- the places at which execution can be in template t of ts; a template that is not there has place 0
 pub data Standing (ts : List Template) (t p : ℕ) : Type 0 where
@@ -59,8 +35,8 @@ pub record Fetches (s L table : List ℕ) (ts : List Template) (t p : ℕ) (F : 
   pub leads : Leads (Standing ts t) F
 
 module _ (s : List ℕ) (ts : List Template) (q : ℕ) (accepted : treeChecked s ≡ got ts q) where
-  known : Accepted s ts q
-  known = accepted-parts s accepted
+  known : Checked s ts q
+  known = checked s ts q accepted
 
   few : Few treeEntries ts
   few = tree-read s (known .read) .1 .1
@@ -69,7 +45,7 @@ module _ (s : List ℕ) (ts : List Template) (q : ℕ) (accepted : treeChecked s
   there t h = template-there s (known .read) t noTemplate h
 
   closed-at : (t : ℕ) → t < length ts → isClosed (getD ts t noTemplate .code) ≡ true
-  closed-at t h = none-refused closedTemplate 0 ts t noTemplate (known .closed) h
+  closed-at t h = lowest-at closedTemplate 0 ts noTemplate (known .closed) t h
 
   no-template : (t : ℕ) → length ts ≤ t → getD ts t noTemplate ≡ noTemplate
   no-template t h = List·getD-eq-default ts noTemplate h

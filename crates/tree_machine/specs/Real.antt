@@ -8,6 +8,7 @@ use mathlib.Core.List.{List}
 use lib.ListN.{length}
 use Rattle.files.specs.Code.{Code, done, neutral, return, call, unless-false, make-cont, bits}
 use Rattle.files.specs.Grammar.{isEmpty, isOpen, isClosed}
+use Rattle.files.specs.GrammarLaws.{empty-done}
 use Rattle.files.specs.ReadingLaws.{least-bits}
 
 -- ---- lists that are as they must be
@@ -28,13 +29,8 @@ or-right true b e = refl
 or-right false b e = e
 
 empty-not-closed : (c : Code) → isEmpty c ≡ true → isClosed c ≡ false
-unfolding isEmpty isClosed
-empty-not-closed done e = refl
-empty-not-closed (neutral op ns r) e = false-true e
-empty-not-closed (return r) e = false-true e
-empty-not-closed (call n r) e = false-true e
-empty-not-closed (unless-false x y r) e = false-true e
-empty-not-closed (make-cont n x r) e = false-true e
+unfolding isClosed
+empty-not-closed c e = rw (empty-done c e) refl
 
 module _ (c : Code) where
   out-not-closed : (isOpen c ≡ true → isClosed c ≡ false) → isEmpty c || isOpen c ≡ true → isClosed c ≡ false

@@ -41,7 +41,8 @@ longer P zero c k s h n = absurd (n refl)
 longer P (suc b) zero k s h n = absurd (omega arith)
 longer P (suc b) (suc c) k s h n = turn (λ k′ s′ m. longer P b c k′ s′ (omega arith) m) (step P s) n
   where
-    turn : ((k′ : Counts) (s′ : State) → (run P b k′ s′ .ending ≡ spent → ⊥) → run P c k′ s′ ≡ run P b k′ s′) → (o : Step) → (next (λ k′ s′. run P b k′ s′) k (counted (here P s) s k) s o .ending ≡ spent → ⊥)
+    turn : ((k′ : Counts) (s′ : State) → (run P b k′ s′ .ending ≡ spent → ⊥) → run P c k′ s′ ≡ run P b k′ s′) → (o : Step)
+        → (next (λ k′ s′. run P b k′ s′) k (counted (here P s) s k) s o .ending ≡ spent → ⊥)
         → next (λ k′ s′. run P c k′ s′) k (counted (here P s) s k) s o ≡ next (λ k′ s′. run P b k′ s′) k (counted (here P s) s k) s o
     turn ih (go s′) n = ih (counted (here P s) s k) s′ n
     turn ih halt n = refl
@@ -106,7 +107,15 @@ module _ (R : ℕ → ℕ → ℕ → ℕ → ℕ → Type 0) (K : Kin R) (w : �
       unfolding counted
       onward F G {d₁} {d₂} {t₁} {t₂} {p₁} {p₂} {j′} {J′} h o o′ q r f₁ f₂ g₁ g₂ l i e =
           goR {s₁′ = at d₁ t₁ p₁} {s₂′ = at d₂ t₂ p₂} {j = j′} {J = J′} {n = w + (j + J)}
-          (record { data-ok = q; place-ok = A .meets r; counts = record { clock = omega arith; tally = rw g₁ (omega arith); own = λ n. omega (arith, c .own n, l n) } })
+          (record {
+            data-ok = q;
+            place-ok = A .meets r;
+            counts = record {
+              clock = omega arith;
+              tally = rw g₁ (omega arith);
+              own = λ n. omega (arith, c .own n, l n);
+            };
+          })
           (omega arith)
 
       wrongs : {k₁′ k₂′ : Counts} {m n : ℕ} → (m ≡ 16 → K .Hole) → StepR k₁ k₂ k₁′ k₂′ s₁ s₂ (stop m) (stop m) n
@@ -132,7 +141,18 @@ module _ (R : ℕ → ℕ → ℕ → ℕ → ℕ → Type 0) (K : Kin R) (w : �
           → StepR k₁ k₂ (counted returns s₁ k₁) (counted returns s₂ k₂) s₁ s₂ (returned x) (returned y) (w + (0 + J))
       unfolding returned counted jumpCount firstCount
       backs noneB e =
-          haltR (record { pending = 0; waiting = J; data-ok = d; counts = record { clock = omega arith; tally = omega arith; own = λ n. omega (arith, c .own n) }; quiet = λ h. (refl, sym e); only-there = λ (h : halted ≡ wrongly 16). let z : _≡_ {A = ℕ} 0 1 = cc in absurd (omega arith) })
+          haltR (record {
+            pending = 0;
+            waiting = J;
+            data-ok = d;
+            counts = record {
+              clock = omega arith;
+              tally = omega arith;
+              own = λ n. omega (arith, c .own n);
+            };
+            quiet = λ h. (refl, sym e);
+            only-there = λ (h : halted ≡ wrongly 16). let z : _≡_ {A = ℕ} 0 1 = cc in absurd (omega arith);
+          })
       backs (someB r q e) h = onward d c returns returns 0 0 0 q r refl refl refl refl (λ n. refl) (omega arith) (omega arith)
 
     module _ {k₁ k₂ : Counts} {s₁ s₂ : State} {j J : ℕ} (d : K .DR (s₁ .now) (s₂ .now) J) (c : Tally k₁ k₂ j J) where
@@ -154,8 +174,10 @@ module _ (R : ℕ → ℕ → ℕ → ℕ → ℕ → Type 0) (K : Kin R) (w : �
         binds d c (K .apply-ok x d) (plain-never _ _ i) λ a b y. onward d c (plain i p) (plain i′ q) 0 0 0 y r refl refl refl refl (λ n. refl) (omega arith) (omega arith)
     acts d c returnM = backs d c (K .back-ok d) refl
     acts d c (callM {n = n}) =
-        binds d c (K .call-ok n d) (call-never n _) λ a b y. onward d c (calls n) (calls n) 0 0 0 (y .1) (A .starts (y .0)) refl refl refl refl (λ n. refl) (omega arith) (omega arith)
-    acts {s₁ = s₁} d c (branchM {o = o} {o′ = o′} h i r₁ r₂) = rw (← K .false-ok d) (arms d c (isFalse (s₁ .now .regs)) o o′ refl (sym (K .false-ok d)) h i r₁ r₂)
+        binds d c (K .call-ok n d) (call-never n _) λ a b y. onward d c (calls n) (calls n) 0 0 0 (y .1) (A .starts (y .0)) refl refl refl refl (λ n. refl) (omega arith)
+        (omega arith)
+    acts {s₁ = s₁} d c (branchM {o = o} {o′ = o′} h i r₁ r₂) =
+        rw (← K .false-ok d) (arms d c (isFalse (s₁ .now .regs)) o o′ refl (sym (K .false-ok d)) h i r₁ r₂)
     acts d c (saveM {n = n} {p₁ = p₁} {p₂ = p₂} {q₁ = q₁} {q₂ = q₂} r₁ r₂) =
         binds d c (K .keep-ok r₁ d) (make-cont-never n _ p₁ _) λ a b y. onward d c (saves n p₁ p₂) (saves n q₁ q₂) 0 0 0 y r₂ refl refl refl refl (λ n. refl) (omega arith) (omega arith)
     acts d c (hopM {p = p} {q = q} g r) = onward d c (jumps p) (jumps q) 1 0 0 d r refl refl refl refl (λ n. absurd (n g)) (omega arith) (omega arith)
@@ -194,7 +216,8 @@ module _ (R : ℕ → ℕ → ℕ → ℕ → ℕ → Type 0) (K : Kin R) (w : �
         let k : Counts = counted (jumps q) s₂ k₂ in
         let s : State = at (s₂ .now) (s₂ .template) q in
         let l : Lock b (j + J) (λ f. run P₁ f k₁ s₁) (run P₂ b k s) =
-        ih k₁ k s₁ s j J (j + J) (record { data-ok = d; place-ok = m; counts = record { clock = omega arith; tally = omega arith; own = c .own } }) (omega arith) in
+        ih k₁ k s₁ s j J (j + J) (record { data-ok = d; place-ok = m; counts = record { clock = omega arith; tally = omega arith; own = c .own } })
+        (omega arith) in
         record { fuel = l .fuel; less = omega arith; half = omega arith; alike = rw e (l .alike) }
 
     pub lock : (b : ℕ) (k₁ k₂ : Counts) (s₁ s₂ : State) (j J n : ℕ) → Rel k₁ k₂ s₁ s₂ j J → j + J ≤ n → Lock b n (λ f. run P₁ f k₁ s₁) (run P₂ b k₂ s₂)
