@@ -10,6 +10,7 @@ use lib.ListN.{length, getD, drop, length-append}
 use lib.Dec.{leb, le→leb}
 use lib.Seq.{take-append-seam}
 use Rattle.files.specs.Codes.{shapeOf, isNeutral, operands}
+use Rattle.files.specs.CodesLaws.{neutral-alike}
 use Rattle.files.specs.Code.{Code, done, neutral, return, call, unless-false, make-cont, bits}
 use Rattle.files.specs.Entries.{Entry}
 use Rattle.files.specs.ReadingLaws.{least-bits}
@@ -82,7 +83,7 @@ module _ (ts : List Template) (ls : List Linear) (twins : (t : ℕ) → Twins (g
     lin-neutral {op} {q} ns ys n o a =
         let z : List ℕ = ys ++ a .rest in
         let l : length ns ≤ length (ns ++ z) = simp length-append (omega arith) in
-        lin-is q ∙ rw (a .is, n, o, append-assoc ns ys (a .rest), is-true (leb (length ns) (length (ns ++ z))) (le→leb _ _ l), take-append-seam ns z)
+        lin-is q ∙ rw (a .is, n, neutral-alike op n ∙ o, append-assoc ns ys (a .rest), is-true (leb (length ns) (length (ns ++ z))) (le→leb _ _ l), take-append-seam ns z)
 
     lin-return : {q : ℕ} {ys : List ℕ} → At W q (1 ∷ ys) → lin q ≡ returns
     unfolding decode isNeutral shapeOf

@@ -1,5 +1,6 @@
 -- The specs of the crate files.
 pub mod Codes
+pub mod CodesLaws
 pub mod Code
 pub mod Reading
 pub mod Entries
@@ -15,7 +16,6 @@ pub mod EntriesLaws
 pub mod TableLaws
 pub mod AllGot
 pub mod Heads
-pub mod ValidEntries
 pub mod EntriesRead
 pub mod EntriesSteps
 pub mod PaddingSteps

@@ -19,7 +19,7 @@ use Rattle.files.specs.AllGot.{AllGot, got-all, then-all, cond-all, nothing-all
 use Rattle.rules.specs.Lists.{by-lt}
 use Rattle.machines.specs.Fetched.{Fetched, noLinear, linearAt as fetchLinear}
 use Rattle.machines.specs.Machine.{linearProgram}
-use Rattle.machines.specs.Slots.{slotAt, Stands, RowStands, row-stands}
+use Rattle.machines.specs.Slots.{slotAt, SlotStands, RowStands, row-stands}
 use Rattle.linear_code.specs.Bytes.{codeFrom, fetchBytes, codeStart, codeLength, bytesProgram, Within, AllWithin, AllBytes}
 use Rattle.linear_code.specs.BytesLaws.{decode-bytes}
 
@@ -167,13 +167,13 @@ module _ (s : List ℕ) (ts : List Linear) (short : length s ≤ 262144) (good :
         rw (there-code t l) (decode-bytes (slotAt table t) (x .entries) (there-row t l) q (drop q (x .code)) (drop-bytes q (x .code) b))
 
     nowhere-same : length ts ≤ t → Same
-    unfolding fetchBytes fetchLinear codeFrom Stands entryOf
+    unfolding fetchBytes fetchLinear codeFrom SlotStands entryOf
     nowhere-same l =
         let k = nowhere-start t l in
         rw (k .0, List·getD-eq-default ts noLinear l)
         (decode-bytes (slotAt table t) [] (λ n m. nowhere-stands n) q (drop q (1 ∷ [])) (drop-bytes q (1 ∷ []) single))
       where
-        nowhere-stands : (n : ℕ) → Stands (slotAt table t n) (entryOf [] n)
+        nowhere-stands : (n : ℕ) → SlotStands (slotAt table t n) (entryOf [] n)
         nowhere-stands zero = rw (nowhere-slot t l zero)
         nowhere-stands (suc n) = rw (nowhere-slot t l (suc n))
 

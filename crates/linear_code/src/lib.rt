@@ -8,10 +8,11 @@ ghost use mathlib.Core.List.{List, []};
 ghost use Prim.Native.Nat.{ℕ, _+_, _*_, _≤_, _<_};
 ghost use lib.ListN.{length, getD};
 ghost use Rattle.runs.specs.Runs.{part};
+ghost use Rattle.files.specs.Codes.{operandBytes};
 ghost use Rattle.machines.specs.Fetched.{callIn, branchIn, contIn, jumpIn};
 ghost use Rattle.machines.specs.Slots.{slotAt};
 ghost use Rattle.machines.specs.Instruction.{fetchedAs, Places};
-ghost use Rattle.linear_code.specs.Bytes.{operandCount, neutralBytes, fetchBytes, codeStart, codeLength, Within, AllWithin};
+ghost use Rattle.linear_code.specs.Bytes.{neutralBytes, fetchBytes, codeStart, codeLength, Within, AllWithin};
 
 // Byte k of the `left` bytes at i, 0 past them.
 fn operand(file: &[u8], i: usize, left: usize, k: usize) -> u8
@@ -28,23 +29,50 @@ fn offset(file: &[u8], i: usize) -> usize
     256 * (file[i] as usize) + file[i + 1] as usize
 }
 
-// How many operand bytes a neutral code has; 0 where it is none.
+// How many operand bytes a code has in linear code, by code (document 01, 'Codes').
+const OPERAND_BYTES: [usize; 32] = [
+    0, // 0
+    0, // 1 return
+    1, // 2 call n
+    2, // 3 jump-if-false hi lo
+    3, // 4 make-cont hi lo n
+    2, // 5 jump hi lo
+    1, // 6 literal n
+    1, // 7 closure n
+    1, // 8 global n
+    1, // 9 set-global! n
+    2, // 10 local n1 n2
+    2, // 11 set-local! n1 n2
+    0, // 12 push
+    1, // 13 make-env n
+    0, // 14
+    0, // 15 unspecified
+    1, // 16 checkargs= n
+    0, // 17
+    0, // 18 %%cons
+    0, // 19 %%car
+    0, // 20 %%cdr
+    0, // 21 %%eqv
+    0, // 22 %%add
+    0, // 23
+    0, // 24
+    0, // 25
+    0, // 26
+    0, // 27
+    0, // 28
+    0, // 29
+    0, // 30
+    0, // 31
+];
+
 fn operand_count(op: u8) -> usize
-    ensures { λ r. ⌜ r ≡ operandCount op ⌝ }
+    ensures { λ r. ⌜ r ≡ operandBytes op ⌝ }
 {
-    if op < 6 {
-        return 0;
+    if op < 32 {
+        OPERAND_BYTES[op as usize]
+    } else {
+        0
     }
-    if op < 10 {
-        return 1;
-    }
-    if op < 12 {
-        return 2;
-    }
-    if op == 13 {
-        return 1;
-    }
-    if op == 16 { 1 } else { 0 }
 }
 
 // Each of the next five is given the instruction's place, and the bytes after its code: `left` of them at i.

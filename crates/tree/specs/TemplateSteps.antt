@@ -12,7 +12,6 @@ use Rattle.files.specs.ReadingLaws.{list-bits, list-valid, flat-bits}
 use Rattle.files.specs.Entries.{Entry, then, field, entriesAt}
 use Rattle.files.specs.EntriesLaws.{entries-read}
 use Rattle.files.specs.EntriesRead.{slotsAt, slots-all}
-use Rattle.files.specs.ValidEntries.{entries-valid}
 use Rattle.files.specs.Linear.{entriesBits, templateBytes}
 use Rattle.files.specs.Tree.{Template, templateAt, templatesAt}
 use Rattle.files.specs.RowFilled.{Unfilled, front-length, row-table}
@@ -62,7 +61,7 @@ module _ (s : List ℕ) (own T p : ℕ) (table : List ℕ) where
         unfolding reportBy reportOf factsOf
         report =
             let b : r - q ≡ length (entriesBits es) = omega (arith, entries-read s own T few n q entries .past) in
-            rw (facts, b, slots-named (set t (256 * own) r) own es row (entries-valid s own T n q es r entries .0) c (list-valid s 15 r c (z .0) list), template-length (record { entries = es; start = r; code = c }), closed-class c) refl
+            rw (facts, b, slots-named (set t (256 * own) r) own T es row (entries-read s own T few n q entries .ok) c (list-valid s 15 r c (z .0) list), template-length (record { entries = es; start = r; code = c }), closed-class c) refl
 
         pub list-done : {o : Report} → o ≡ reportBy f (r - q) → TemplateDone (Done z o) (set t (256 * own) r)
         unfolding templateAt then templateTold templateFilled rowFilled startFilled
