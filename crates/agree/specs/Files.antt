@@ -14,6 +14,7 @@ use Rattle.files.specs.Linear.{templateBytes}
 use Rattle.files.specs.Grammar.{lowest, closedTemplate}
 use Rattle.files.specs.Flat.{flat}
 use Rattle.files.specs.AllGot.{refused-got, then-led, Each}
+use Rattle.files.specs.AcceptedLaws.{lowest-none}
 use Rattle.files.specs.Accepted.{orLowest, treeChecked, flatChecked}
 use Rattle.readback.specs.Templates.{linears}
 use Rattle.readback.specs.TreeFacts.{TemplateFacts, tree-facts}
@@ -21,15 +22,6 @@ use Rattle.readback.specs.ReadBack.{checked-read, flat-checked}
 use Rattle.machines.specs.Fetched.{noTemplate, noLinear}
 use Rattle.agree.specs.Suits.{Only, Shut, Ok, closed-ok}
 use Rattle.agree.specs.Places.{Twins}
-
--- what a check over all templates lets pass, passes at each
-lowest-none : (ok : Template → Bool) (n : ℕ) (t : Template) (ts : List Template) → lowest ok n (t ∷ ts) ≡ none → T (ok t) × (lowest ok (n + 1) ts ≡ none)
-unfolding lowest
-lowest-none ok n t ts = pick (ok t)
-  where
-    pick : (b : Bool) → cond b (lowest ok (n + 1) ts) (some n) ≡ none → T b × (lowest ok (n + 1) ts ≡ none)
-    pick true e = (tt, e)
-    pick false e = let z : _≡_ {A = ℕ} 0 1 = cc in absurd (omega arith)
 
 or-none : {A : Type 0} (n : ℕ) (o : Option ℕ) (g : Got A) {a : A} {q : ℕ} → orLowest n o g ≡ got a q → o ≡ none
 unfolding orLowest
@@ -62,7 +54,7 @@ twins-from n k m count (x ∷ ts) f c zero =
     record {
       same-entries = refl;
       same-code = refl;
-      closed = closed-ok (x .code) (h .valid-code) (lowest-none closedTemplate m x ts c .0);
+      closed = closed-ok (x .code) (h .valid-code) (rw (lowest-none closedTemplate m x ts c .0) tt);
       tree-fits = omega (arith, h .within);
       linear-fits = h .writable .short;
     }

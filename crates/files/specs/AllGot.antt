@@ -8,6 +8,7 @@ use native.Mathlib.Nat.{add-zero}
 use native.Mathlib.Omega.{arith}
 use lib.ListN.{length, getD}
 use lib.Dec.{leb, eqb}
+use Rattle.cells.specs.Laws.{clash}
 use Rattle.fields.specs.Field.{bitAt, fieldAt}
 use Rattle.fields.specs.Laws.{read-cases, field-small}
 use Rattle.files.specs.Reading.{Got, got, refused, listAt}
@@ -53,7 +54,7 @@ field-all s p w = read-cases s p w (λ f. AllGot (λ v. v < 2 ^ w) (fieldGot p f
 
 -- ---- what led to what was read
 pub refused-got : {A B : Type 0} {n p q : ℕ} {a : A} → _≡_ {A = Got A} (refused n p) (got a q) → B
-refused-got e = let z : _≡_ {A = ℕ} 0 1 = cc in absurd (omega arith)
+refused-got e = clash (cc)
 
 pub got-value : {A : Type 0} {a b : A} {p q : ℕ} → _≡_ {A = Got A} (got a p) (got b q) → (a ≡ b) × (p ≡ q)
 got-value e = (cc, cc)

@@ -7,6 +7,7 @@ use mathlib.Core.List.{List, [], _∷_, map}
 use lib.ListN.{length, getD}
 use lib.Dec.{leb, eqb}
 use borrow.Author.Tests.{leb-true, eqb-true}
+use Rattle.cells.specs.Laws.{clash}
 use Rattle.files.specs.Codes.{CodeRow, codes, shape, shapes, shapeOf, isNeutral, operands, operandBytes}
 
 -- within a table it does not matter what stands past it
@@ -27,7 +28,7 @@ alike (r ∷ rs) = cond (leb (shape r) 3) (eqb (r .linear) (shape r - 1)) true &
 alike-at : (rs : List CodeRow) → alike rs ≡ true → (op : ℕ) → leb (getD (map shape rs) op 6) 3 ≡ true
     → getD (map (λ (r : CodeRow). r .linear) rs) op 0 ≡ getD (map shape rs) op 6 - 1
 unfolding alike
-alike-at [] a op h = let z : _≡_ {A = ℕ} 0 1 = cc in absurd (omega arith)
+alike-at [] a op h = clash (cc)
 alike-at (r ∷ rs) a zero h = eqb-true (r .linear) (shape r - 1) (rw h at (and-eq-true-iff (cond (leb (shape r) 3) (eqb (r .linear) (shape r - 1)) true) (alike rs) .0 a .0))
 alike-at (r ∷ rs) a (suc op) h = alike-at rs (and-eq-true-iff (cond (leb (shape r) 3) (eqb (r .linear) (shape r - 1)) true) (alike rs) .0 a .1) op h
 

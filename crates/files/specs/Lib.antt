@@ -9,6 +9,7 @@ pub mod Grammar
 pub mod Flat
 pub mod Linear
 pub mod Accepted
+pub mod AcceptedLaws
 pub mod Table
 pub mod Valid
 pub mod ReadingLaws

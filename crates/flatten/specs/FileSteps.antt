@@ -13,6 +13,7 @@ use Rattle.files.specs.Reading.{got, refused}
 use Rattle.files.specs.Entries.{then}
 use Rattle.files.specs.Grammar.{lowest}
 use Rattle.files.specs.Flat.{offsetTemplate}
+use Rattle.files.specs.AcceptedLaws.{lowest-none}
 use Rattle.files.specs.Accepted.{flatChecked}
 use Rattle.files.specs.Linear.{templateBytes, templatesBytes, linearFile}
 use Rattle.files.specs.Tree.{Template, templatesAt, treeRead}
@@ -94,14 +95,6 @@ module _ (s table : List ℕ) (T room : ℕ) (o₀ : List ℕ) where
             }
 
 -- ---- the templates of a file that was read
-lowest-none : (ok : Template → Bool) (n : ℕ) (t : Template) (ts : List Template) → lowest ok n (t ∷ ts) ≡ none → (ok t ≡ true) × (lowest ok (n + 1) ts ≡ none)
-unfolding lowest
-lowest-none ok n t ts = go (ok t)
-  where
-    go : (b : Bool) → cond b (lowest ok (n + 1) ts) (some n) ≡ none → (b ≡ true) × (lowest ok (n + 1) ts ≡ none)
-    go true e = (refl, e)
-    go false e = let z : _≡_ {A = ℕ} 0 1 = cc in absurd (omega arith)
-
 all-flattenable : (all : List Template) → Few treeEntries all → (front ts : List Template) (own : ℕ) → all ≡ front ++ ts → length front ≡ own → lowest offsetTemplate own ts ≡ none → Flattenable (treeTable all) own ts
 unfolding Flattenable
 all-flattenable all few front [] own e l h = tt

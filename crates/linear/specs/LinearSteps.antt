@@ -6,6 +6,7 @@ use mathlib.Core.List.{List, _∷_}
 use borrow.Author.Tests.{le-leb, lt-leb}
 use lib.ListN.{length, set, take, drop, length-take, length-drop}
 use lib.Seq.{sets}
+use Rattle.cells.specs.Laws.{clash}
 use Rattle.cells.specs.declared.BitPlace.{BitPlace}
 use Rattle.files.specs.declared.Padding.{Padding}
 use Rattle.files.specs.declared.Padding.the-variants.{Zero, Refused as Set}
@@ -30,11 +31,11 @@ module _ {A : Type 0} where
   pub part-told : (g : Got A) {q : BitPlace} → partTold g ≡ Read q → ReadPart g q
   unfolding partTold
   part-told (got a z) {q} h = let k : _≡_ {A = BitPlace} (record { 0 = z }) q = cc in record { part = a; is = ap (λ (b : BitPlace). got a (b .0)) k }
-  part-told (refused n z) h = let z : _≡_ {A = ℕ} 0 1 = cc in absurd (omega arith)
+  part-told (refused n z) h = clash (cc)
 
   pub part-refused : (g : Got A) {n : ℕ} {p : BitPlace} → partTold g ≡ Refused n p → g ≡ refused n (p .0)
   unfolding partTold
-  part-refused (got a z) h = let z : _≡_ {A = ℕ} 0 1 = cc in absurd (omega arith)
+  part-refused (got a z) h = clash (cc)
   part-refused (refused m z) {n} {p} h = let k : _≡_ {A = BitPlace} (record { 0 = z }) p = cc in let i : m ≡ n = cc in rw (i, ← k)
 
 -- ---- what follows the entries es, which end at p, by the answer z that reading the padding gave

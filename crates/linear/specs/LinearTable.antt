@@ -8,6 +8,7 @@ use borrow.Author.Tests.{leb-true}
 use lib.ListN.{length, set, replicate, length-append}
 use lib.Seq.{sets}
 use lib.Dec.{leb}
+use Rattle.cells.specs.Laws.{clash}
 use Rattle.files.specs.Reading.{got, refused}
 use Rattle.files.specs.Entries.{Entry, then, field, valid, entriesAt, toByte, zeroBits, nothingMore}
 use Rattle.files.specs.EntriesRead.{slots-all}
@@ -81,8 +82,8 @@ module _ (s : List ℕ) where
   file-table : (T p : ℕ) (a b : Bool) → leb T 64 ≡ b → {ts : List Linear} {q : ℕ} → valid 0 (a && b) (then (linearsAt s T 0 T p) (λ ts q. nothingMore s q ts)) ≡ got ts q
       → cond (a && b) (templatesFilled s T 0 T p (replicate 16384 0)) (replicate 16384 0) ≡ linearTable ts
   file-table T p true true h {ts} {q} e = then-led (linearsAt s T 0 T p) _ e (λ us r e₁ o₁. count-table T p us (leb-true T 64 h) e₁ ∙ ap linearTable (sym (got-all (λ (vs : List Linear). vs ≡ us) (nothing-all (λ (vs : List Linear). vs ≡ us) s r us refl) o₁)))
-  file-table T p true false h e = let z : _≡_ {A = ℕ} 0 1 = cc in absurd (omega arith)
-  file-table T p false b h e = let z : _≡_ {A = ℕ} 0 1 = cc in absurd (omega arith)
+  file-table T p true false h e = clash (cc)
+  file-table T p false b h e = clash (cc)
 
   -- THE LAW
   pub linear-table : {ts : List Linear} {q : ℕ} → linearRead s ≡ got ts q → linearFilled s (replicate 16384 0) ≡ linearTable ts
@@ -92,4 +93,4 @@ module _ (s : List ℕ) where
       go : (b : Bool) → cond b (then (field s 0 8) (λ T p. valid 0 (leb 1 T && leb T 64) (then (linearsAt s T 0 T p) (λ ts q. nothingMore s q ts)))) (refused 1 0) ≡ got ts q
           → cond b (countFilled s (field s 0 8) (replicate 16384 0)) (replicate 16384 0) ≡ linearTable ts
       go true h = then-led (field s 0 8) _ h (λ T p e₁ o₁. rw e₁ (file-table T p (leb 1 T) (leb T 64) refl o₁))
-      go false h = let z : _≡_ {A = ℕ} 0 1 = cc in absurd (omega arith)
+      go false h = clash (cc)

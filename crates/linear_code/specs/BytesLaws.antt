@@ -9,6 +9,7 @@ use lib.Dec.{leb, eqb}
 use lib.ListN.{length, getD, take}
 use lib.Seq.{getD-take}
 use borrow.Author.Tests.{ne-eqb, eqb-true}
+use Rattle.cells.specs.Laws.{clash}
 use Rattle.files.specs.Codes.{shapeOf, isNeutral, operandBytes}
 use Rattle.files.specs.CodesLaws.{neutral-six}
 use Rattle.files.specs.Entries.{Entry}
@@ -17,9 +18,6 @@ use Rattle.rules.specs.declared.Plain.the-variants.{Global, SetGlobal, Local, S
 use Rattle.machines.specs.Fetched.{Named, asLiteral, asClosure, asGlobal, ruleOf, returns, bad, plainly, neutralIn, callIn, branchIn, contIn, jumpIn, decode}
 use Rattle.machines.specs.Slots.{slotNames, slotResolve, RowStands, slot-resolve}
 use Rattle.linear_code.specs.Bytes.{neutralBytes, codeBytes, decodeBytes, AllBytes}
-
-true-false : _≡_ {A = Bool} true false → ⊥
-true-false e = let z : _≡_ {A = ℕ} 0 1 = cc in omega arith
 
 either-bad : (b : Bool) → cond b bad bad ≡ bad
 either-bad true = refl
@@ -82,7 +80,7 @@ no-rule named op a b h =
     rw (other 6 refl, other 7 refl, other 8 refl, other 9 refl, other 10 refl, other 11 refl, other 12 refl, other 13 refl, other 15 refl, other 16 refl, other 18 refl, other 19 refl, other 20 refl, other 21 refl, other 22 refl)
   where
     other : (k : ℕ) → isNeutral k ≡ true → eqb op k ≡ false
-    other k i = ne-eqb op k (λ e. let z : true ≡ false = sym i ∙ ap isNeutral (sym e) ∙ h in true-false z)
+    other k i = ne-eqb op k (λ e. let z : true ≡ false = sym i ∙ ap isNeutral (sym e) ∙ h in clash (cc))
 
 module _ (slot : ℕ → ℕ) (es : List Entry) (row : RowStands slot es) (q : ℕ) where
   neutral-bytes : (op : ℕ) (w : List ℕ) → AllBytes w → neutralBytes slot q op w ≡ neutralIn es q op w

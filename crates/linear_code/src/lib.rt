@@ -11,7 +11,7 @@ ghost use Rattle.runs.specs.Runs.{part};
 ghost use Rattle.files.specs.Codes.{operandBytes};
 ghost use Rattle.machines.specs.Fetched.{callIn, branchIn, contIn, jumpIn};
 ghost use Rattle.machines.specs.Slots.{slotAt};
-ghost use Rattle.machines.specs.Instruction.{fetchedAs, Places};
+ghost use Rattle.machines.specs.Instruction.{linearForm, fetchedAs, Places};
 ghost use Rattle.linear_code.specs.Bytes.{neutralBytes, fetchBytes, codeStart, codeLength, Within, AllWithin};
 
 // Byte k of the `left` bytes at i, 0 past them.
@@ -79,7 +79,7 @@ fn operand_count(op: u8) -> usize
 
 fn fetch_call(file: &[u8], i: usize, left: usize) -> Instruction
     requires { ⌜ i + left ≤ length (now file) ⌝ }
-    ensures { λ r. ⌜ ((slot : ℕ → ℕ) → fetchedAs slot r ≡ callIn [] (part (now (file .entry)) i left)) × Places true r ⌝ }
+    ensures { λ r. ⌜ ((slot : ℕ → ℕ) → fetchedAs slot r ≡ callIn [] (part (now (file .entry)) i left)) × Places linearForm r ⌝ }
 {
     if left < 1 {
         Instruction::Bad
@@ -90,7 +90,7 @@ fn fetch_call(file: &[u8], i: usize, left: usize) -> Instruction
 
 fn fetch_branch(file: &[u8], i: usize, left: usize, place: usize) -> Instruction
     requires { ⌜ (i + left ≤ length (now file)) × (place ≤ 262144) ⌝ }
-    ensures { λ r. ⌜ ((slot : ℕ → ℕ) → fetchedAs slot r ≡ branchIn [] place (part (now (file .entry)) i left)) × Places true r ⌝ }
+    ensures { λ r. ⌜ ((slot : ℕ → ℕ) → fetchedAs slot r ≡ branchIn [] place (part (now (file .entry)) i left)) × Places linearForm r ⌝ }
 {
     if left < 2 {
         return Instruction::Bad;
@@ -102,7 +102,7 @@ fn fetch_branch(file: &[u8], i: usize, left: usize, place: usize) -> Instruction
 
 fn fetch_save(file: &[u8], i: usize, left: usize, place: usize) -> Instruction
     requires { ⌜ (i + left ≤ length (now file)) × (place ≤ 262144) ⌝ }
-    ensures { λ r. ⌜ ((slot : ℕ → ℕ) → fetchedAs slot r ≡ contIn [] place (part (now (file .entry)) i left)) × Places true r ⌝ }
+    ensures { λ r. ⌜ ((slot : ℕ → ℕ) → fetchedAs slot r ≡ contIn [] place (part (now (file .entry)) i left)) × Places linearForm r ⌝ }
 {
     if left < 3 {
         return Instruction::Bad;
@@ -114,7 +114,7 @@ fn fetch_save(file: &[u8], i: usize, left: usize, place: usize) -> Instruction
 
 fn fetch_jump(file: &[u8], i: usize, left: usize, place: usize) -> Instruction
     requires { ⌜ (i + left ≤ length (now file)) × (place ≤ 262144) ⌝ }
-    ensures { λ r. ⌜ ((slot : ℕ → ℕ) → fetchedAs slot r ≡ jumpIn [] place (part (now (file .entry)) i left)) × Places true r ⌝ }
+    ensures { λ r. ⌜ ((slot : ℕ → ℕ) → fetchedAs slot r ≡ jumpIn [] place (part (now (file .entry)) i left)) × Places linearForm r ⌝ }
 {
     if left < 2 {
         Instruction::Bad
@@ -125,7 +125,7 @@ fn fetch_jump(file: &[u8], i: usize, left: usize, place: usize) -> Instruction
 
 fn fetch_neutral(file: &[u8], i: usize, left: usize, place: usize, op: u8) -> Instruction
     requires { ⌜ (i + left ≤ length (now file)) × (place ≤ 262144) ⌝ }
-    ensures { λ r. ⌜ ((slot : ℕ → ℕ) → fetchedAs slot r ≡ neutralBytes slot place op (part (now (file .entry)) i left)) × Places true r ⌝ }
+    ensures { λ r. ⌜ ((slot : ℕ → ℕ) → fetchedAs slot r ≡ neutralBytes slot place op (part (now (file .entry)) i left)) × Places linearForm r ⌝ }
 {
     let count = operand_count(op);
     if left < count {
@@ -139,7 +139,7 @@ fn fetch_neutral(file: &[u8], i: usize, left: usize, place: usize, op: u8) -> In
 // What stands at a place of the `len` bytes of code at `start`.
 fn fetch_code(file: &[u8], start: usize, len: usize, at: BytePlace) -> Instruction
     requires { ⌜ Within (now file) start len × (length (now file) ≤ 262144) ⌝ }
-    ensures { λ r. ⌜ ((table : List ℕ) (t : ℕ) → fetchedAs (slotAt table t) r ≡ fetchBytes (now (file .entry)) table t start len (at .0)) × Places true r ⌝ }
+    ensures { λ r. ⌜ ((table : List ℕ) (t : ℕ) → fetchedAs (slotAt table t) r ≡ fetchBytes (now (file .entry)) table t start len (at .0)) × Places linearForm r ⌝ }
 {
     let place = at.0;
     if len <= place {
@@ -167,7 +167,7 @@ fn fetch_code(file: &[u8], start: usize, len: usize, at: BytePlace) -> Instructi
 // What stands at a place of a template.
 pub fn fetch(file: &[u8], table: &[u64], template: u8, at: BytePlace) -> Instruction
     requires { ⌜ AllWithin (now file) (now table) ⌝ }
-    ensures { λ r. ⌜ (fetchedAs (slotAt (now (table .entry)) template) r ≡ fetchBytes (now (file .entry)) (now (table .entry)) template (codeStart (now (table .entry)) template) (codeLength (now (table .entry)) template) (at .0)) × Places true r ⌝ }
+    ensures { λ r. ⌜ (fetchedAs (slotAt (now (table .entry)) template) r ≡ fetchBytes (now (file .entry)) (now (table .entry)) template (codeStart (now (table .entry)) template) (codeLength (now (table .entry)) template) (at .0)) × Places linearForm r ⌝ }
 {
     let slot = machines::slot_at(table, template, 0);
     let start = (slot % 0x1_0000_0000) as usize;

@@ -6,6 +6,7 @@ use mathlib.Core.Option.{Option, none, some}
 use native.Mathlib.Omega.{arith}
 use lib.Dec.{leb, eqb}
 use borrow.Author.Tests.{ne-eqb, eqb-true, lt-leb}
+use Rattle.cells.specs.Laws.{clash}
 use Rattle.cells.specs.Cells.{tagOf}
 use Rattle.rules.specs.declared.Plain.{Plain}
 use Rattle.rules.specs.declared.Plain.the-variants.{Closure}
@@ -97,12 +98,12 @@ module _ (x : ℕ) where
       where
         by : (b : Bool) → m ≡ cond b (Number (x % 256)) Other → Fit (f n) ≡ resolvedAs (cond b (some (f (x % 256))) none)
         by true i = let j : n ≡ x % 256 = cc in rw j
-        by false i = let z : _≡_ {A = ℕ} 0 1 = cc in absurd (omega arith)
+        by false i = clash (cc)
 
     pub marked-other : m ≡ Other → Unfit ≡ resolvedAs o
     unfolding markedAs resolvedAs
     marked-other k = rw u (by (eqb (tagOf x) tag) e)
       where
         by : (b : Bool) → m ≡ cond b (Number (x % 256)) Other → Unfit ≡ resolvedAs (cond b (some (f (x % 256))) none)
-        by true i = let z : _≡_ {A = ℕ} 0 1 = cc in absurd (omega arith)
+        by true i = clash (cc)
         by false i = refl

@@ -3,8 +3,7 @@
 use Prim.Native.Nat.{ℕ}
 use mathlib.Core.Path.{_≡_, refl}
 use mathlib.Core.List.{List, [], _∷_, map}
-use lib.ListN.{replicate}
-use Rattle.cells.specs.Cells.{undefinedCell, startingGlobal, valueOf}
+use Rattle.cells.specs.Cells.{startingGlobal, valueOf}
 use Rattle.cells.specs.declared.Value.the-variants.{Unspecified, Integer}
 use Rattle.fields.specs.Field.{bitAt, fieldAt, fieldRead, pickField}
 use Rattle.files.specs.Codes.{shapeOf, isNeutral, operandBytes}
@@ -23,13 +22,9 @@ use Rattle.rules.specs.Rules.{literalRule, pushRule, addRule, plainRule, makeCo
 use Rattle.machines.specs.Fetched.{namedBy, asLiteral, ruleOf, resolve, plainly, openCount, first, beyond, look, callIn, branchIn, contIn, jumpIn, neutralIn, decode, treeAt}
 use Rattle.machines.specs.Fetched.{linearAt as linearCodeAt}
 use Rattle.machines.specs.Machine.{bind, applied, called, returned, act, step, jumpCount, firstCount, counted, next, run}
-use Rattle.machines.specs.Runs.{Memory, memory, Ran, ran, refusedRun, rightLengths, lowestUnfit, fitGlobals, started, startState, endOf, memoryOf, reported, programRun, onTree, onLinear, treeRun, linearRun}
+use Rattle.machines.specs.Runs.{freshMemory, Ran, ran, refusedRun, rightLengths, lowestUnfit, fitGlobals, started, startState, endOf, memoryOf, reported, programRun, onTree, onLinear, treeRun, linearRun}
 use Rattle.machines.specs.declared.End.{End}
 use Rattle.machines.specs.declared.End.the-variants.{Halted, Refused}
-
--- fresh memory, all globals undefined
-abbrev pub fresh : Memory
-fresh = memory (replicate 256 undefinedCell) (replicate 256 0) (replicate 2048 0) (replicate 2048 0)
 
 -- what a row tells, with budgets of 100 and 200 steps (a larger one changes no end: longer of agree): the linear file or the refusal's number and place; each machine's end with its answer, and its steps
 pub data Told : Type 0 where
@@ -43,8 +38,8 @@ abbrev pub onOne : ℕ → ℕ → Ran → Told
 onOne n p (ran x m) = refuses n p (x .end)
 
 abbrev pub toldOf : List ℕ → Got (List Template) → Told
-toldOf s (got ts q) = onTwo (linearFile ts) (treeRun s 100 fresh) (linearRun (linearFile ts) 200 fresh)
-toldOf s (refused n p) = onOne n p (treeRun s 100 fresh)
+toldOf s (got ts q) = onTwo (linearFile ts) (treeRun s 100 freshMemory) (linearRun (linearFile ts) 200 freshMemory)
+toldOf s (refused n p) = onOne n p (treeRun s 100 freshMemory)
 
 abbrev pub told : List ℕ → Told
 told s = toldOf s (flatChecked s)

@@ -7,6 +7,7 @@ use mathlib.Core.List.{List}
 use lib.Dec.{leb, eqb}
 use lib.ListN.{length, replicate, length-replicate}
 use borrow.Author.Tests.{leb-true, eqb-true}
+use Rattle.cells.specs.Numbers.{wrongLength, largeBudget, unfitGlobal}
 use Rattle.machines.specs.Runs.{Memory, Ran, ran, refusedRun, rightLengths, lowestUnfit, fitGlobals, started}
 use Rattle.machines.specs.declared.Run.{Run}
 use Rattle.machines.specs.declared.End.the-variants.{Refused as EndRefused}
@@ -27,7 +28,7 @@ refusal n p = record { end = EndRefused n p; steps = 0; stack = 0; store = 0; fr
 
 -- 22 with the lowest global that is not one to start with, if there is one
 unfoldable pub globalsRefusal : Option ℕ → Start
-globalsRefusal (some g) = Refused 22 g
+globalsRefusal (some g) = Refused unfitGlobal g
 globalsRefusal none = Go
 
 -- 20, 21, 22
@@ -35,8 +36,8 @@ unfoldable pub startRefusal : ℕ → ℕ → Memory → Start
 unfolding rightLengths lowestUnfit globalsRefusal
 startRefusal most b m =
     cond (rightLengths m)
-    (cond (leb b most) (globalsRefusal (lowestUnfit 0 (m .globals))) (Refused 21 0))
-    (Refused 20 0)
+    (cond (leb b most) (globalsRefusal (lowestUnfit 0 (m .globals))) (Refused largeBudget 0))
+    (Refused wrongLength 0)
 
 -- how a run ends that x was said of at its start
 unfoldable pub startedAs : Start → Memory → Ran → Ran

@@ -5,6 +5,7 @@ use mathlib.Core.Path.{_≡_, refl, sym, ap, _∙_}
 use mathlib.Core.List.{List, _∷_}
 use lib.ListN.{length, set, take, replicate}
 use lib.Seq.{sets}
+use Rattle.cells.specs.Laws.{clash}
 use Rattle.cells.specs.declared.BitPlace.{BitPlace}
 use Rattle.files.specs.Code.{Code}
 use Rattle.files.specs.Reading.{Got, got, refused, listAt}
@@ -76,11 +77,11 @@ pub record ReadTemplate (g : Got Template) (q : BitPlace) (o : Report) : Type 0 
 pub template-told : (g : Got Template) {q : BitPlace} {o : Report} → templateTold g ≡ Done q o → ReadTemplate g q o
 unfolding templateTold
 template-told (got t z) {q} {o} h = let k : _≡_ {A = BitPlace} (record { 0 = z }) q = cc in record { template = t; is = ap (λ (b : BitPlace). got t (b .0)) k; report = cc }
-template-told (refused n z) h = let z : _≡_ {A = ℕ} 0 1 = cc in absurd (omega arith)
+template-told (refused n z) h = clash (cc)
 
 template-refused : (g : Got Template) {n : ℕ} {p : BitPlace} → templateTold g ≡ Refused n p → g ≡ refused n (p .0)
 unfolding templateTold
-template-refused (got t z) h = let z : _≡_ {A = ℕ} 0 1 = cc in absurd (omega arith)
+template-refused (got t z) h = clash (cc)
 template-refused (refused m z) {n} {p} h = let k : _≡_ {A = BitPlace} (record { 0 = z }) p = cc in let i : m ≡ n = cc in rw (i, ← k)
 
 -- a template takes few bytes

@@ -13,6 +13,7 @@ use Rattle.files.specs.Table.{treeTable}
 use Rattle.files.specs.AllGot.{refused-got, got-value, then-led, tree-read}
 use Rattle.files.specs.TableLaws.{Few, treeEntries, row-start, tree-slot, tree-beyond}
 use Rattle.files.specs.Tree.{Template, treeRead}
+use Rattle.files.specs.AcceptedLaws.{none-refused}
 use Rattle.files.specs.Accepted.{orLowest, treeChecked}
 use Rattle.links.specs.Links.{linkedAll}
 use Rattle.links.specs.Templates.{TemplateLaid, short, template-there, template-stands, template-links}
@@ -37,16 +38,6 @@ accepted-parts s {ts} {q} e =
     by us r none none e h on = let k = got-value on in record { read = e ∙ on; closed = rw (k .0) at h }
     by us r none (some t) e h on = refused-got on
     by us r (some t) i e h on = refused-got on
-
-none-refused : (ok : Template → Bool) (n : ℕ) (ts : List Template) (i : ℕ) (d : Template) → lowest ok n ts ≡ none → i < length ts → ok (getD ts i d) ≡ true
-unfolding lowest
-none-refused ok n [] i d e l = absurd (omega arith)
-none-refused ok n (t ∷ ts) i d e l = by (ok t) refl i l (λ h j m. none-refused ok (n + 1) ts j d h m)
-  where
-    by : (b : Bool) → ok t ≡ b → (i : ℕ) → i < length (t ∷ ts) → (lowest ok (n + 1) ts ≡ none → (j : ℕ) → j < length ts → ok (getD ts j d) ≡ true) → ok (getD (t ∷ ts) i d) ≡ true
-    by true h zero l f = h
-    by true h (suc i) l f = f (rw h at e) i (omega arith)
-    by false h i l f = let j : some n ≡ none = rw h at e in let z : _≡_ {A = ℕ} 0 1 = cc in absurd (omega arith)
 
 -- ---- the places at which execution can be in template t of ts; a template that is not there has place 0
 pub data Standing (ts : List Template) (t p : ℕ) : Type 0 where
