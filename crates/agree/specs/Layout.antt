@@ -83,7 +83,7 @@ module _ (es : List Entry) where
 
         -- after a closed list comes nothing, after an open one what F says
         pub data Close : Bool → Fetched → ℕ → ℕ → Type 0 where
-          ends : {F : Fetched} {e : ℕ} → Close true F e 0
+          nothing-after : {F : Fetched} {e : ℕ} → Close true F e 0
           flows : {F : Fetched} {e j : ℕ} → Spot F e j → Close false F e j
 
       -- a list that stands at s in the tree and at q in the linear code

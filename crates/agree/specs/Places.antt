@@ -24,7 +24,7 @@ use Rattle.machines.specs.Fetched.{neutralIn, callIn, branchIn, contIn, jumpIn,
 use Rattle.machines.specs.Machine.{treeProgram, linearProgram}
 use Rattle.agree.specs.Lockstep.{Match, plainM, returnM, callM, branchM, saveM, badM, Meets, nowM, jumpM, Agree}
 use Rattle.agree.specs.Suits.{is-true, Only, Shut, Open, either, Ok}
-use Rattle.agree.specs.Layout.{At, at-skip, at-take, at-within, Sub, sub-neutral, sub-first, sub-second, sub-rest, sub-saved, sub-next, Spot, here, leap, Close, ends, flows, stands}
+use Rattle.agree.specs.Layout.{At, at-skip, at-take, at-within, Sub, sub-neutral, sub-first, sub-second, sub-rest, sub-saved, sub-next, Spot, here, leap, Close, nothing-after, flows, stands}
 use Rattle.agree.specs.Kept.{same-but-places}
 
 -- a template of a tree file, and the same of its linear file
@@ -123,7 +123,7 @@ module _ (ts : List Template) (ls : List Linear) (twins : (t : ℕ) → Twins (g
     -- in a closed list no jump is pending
     shut-zero : {k : Bool} {F : Fetched} {e j : ℕ} → Close es tree W lin k F e j → Shut k → j ≡ 0
     unfolding Shut
-    shut-zero ends o = refl
+    shut-zero nothing-after o = refl
     shut-zero (flows z) o = absurd o
 
     module _ {k : Bool} (s : ℕ) {F : Fetched} {q e j : ℕ} (z : Close es tree W lin k F e j) where
@@ -155,7 +155,7 @@ module _ (ts : List Template) (ls : List Linear) (twins : (t : ℕ) → Twins (g
             q-fits = omega arith;
             places = both (o .1) (sub-saved es tree u) (at-skip W y (flat x) b (omega arith)) (omega (arith, length-append y (flat x))) z;
           })
-          (both (o .2) (sub-next es tree u) (at-take W y (flat x) b) refl ends))
+          (both (o .2) (sub-next es tree u) (at-take W y (flat x) b) refl nothing-after))
 
       -- a conditional; c: whether its arms are closed
       at-unless : (c : Bool) {x y r : Code} → Ok c x → Ok c y → either c (Shut k × Only r) (Ok k r)
@@ -173,8 +173,8 @@ module _ (ts : List Template) (ls : List Linear) (twins : (t : ℕ) → Twins (g
           rw (shut-zero z (o .0))
           (nowM (lin-branch a)
           (branchM {o = 0} {q₁ = q + 3} {q₂ = q + 3 + (256 * (length X / 256) + length X % 256)} {j = 0} {j₁ = 0} (omega arith) (omega arith)
-          (both ox ux (at-take W X (Y ++ flat r) b) refl ends)
-          (both oy uy (at-take W Y (flat r) b₁) refl ends)))
+          (both ox ux (at-take W X (Y ++ flat r) b) refl nothing-after)
+          (both oy uy (at-take W Y (flat r) b₁) refl nothing-after)))
       at-unless false {x} {y} {r} ox oy o ux uy u a h =
           let X : List ℕ = flat x in
           let Y : List ℕ = flat y in
@@ -211,7 +211,7 @@ module _ (ts : List Template) (ls : List Linear) (twins : (t : ℕ) → Twins (g
       meets (leap e z) = jumpM e (meets z)
 
       closes : {k : Bool} {F : Fetched} {e j : ℕ} → Close es tree W lin k F e j → Follow k F e j
-      closes ends = tt
+      closes nothing-after = tt
       closes (flows z) = meets z
 
     -- a template's code begins at its first bit, and at byte 0
@@ -219,7 +219,7 @@ module _ (ts : List Template) (ls : List Linear) (twins : (t : ℕ) → Twins (g
     unfolding treeAt
     at-start =
         both (twins t .closed) (record { within = λ p h l. refl; bound = twins t .tree-fits })
-        (record { rest = []; is = sym (append-nil W) }) refl ends
+        (record { rest = []; is = sym (append-nil W) }) refl nothing-after
 
   pairs : {t p t′ q j : ℕ} → Pair t p t′ q j → Meets Pair (same-but-places Pair) 1 ⊥ (linearAt ls) t t′ (treeAt ts t p) q j
   pairs (pair {t = t} h z) = meets t h z

@@ -148,23 +148,23 @@ unfolding entriesAt slotsAt entriesTold
 none-left s own T l i p h = let k : l - i ≡ 0 = omega arith in rw k (refl, refl)
 
 module _ (s : List ℕ) (own T l i p : ℕ) {r : EntryRead} (less : i < l) (asked : r ≡ entryTold (entryAt s own T p)) where
-  left : l - i ≡ suc (l - (i + 1))
-  left = omega arith
+  one-left : l - i ≡ suc (l - (i + 1))
+  one-left = omega arith
 
   module _ {x : ℕ} {q : BitPlace} (is : r ≡ Slot x q) where
     pub entries-on : entriesTold (entriesAt s own T (l - i) p) ≡ entriesTold (entriesAt s own T (l - (i + 1)) (q .0))
     unfolding entriesAt then
-    entries-on = let e = entry-told (entryAt s own T p) (sym asked ∙ is) in rw (left, e .is) (told-more (e .entry) (entriesAt s own T (l - (i + 1)) (q .0)))
+    entries-on = let e = entry-told (entryAt s own T p) (sym asked ∙ is) in rw (one-left, e .is) (told-more (e .entry) (entriesAt s own T (l - (i + 1)) (q .0)))
 
     pub slots-on : (table : List ℕ) → sets table i (slotsAt s own T (l - i) p) ≡ sets (set table i x) (i + 1) (slotsAt s own T (l - (i + 1)) (q .0))
     unfolding slotsAt slotThen
-    slots-on table = let e = entry-told (entryAt s own T p) (sym asked ∙ is) in rw (left, e .is, ← e .slot, add-one)
+    slots-on table = let e = entry-told (entryAt s own T p) (sym asked ∙ is) in rw (one-left, e .is, ← e .slot, add-one)
 
   module _ {n : ℕ} {q : BitPlace} (is : r ≡ RefusedEntry n q) where
     pub entries-stop : RefusedEntries n q ≡ entriesTold (entriesAt s own T (l - i) p)
     unfolding entriesAt then entriesTold
-    entries-stop = rw (left, entry-refused (entryAt s own T p) (sym asked ∙ is))
+    entries-stop = rw (one-left, entry-refused (entryAt s own T p) (sym asked ∙ is))
 
     pub slots-stop : slotsAt s own T (l - i) p ≡ []
     unfolding slotsAt slotThen
-    slots-stop = rw (left, entry-refused (entryAt s own T p) (sym asked ∙ is))
+    slots-stop = rw (one-left, entry-refused (entryAt s own T p) (sym asked ∙ is))

@@ -27,16 +27,16 @@ unfolding zeroBits paddingTold
 no-bits s l i h = let k : l - i ≡ 0 = omega arith in rw k
 
 module _ (s : List ℕ) (l i b : ℕ) (less : i < l) (asked : b ≡ fieldAt s i 1) where
-  left : l - i ≡ suc (l - (i + 1))
-  left = omega arith
+  one-left : l - i ≡ suc (l - (i + 1))
+  one-left = omega arith
 
   pub bits-on : b ≡ 0 → paddingTold (zeroBits s (l - i) i (tt {0})) ≡ paddingTold (zeroBits s (l - (i + 1)) (i + 1) (tt {0}))
   unfolding zeroBits
-  bits-on e = rw (left, sym (bit-field s i) ∙ sym asked ∙ e)
+  bits-on e = rw (one-left, sym (bit-field s i) ∙ sym asked ∙ e)
 
   pub bits-stop : (b ≡ 0 → ⊥) → Refused (record { 0 = i }) ≡ paddingTold (zeroBits s (l - i) i (tt {0}))
   unfolding zeroBits paddingTold
-  bits-stop e = rw (left, ne-eqb (bitAt s i) 0 (λ k. e (asked ∙ bit-field s i ∙ k)))
+  bits-stop e = rw (one-left, ne-eqb (bitAt s i) 0 (λ k. e (asked ∙ bit-field s i ∙ k)))
 
 -- ---- what was told was read
 module _ {A : Type 0} (a : A) where

@@ -77,7 +77,23 @@ module _ (named : ℕ → Named) (op : ℕ) (w : List ℕ) where
 no-rule : (named : ℕ → Named) (op a b : ℕ) → isNeutral op ≡ false → ruleOf named op a b ≡ none
 unfolding ruleOf isNeutral shapeOf
 no-rule named op a b h =
-    rw (other 6 refl, other 7 refl, other 8 refl, other 9 refl, other 10 refl, other 11 refl, other 12 refl, other 13 refl, other 15 refl, other 16 refl, other 18 refl, other 19 refl, other 20 refl, other 21 refl, other 22 refl)
+    rw (
+      other 6 refl,
+      other 7 refl,
+      other 8 refl,
+      other 9 refl,
+      other 10 refl,
+      other 11 refl,
+      other 12 refl,
+      other 13 refl,
+      other 15 refl,
+      other 16 refl,
+      other 18 refl,
+      other 19 refl,
+      other 20 refl,
+      other 21 refl,
+      other 22 refl,
+    )
   where
     other : (k : ℕ) → isNeutral k ≡ true → eqb op k ≡ false
     other k i = ne-eqb op k (λ e. let z : true ≡ false = sym i ∙ ap isNeutral (sym e) ∙ h in clash (cc))
@@ -97,11 +113,16 @@ module _ (slot : ℕ → ℕ) (es : List Entry) (row : RowStands slot es) (q : �
   code-bytes op w h = by (isNeutral op) refl
     where
       by : (b : Bool) → isNeutral op ≡ b → codeBytes slot q op w
-          ≡ cond b (neutralIn es q op w) (cond (eqb op 1) returns (cond (eqb op 2) (callIn es w) (cond (eqb op 3) (branchIn es q w) (cond (eqb op 4) (contIn es q w) (cond (eqb op 5) (jumpIn es q w) bad)))))
+          ≡ cond b (neutralIn es q op w)
+          (cond (eqb op 1) returns
+          (cond (eqb op 2) (callIn es w)
+          (cond (eqb op 3) (branchIn es q w)
+          (cond (eqb op 4) (contIn es q w)
+          (cond (eqb op 5) (jumpIn es q w) bad)))))
       by true e =
           let k = neutral-six op e in
-          rw (ne-eqb op 1 (λ z. omega arith), ne-eqb op 2 (λ z. omega arith), ne-eqb op 3 (λ z. omega arith), ne-eqb op 4 (λ z. omega arith), ne-eqb op 5 (λ z. omega arith))
-          (neutral-bytes op w h)
+          let past : (n : ℕ) → n < 6 → eqb op n ≡ false = λ n l. ne-eqb op n (λ z. omega arith) in
+          rw (past 1 (omega arith), past 2 (omega arith), past 3 (omega arith), past 4 (omega arith), past 5 (omega arith)) (neutral-bytes op w h)
       by false e = rw (no-bytes op w e) refl
 
   -- THE LAW

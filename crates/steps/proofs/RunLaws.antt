@@ -12,12 +12,12 @@ use Rattle.rules.specs.declared.Regs.{Regs}
 use Rattle.machines.specs.Machine.{Program, State, step}
 use Rattle.machines.specs.Runs.{Memory, Ran, ran, memoryOf, startState}
 use Rattle.machines.specs.Start.{zeros, zeros-length}
-use Rattle.machines.specs.Steps.{ranFrom, ends, turn-goes, turn-halts, turn-stops, budget-spent}
+use Rattle.machines.specs.Steps.{ranFrom, endsIn, turn-goes, turn-halts, turn-stops, budget-spent}
 use Rattle.machines.specs.Instruction.{number, Form, formOf, Of}
 use Rattle.machines.specs.declared.CodePlace.{CodePlace}
 use Rattle.machines.specs.declared.End.the-variants as end
 use Rattle.machines.specs.declared.Run.{Run}
-use Rattle.steps.specs.Step.{codeProgram, CodeReady, control, stateOf, endsWith, meant, Unchanged, GoesOn, Taken, Ready}
+use Rattle.steps.specs.Step.{codeProgram, CodeReady, control, stateOf, endsWith, meant, Unchanged, GoesOn, Taken, StepReady}
 use Rattle.steps.specs.declared.Control.{Control}
 use Rattle.steps.specs.declared.OneStep.{OneStep}
 use Rattle.steps.specs.declared.OneStep.the-variants.{Next, Halted, Wrong}
@@ -44,29 +44,29 @@ module _ {goal : Ran} (form : Form) (s L table : List ℕ) (left b : ℕ) (m m�
   unfolding GoesOn
   next-place q k e = let g = rw e at (t .goes-on) in g .2 ∙ o
 
-  pub next-ready : (q : Regs) (k : Control) → x ≡ Next q k → Ready s table m r c → length (m′ .globals) ≡ 256 → length (m′ .stack) ≡ 256
-      → length (m′ .store) ≡ 2048 → length (m′ .frames) ≡ 2048 → Ready s table m′ q k
+  pub next-ready : (q : Regs) (k : Control) → x ≡ Next q k → StepReady s table m r c → length (m′ .globals) ≡ 256 → length (m′ .stack) ≡ 256
+      → length (m′ .store) ≡ 2048 → length (m′ .frames) ≡ 2048 → StepReady s table m′ q k
   unfolding GoesOn
   next-ready q k e w lg ls lt lf =
       let g = rw e at (t .goes-on) in
       record { code-ready = rw (g .2) (w .code-ready); fit = g .0; frames-fit = g .1; globals-long = lg; stack-long = ls; store-long = lt; frames-long = lf }
 
   pub halted-turn : (v : Value) (y : Run) → x ≡ Halted → v ≡ valueOf (r .v) → y ≡ endsWith (end.Halted v) (b - (left - 1)) r c → ran y m′ ≡ goal
-  unfolding meant Unchanged ends memoryOf
+  unfolding meant Unchanged endsIn memoryOf
   halted-turn v y e k i =
       let u : m′ ≡ m = rw e at (t .unchanged) in
       let n : b - (left - 1) ≡ b - left + 1 = omega arith in
       rw (i, k, u, n) (turn-halts P left b (stateOf r c m) (meant x m′) some most step-is h (rw e))
 
   pub wrong-turn : (n : ℕ) (y : Run) → x ≡ Wrong n → y ≡ endsWith (end.Wrong n) (b - left) r c → ran y m′ ≡ goal
-  unfolding meant Unchanged ends memoryOf
+  unfolding meant Unchanged endsIn memoryOf
   wrong-turn n y e i =
       let u : m′ ≡ m = rw e at (t .unchanged) in
       rw (i, u) (turn-stops P left b (stateOf r c m) (meant x m′) some most step-is h n (rw e))
 
 pub spent-turn : {goal : Ran} (P : Program) (left b : ℕ) (m : Memory) (r : Regs) (c : Control) (y : Run) → left ≤ 0 → ranFrom P left (b - left) (stateOf r c m) ≡ goal
     → y ≡ endsWith end.OutOfBudget (b - left) r c → ran y m ≡ goal
-unfolding ends memoryOf
+unfolding endsIn memoryOf
 spent-turn P left b m r c y l h i = let n : b - left ≡ b = omega arith in rw (i, n) (budget-spent P left b (stateOf r c m) l h)
 
 -- ---- the start
@@ -74,7 +74,7 @@ abbrev firstRegs : Regs
 firstRegs = regs 0x4000000000000000 0 0 0
 
 module _ (m : Memory) (p : CodePlace) (ls : m .stack ≡ zeros 256) (lt : m .store ≡ zeros 2048) (lf : m .frames ≡ zeros 2048) where
-  pub first-ready : (s table : List ℕ) → CodeReady (formOf p) s table → length (m .globals) ≡ 256 → Ready s table m firstRegs (control 0 p 0)
+  pub first-ready : (s table : List ℕ) → CodeReady (formOf p) s table → length (m .globals) ≡ 256 → StepReady s table m firstRegs (control 0 p 0)
   first-ready s table w lg =
       record {
         code-ready = w;

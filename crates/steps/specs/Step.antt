@@ -72,7 +72,7 @@ pub record Taken (form : Form) (x : OneStep) (m m′ : Memory) (y : Step) : Type
   pub goes-on : GoesOn form x
 
 -- what a step asks
-pub record Ready (s table : List ℕ) (m : Memory) (r : Regs) (c : Control) : Type 0 where
+pub record StepReady (s table : List ℕ) (m : Memory) (r : Regs) (c : Control) : Type 0 where
   pub code-ready : CodeReady (formOf (c .place)) s table
   pub fit : Fit r
   pub frames-fit : c .fr ≤ 2048

@@ -25,7 +25,7 @@ ghost use Rattle.machines.specs.Runs.{Memory, memory, ran, startState};
 ghost use Rattle.machines.specs.Slots.{slotAt, slotResolve};
 ghost use Rattle.machines.specs.Steps.{ranFrom};
 ghost use Rattle.machines.specs.Instruction.{number, formOf, fetchedAs, Of, Places};
-ghost use Rattle.steps.specs.Step.{codeProgram, CodeReady, startAt, control, stateOf, endsWith, Taken, Ready};
+ghost use Rattle.steps.specs.Step.{codeProgram, CodeReady, startAt, control, stateOf, endsWith, Taken, StepReady};
 
 // Where a run is: the template, the place in its code; and how many frame cells are in use.
 pub struct Control {
@@ -242,7 +242,7 @@ fn take_step(
     r: Regs,
     c: Control,
 ) -> OneStep
-    requires { ⌜ Ready (now file) (now table) (memory (now globals) (now stack) (now store) (now frames)) r c ⌝ }
+    requires { ⌜ StepReady (now file) (now table) (memory (now globals) (now stack) (now store) (now frames)) r c ⌝ }
     ensures { λ x. ⌜ Taken (formOf (c .place)) x (memory (now (globals .entry)) (now (stack .entry)) (now (store .entry)) (now (frames .entry))) (memory (now (globals .exit)) (now (stack .exit)) (now (store .exit)) (now (frames .exit))) (step (codeProgram (formOf (c .place)) (now (file .entry)) (now (links .entry)) (now (table .entry))) (stateOf r c (memory (now (globals .entry)) (now (stack .entry)) (now (store .entry)) (now (frames .entry))))) ⌝ }
 {
     let place = c.place;
@@ -288,7 +288,7 @@ fn run_from(
     first: Regs,
     from: Control,
 ) -> Run
-    requires { ⌜ Ready (now file) (now table) (memory (now globals) (now stack) (now store) (now frames)) first from ⌝ }
+    requires { ⌜ StepReady (now file) (now table) (memory (now globals) (now stack) (now store) (now frames)) first from ⌝ }
     ensures { λ x. ⌜ ran x (memory (now (globals .exit)) (now (stack .exit)) (now (store .exit)) (now (frames .exit))) ≡ ranFrom (codeProgram (formOf (from .place)) (now (file .entry)) (now (links .entry)) (now (table .entry))) budget 0 (stateOf first from (memory (now (globals .entry)) (now (stack .entry)) (now (store .entry)) (now (frames .entry)))) ⌝ }
 {
     let mut r = first;

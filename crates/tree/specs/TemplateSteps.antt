@@ -114,12 +114,12 @@ module _ (s : List ℕ) (T own p : ℕ) (table : List ℕ) (m : Summary) where
   templates-none h = let k : T - own ≡ 0 = omega arith in rw k (refl, refl)
 
   module _ {r : TemplateRead} {t : List ℕ} (less : own < T) (done : TemplateDone s own T p table r t) where
-    left : T - own ≡ suc (T - (own + 1))
-    left = omega arith
+    one-left : T - own ≡ suc (T - (own + 1))
+    one-left = omega arith
 
     pub templates-stop : {n : ℕ} {x : BitPlace} → r ≡ Refused n x → TemplatesDone (RefusedTemplates n x) t
     unfolding templatesAt templatesFilled then filledThen toldFrom
-    templates-stop e = rw (left, template-refused (templateAt s own T p) (sym (done .0) ∙ e)) (refl, done .1)
+    templates-stop e = rw (one-left, template-refused (templateAt s own T p) (sym (done .0) ∙ e)) (refl, done .1)
 
     told-more : (a : Template) (g : Got (List Template)) → toldFrom own m (then g (λ ts q. got (a ∷ ts) q)) ≡ toldFrom (own + 1) (summaryAfter own (reportOf a) m) g
     unfolding then toldFrom summaryFrom
@@ -133,7 +133,7 @@ module _ (s : List ℕ) (T own p : ℕ) (table : List ℕ) (m : Summary) where
     templates-on {q} {o} few is e =
         let a : ReadTemplate (templateAt s own T p) q o = this s own T p table few done is in
         let k : _ ≡ summaryAfter own (reportOf (a .template)) m = e ∙ ap (λ (x : Report). summaryAfter own x m) (sym (a .report)) in
-        rw (left, a .is, k) (told-more (a .template) (templatesAt s T (own + 1) (T - (own + 1)) (q .0)), ap (templatesFilled s T (own + 1) (T - (own + 1)) (q .0)) (sym (done .1)))
+        rw (one-left, a .is, k) (told-more (a .template) (templatesAt s T (own + 1) (T - (own + 1)) (q .0)), ap (templatesFilled s T (own + 1) (T - (own + 1)) (q .0)) (sym (done .1)))
 
 -- ---- all templates
 pub told-all : (s : List ℕ) (T p : ℕ) → T ≤ 64 → templatesTold (templatesAt s T 0 T p) ≡ toldFrom 0 (begun T) (templatesAt s T 0 T p)

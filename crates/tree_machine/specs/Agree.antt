@@ -15,7 +15,7 @@ use Rattle.machines.specs.Fetched.{Fetched, plain, returns, calls, branches, sa
 use Rattle.machines.specs.Machine.{Program, treeProgram, State, at, Step, go, halt, stop, bind, applied, called, returned, act, here, step, counted, next, run}
 use Rattle.machines.specs.Runs.{Ran, endOf, reported, startState, programRun}
 use Rattle.machines.specs.declared.End.the-variants.{Halted, Wrong}
-use Rattle.machines.specs.Steps.{counts-forgotten, done, ranFrom, ends, whole-budget}
+use Rattle.machines.specs.Steps.{counts-forgotten, done, ranFrom, endsIn, whole-budget}
 use Rattle.machines.specs.Slots.{slotAt}
 use Rattle.rules.specs.State.{Res, ok, wrong}
 use Rattle.rules.specs.Rules.{Data, Back, noFrame, backTo, plainRule, callRule, makeContRule, returnRule, isFalse}
@@ -43,8 +43,8 @@ bind-same (wrong n) f g e = refl
 -- ---- what follows a step
 unfoldable after-step : (State → Ran) → ℕ → State → Step → Ran
 after-step more n x (go x′) = more x′
-after-step more n x halt = ends (Halted (valueOf (x .now .regs .v))) (suc n) x
-after-step more n x (stop m) = ends (Wrong m) n x
+after-step more n x halt = endsIn (Halted (valueOf (x .now .regs .v))) (suc n) x
+after-step more n x (stop m) = endsIn (Wrong m) n x
 
 same-after : (f g : State → Ran) (n : ℕ) (x : State) (y : Step) → ((x′ : State) → y ≡ go x′ → f x′ ≡ g x′) → after-step f n x y ≡ after-step g n x y
 unfolding after-step
@@ -53,7 +53,7 @@ same-after f g n x halt e = refl
 same-after f g n x (stop m) e = refl
 
 ran-step : (R : Program) (b n : ℕ) (x : State) → ranFrom R (suc b) n x ≡ after-step (ranFrom R b (suc n)) n x (step R x)
-unfolding ranFrom run after-step reported endOf ends counted
+unfolding ranFrom run after-step reported endOf endsIn counted
 ran-step R b n x = by (step R x)
   where
     by : (y : Step) → reported (next (λ k′ x′. run R b k′ x′) (done n) (counted (here R x) x (done n)) x y) ≡ after-step (ranFrom R b (suc n)) n x y
