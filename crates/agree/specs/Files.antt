@@ -10,7 +10,7 @@ use Rattle.files.specs.Reading.{got}
 use Rattle.files.specs.Code.{bits}
 use Rattle.files.specs.Tree.{Template}
 use Rattle.files.specs.Linear.{templateBytes}
-use Rattle.files.specs.Grammar.{lowest, closedTemplate, indexedTemplate, indicesFit}
+use Rattle.files.specs.Grammar.{lowest, closedTemplate, indexedTemplate, eachNeutral, indicesFit}
 use Rattle.files.specs.Flat.{flat}
 use Rattle.files.specs.AllGot.{Each}
 use Rattle.files.specs.Accepted.{treeChecked}
@@ -23,7 +23,7 @@ use Rattle.agree.specs.Suits.{Only, Shut, Ok, closed-ok}
 use Rattle.agree.specs.Places.{Twins}
 
 no-twin : Twins noTemplate noLinear
-unfolding Ok Shut Only flat bits indicesFit
+unfolding Ok Shut Only flat bits indicesFit eachNeutral
 no-twin = record { same-entries = refl; same-code = refl; closed = (tt, tt); indexed = refl; tree-fits = omega arith; linear-fits = omega arith }
 
 -- n: the first template's number; k: the byte where it begins in the linear file; m: where the checks count from; count: all templates

@@ -4,13 +4,13 @@ use native.Mathlib.Omega.{arith}
 use mathlib.Core.Path.{_≡_, refl, ap, _∙_}
 use mathlib.Core.Bool.{Bool, true, false, _&&_, and-eq-true-iff}
 use mathlib.Core.List.{List, _∷_, _++_, append-assoc}
-use lib.ListN.{length, drop, length-append, length-drop}
+use lib.ListN.{length, getD, drop, length-append, length-drop}
 use lib.Seq.{drop-drop, drop-append-seam}
 use Rattle.files.specs.Code.{Code, neutral, unless-false, make-cont, bits}
 use Rattle.files.specs.Entries.{Entry}
 use Rattle.files.specs.ReadingLaws.{least-bits}
 use Rattle.files.specs.Flat.{flat}
-use Rattle.files.specs.Grammar.{indexFits, indicesFit}
+use Rattle.files.specs.Grammar.{indexFits, eachNeutral, indicesFit}
 use Rattle.machines.specs.Fetched.{Fetched, jumps, bad, first, look}
 use Rattle.machines.specs.FetchedLaws.{look-first, look-neutral, look-first-arm, look-second-arm, look-after-arms, look-saved, look-after-saved}
 use Rattle.agree.specs.Suits.{Ok}
@@ -44,33 +44,33 @@ module _ (es : List Entry) where
     sub-head {s} {c} {F} u = u .within s (omega arith) (omega (arith, least-bits c)) ∙ look-first es s s c F refl
 
     pub sub-neutral : {s op : ℕ} {ns : List ℕ} {r : Code} {F : Fetched} → Sub s (neutral op ns r) F → Sub (s + (5 + 8 * length ns)) r F
-    unfolding bits indicesFit
+    unfolding bits indicesFit eachNeutral
     sub-neutral {s} {op} {ns} {r} {F} u =
-        record { within = λ p h l. u .within p (omega arith) (omega arith) ∙ look-neutral es s p op ns r F (omega arith); bound = omega (arith, u .bound); indexed = and-eq-true-iff (indexFits es op ns) (indicesFit es r) .0 (u .indexed) .1 }
+        record { within = λ p h l. u .within p (omega arith) (omega arith) ∙ look-neutral es s p op ns r F (omega arith); bound = omega (arith, u .bound); indexed = and-eq-true-iff (indexFits es op (getD ns 0 0)) (indicesFit es r) .0 (u .indexed) .1 }
 
     module _ {s : ℕ} {x y r : Code} {F : Fetched} (u : Sub s (unless-false x y r) F) where
       pub sub-first : Sub (s + 5) x (first es (s + 5 + bits x + bits y) r F)
-      unfolding bits indicesFit
+      unfolding bits indicesFit eachNeutral
       sub-first =
           record { within = λ p h l. u .within p (omega arith) (omega arith) ∙ look-first-arm es s p x y r F h l; bound = omega (arith, u .bound); indexed = and-eq-true-iff (indicesFit es x) (indicesFit es y) .0 (and-eq-true-iff (indicesFit es x && indicesFit es y) (indicesFit es r) .0 (u .indexed) .0) .0 }
 
       pub sub-second : Sub (s + 5 + bits x) y (first es (s + 5 + bits x + bits y) r F)
-      unfolding bits indicesFit
+      unfolding bits indicesFit eachNeutral
       sub-second =
           record { within = λ p h l. u .within p (omega arith) (omega arith) ∙ look-second-arm es s p x y r F (omega arith) h l; bound = omega (arith, u .bound); indexed = and-eq-true-iff (indicesFit es x) (indicesFit es y) .0 (and-eq-true-iff (indicesFit es x && indicesFit es y) (indicesFit es r) .0 (u .indexed) .0) .1 }
 
       pub sub-rest : Sub (s + 5 + bits x + bits y) r F
-      unfolding bits indicesFit
+      unfolding bits indicesFit eachNeutral
       sub-rest =
           record { within = λ p h l. u .within p (omega arith) (omega arith) ∙ look-after-arms es s p x y r F (omega arith) h; bound = omega (arith, u .bound); indexed = and-eq-true-iff (indicesFit es x && indicesFit es y) (indicesFit es r) .0 (u .indexed) .1 }
 
     module _ {s n : ℕ} {x r : Code} {F : Fetched} (u : Sub s (make-cont n x r) F) where
       pub sub-saved : Sub (s + 13) x F
-      unfolding bits indicesFit
+      unfolding bits indicesFit eachNeutral
       sub-saved = record { within = λ p h l. u .within p (omega arith) (omega arith) ∙ look-saved es s p n x r F h l; bound = omega (arith, u .bound); indexed = and-eq-true-iff (indicesFit es x) (indicesFit es r) .0 (u .indexed) .0 }
 
       pub sub-next : Sub (s + 13 + bits x) r bad
-      unfolding bits indicesFit
+      unfolding bits indicesFit eachNeutral
       sub-next =
           record { within = λ p h l. u .within p (omega arith) (omega arith) ∙ look-after-saved es s p n x r F (omega arith) h; bound = omega (arith, u .bound); indexed = and-eq-true-iff (indicesFit es x) (indicesFit es r) .0 (u .indexed) .1 }
 
@@ -85,7 +85,7 @@ module _ (es : List Entry) where
 
         -- after a closed list comes nothing, after an open one what F says
         pub data Close : Bool → Fetched → ℕ → ℕ → Type 0 where
-          ends : {F : Fetched} {e : ℕ} → Close true F e 0
+          nothing-after : {F : Fetched} {e : ℕ} → Close true F e 0
           flows : {F : Fetched} {e j : ℕ} → Spot F e j → Close false F e j
 
       -- a list that stands at s in the tree and at q in the linear code

@@ -10,10 +10,11 @@ use lib.ListN.{length, getD, drop, length-append}
 use lib.Dec.{leb, le→leb}
 use lib.Seq.{take-append-seam}
 use Rattle.files.specs.Codes.{shapeOf, isNeutral, operands}
+use Rattle.files.specs.CodesLaws.{neutral-alike}
 use Rattle.files.specs.Code.{Code, done, neutral, return, call, unless-false, make-cont, bits}
 use Rattle.files.specs.Entries.{Entry}
 use Rattle.files.specs.ReadingLaws.{least-bits}
-use Rattle.files.specs.Grammar.{isClosed, indexFits, indicesFit}
+use Rattle.files.specs.Grammar.{isClosed, indexFits, eachNeutral, indicesFit}
 use Rattle.files.specs.Flat.{flat, conditional}
 use Rattle.files.specs.Tree.{Template}
 use Rattle.files.specs.Linear.{Linear}
@@ -24,7 +25,7 @@ use Rattle.machines.specs.Machine.{treeProgram, linearProgram}
 use Rattle.machines.specs.Resolved.{Resolves, resolves, fits-resolves}
 use Rattle.lockstep.specs.Lockstep.{Match, plainM, returnM, callM, branchM, saveM, Meets, nowM, jumpM, Agree}
 use Rattle.agree.specs.Suits.{is-true, Only, Shut, Open, either, Ok}
-use Rattle.agree.specs.Layout.{At, at-skip, at-take, at-within, Sub, sub-neutral, sub-first, sub-second, sub-rest, sub-saved, sub-next, Spot, here, leap, Close, ends, flows, stands}
+use Rattle.agree.specs.Layout.{At, at-skip, at-take, at-within, Sub, sub-neutral, sub-first, sub-second, sub-rest, sub-saved, sub-next, Spot, here, leap, Close, nothing-after, flows, stands}
 use Rattle.lockstep.specs.Same.{same-but-places}
 
 -- a template of a tree file, and the same of its linear file
@@ -84,7 +85,7 @@ module _ (ts : List Template) (ls : List Linear) (twins : (t : ℕ) → Twins (g
     lin-neutral {op} {q} ns ys n o a =
         let z : List ℕ = ys ++ a .rest in
         let l : length ns ≤ length (ns ++ z) = simp length-append (omega arith) in
-        lin-is q ∙ rw (a .is, n, o, append-assoc ns ys (a .rest), is-true (leb (length ns) (length (ns ++ z))) (le→leb _ _ l), take-append-seam ns z)
+        lin-is q ∙ rw (a .is, n, neutral-alike op n ∙ o, append-assoc ns ys (a .rest), is-true (leb (length ns) (length (ns ++ z))) (le→leb _ _ l), take-append-seam ns z)
 
     lin-return : {q : ℕ} {ys : List ℕ} → At W q (1 ∷ ys) → lin q ≡ returns
     unfolding decode isNeutral shapeOf
@@ -123,16 +124,16 @@ module _ (ts : List Template) (ls : List Linear) (twins : (t : ℕ) → Twins (g
     -- in a closed list no jump is pending
     shut-zero : {k : Bool} {F : Fetched} {e j : ℕ} → Close es tree W lin k F e j → Shut k → j ≡ 0
     unfolding Shut
-    shut-zero ends o = refl
+    shut-zero nothing-after o = refl
     shut-zero (flows z) o = absurd o
 
     module _ {k : Bool} (s : ℕ) {F : Fetched} {q e j : ℕ} (z : Close es tree W lin k F e j) where
       at-neutral : {op : ℕ} {ns : List ℕ} {r : Code} → Ok k (neutral op ns r) → Sub es tree s (neutral op ns r) F → At W q (flat (neutral op ns r))
           → q + length (flat (neutral op ns r)) ≡ e → MeetsAt (first es s (neutral op ns r) F) q j
-      unfolding Ok flat first indicesFit
+      unfolding Ok flat first indicesFit eachNeutral
       at-neutral {op} {ns} {r} o u a h =
           nowM (lin-neutral ns (flat r) (o .0) (o .1) a)
-          (plains (fits-resolves es op ns (o .0) (and-eq-true-iff (indexFits es op ns) (indicesFit es r) .0 (u .indexed) .0))
+          (plains (fits-resolves es op ns (o .0) (and-eq-true-iff (indexFits es op (getD ns 0 0)) (indicesFit es r) .0 (u .indexed) .0))
           (both (o .2) (sub-neutral es tree u) (at-skip W (op ∷ ns) (flat r) a (omega arith)) (omega (arith, length-append ns (flat r))) z))
 
       at-cont : {n : ℕ} {x r : Code} → Ok k (make-cont n x r) → Sub es tree s (make-cont n x r) F → At W q (flat (make-cont n x r))
@@ -156,7 +157,7 @@ module _ (ts : List Template) (ls : List Linear) (twins : (t : ℕ) → Twins (g
             q-fits = omega arith;
             places = both (o .1) (sub-saved es tree u) (at-skip W y (flat x) b (omega arith)) (omega (arith, length-append y (flat x))) z;
           })
-          (both (o .2) (sub-next es tree u) (at-take W y (flat x) b) refl ends))
+          (both (o .2) (sub-next es tree u) (at-take W y (flat x) b) refl nothing-after))
 
       -- a conditional; c: whether its arms are closed
       at-unless : (c : Bool) {x y r : Code} → Ok c x → Ok c y → either c (Shut k × Only r) (Ok k r)
@@ -174,8 +175,8 @@ module _ (ts : List Template) (ls : List Linear) (twins : (t : ℕ) → Twins (g
           rw (shut-zero z (o .0))
           (nowM (lin-branch a)
           (branchM {o = 0} {q₁ = q + 3} {q₂ = q + 3 + (256 * (length X / 256) + length X % 256)} {j = 0} {j₁ = 0} (omega arith) (omega arith)
-          (both ox ux (at-take W X (Y ++ flat r) b) refl ends)
-          (both oy uy (at-take W Y (flat r) b₁) refl ends)))
+          (both ox ux (at-take W X (Y ++ flat r) b) refl nothing-after)
+          (both oy uy (at-take W Y (flat r) b₁) refl nothing-after)))
       at-unless false {x} {y} {r} ox oy o ux uy u a h =
           let X : List ℕ = flat x in
           let Y : List ℕ = flat y in
@@ -212,7 +213,7 @@ module _ (ts : List Template) (ls : List Linear) (twins : (t : ℕ) → Twins (g
       meets (leap e z) = jumpM e (meets z)
 
       closes : {k : Bool} {F : Fetched} {e j : ℕ} → Close es tree W lin k F e j → Follow k F e j
-      closes ends = tt
+      closes nothing-after = tt
       closes (flows z) = meets z
 
     -- a template's code begins at its first bit, and at byte 0
@@ -220,7 +221,7 @@ module _ (ts : List Template) (ls : List Linear) (twins : (t : ℕ) → Twins (g
     unfolding treeAt
     at-start =
         both (twins t .closed) (record { within = λ p h l. refl; bound = twins t .tree-fits; indexed = twins t .indexed })
-        (record { rest = []; is = sym (append-nil W) }) refl ends
+        (record { rest = []; is = sym (append-nil W) }) refl nothing-after
 
   pairs : {t p t′ q j : ℕ} → Pair t p t′ q j → Meets Pair (same-but-places Pair) 1 ⊥ (linearAt ls) t t′ (treeAt ts t p) q j
   pairs (pair {t = t} h z) = meets t h z

@@ -11,6 +11,10 @@ use Rattle.cells.specs.Cells.{tagOf, intCell, intOf, closureCell, closur
 use Rattle.cells.specs.Cells.{layerCell, layerParent, layerCount, frameCell, frameCount, frameTemplate, frameEnv, framePlace}
 use Rattle.cells.specs.Cells.{startingGlobal, valueOf, cellOf, Fits, ValueCell}
 
+-- ---- two cases at once: `clash (cc)`, where the equations in scope say that two constructors are one
+pub clash : {A : Type 0} → _≡_ {A = ℕ} 0 1 → A
+clash e = absurd (omega arith)
+
 -- ---- fields
 pub int-back : (x : ℕ) → x < 2 ^ 32 → (intOf (intCell x) ≡ x) × (tagOf (intCell x) ≡ 6)
 int-back x h = omega arith

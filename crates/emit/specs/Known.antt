@@ -4,6 +4,7 @@ use native.Mathlib.Omega.{arith}
 use mathlib.Core.Path.{_≡_, refl, sym, ap, _∙_}
 use mathlib.Core.List.{List}
 use lib.ListN.{length}
+use Rattle.cells.specs.Laws.{clash}
 use Rattle.fields.specs.Field.{fieldAt, fieldRead}
 use Rattle.fields.specs.Laws.{read-cases}
 use Rattle.files.specs.Codes.{shapeOf}
@@ -109,7 +110,7 @@ module _ (s : List ℕ) (l p : ℕ) where
     without-lists = go shapeHere (this shapeHere refl)
       where
         go : (k : ℕ) → byShape k ≡ item i q → (k ≡ 4 → ⊥) → (k ≡ 5 → ⊥) → Simple k
-        go zero e a b = let z : _≡_ {A = ℕ} 0 1 = cc in absurd (omega arith)
+        go zero e a b = clash (cc)
         go (suc zero) e a b = let z = same e in (omega arith, omega arith, omega (arith, head-within), z .0, omega arith)
         go (suc (suc zero)) e a b =
             let f = field-there s (p + 5) 8 _ (item i q) tt e in
@@ -122,7 +123,7 @@ module _ (s : List ℕ) (l p : ℕ) where
             (omega arith, omega arith, omega (arith, g .0), z .0, omega arith)
         go (suc (suc (suc (suc zero)))) e a b = absurd (a refl)
         go (suc (suc (suc (suc (suc zero))))) e a b = absurd (b refl)
-        go (suc (suc (suc (suc (suc (suc k)))))) e a b = let z : _≡_ {A = ℕ} 0 1 = cc in absurd (omega arith)
+        go (suc (suc (suc (suc (suc (suc k)))))) e a b = clash (cc)
 
   -- 0: the end
   end-shape : (q k : ℕ) → byShape k ≡ stop q → k ≡ 0
@@ -167,7 +168,7 @@ module _ (s : List ℕ) (l p : ℕ) {c : Code} {past : ℕ} (read : listAt s l p
       go : (h : Head) → headAt s (deepOf s l) p ≡ h → after (listAt s l) h ≡ got c past → p + 5 ≤ 8 * length s
       go (stop q) e f = by-shape s l p (stop q) tt e .0
       go (item i q) e f = by-shape s l p (item i q) tt e .0
-      go (bad n x) e f = let z : _≡_ {A = ℕ} 0 1 = cc in absurd (omega arith)
+      go (bad n x) e f = clash (cc)
 
   pub list-end : shapeHere s l p ≡ 0 → (c ≡ done) × (past ≡ p + 5)
   unfolding after shaped
@@ -184,9 +185,9 @@ module _ (s : List ℕ) (l p : ℕ) {c : Code} {past : ℕ} (read : listAt s l p
     where
       more : (i : Instr) (q : ℕ) → headAt s (deepOf s l) p ≡ item i q → (x : Got Code) → listAt s l q ≡ x → before i x ≡ got c past → Turn
       more i q e (got r z) g f = let k : z ≡ past = cc in record { instr = i; next = q; rest = r; head = e; on = g ∙ ap (got r) k; is = cc }
-      more i q e (refused n z) g f = let z : _≡_ {A = ℕ} 0 1 = cc in absurd (omega arith)
+      more i q e (refused n z) g f = clash (cc)
 
       go : (h : Head) → headAt s (deepOf s l) p ≡ h → after (listAt s l) h ≡ got c past → Turn
       go (stop q) e f = absurd (h (end-shape s l p q (shapeHere s l p) (by-shape s l p (stop q) tt e .1)))
       go (item i q) e f = more i q e (listAt s l q) refl f
-      go (bad n x) e f = let z : _≡_ {A = ℕ} 0 1 = cc in absurd (omega arith)
+      go (bad n x) e f = clash (cc)

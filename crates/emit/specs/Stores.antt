@@ -10,6 +10,7 @@ use borrow.Author.Tests.{leb-true, eqb-true}
 use lib.ListN.{length, set, getD, length-append}
 use lib.Seq.{sets}
 use lib.Dec.{eqb}
+use Rattle.cells.specs.Laws.{clash}
 use Rattle.fields.specs.Field.{fieldAt}
 use Rattle.files.specs.Codes.{shapeOf}
 use Rattle.files.specs.Code.{Code, Instr, neutral-i, return-i, call-i, unless-i, cont-i, put, simple}
@@ -137,7 +138,7 @@ fits-rest (cont-i n x) c h = fits-saved n x c h .2
 
 pub fits-jumps : (b : Bool) (x y : ℕ) → armsFit b x y ≡ true → (gap b + x ≤ 65535) × (b ≡ false → y ≤ 65535)
 unfolding armsFit gap
-fits-jumps true x y h = (omega (arith, leb-true x 65535 h), λ e. let z : _≡_ {A = ℕ} 0 1 = cc in absurd (omega arith))
+fits-jumps true x y h = (omega (arith, leb-true x 65535 h), λ e. clash (cc))
 fits-jumps false x y h = let a = and-eq-true-iff (fitsOffset (3 + x)) (fitsOffset y) .0 h in (leb-true (3 + x) 65535 (a .0), λ e. leb-true y 65535 (a .1))
 
 -- an instruction's code, and then its operands

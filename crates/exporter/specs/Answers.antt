@@ -17,20 +17,20 @@ use Rattle.machines.specs.Runs.{Memory, Ran, ran, refusedRun, lowestUnfit, fitG
 use Rattle.machines.specs.declared.End.{End}
 use Rattle.machines.specs.declared.End.the-variants.{Halted, Wrong, OutOfBudget, Refused}
 
--- the fields of a value fit into a cell; NoValue has none
-unfoldable pub FitsCell : Value → Type 0
-FitsCell False = Unit
-FitsCell True = Unit
-FitsCell Null = Unit
-FitsCell Unspecified = Unit
-FitsCell (Integer x) = Unit
-FitsCell (Procedure c) = (c .template < 2 ^ 8) × (c .env < 2 ^ 16) × (c .location < 2 ^ 16)
-FitsCell (Pair a b) = (a < 2 ^ 16) × (b < 2 ^ 16)
-FitsCell NoValue = Unit
+-- the fields of an answer fit into a cell; NoValue has none, and an integer is any that a cell was read as
+unfoldable pub FieldsFit : Value → Type 0
+FieldsFit False = Unit
+FieldsFit True = Unit
+FieldsFit Null = Unit
+FieldsFit Unspecified = Unit
+FieldsFit (Integer x) = Unit
+FieldsFit (Procedure c) = (c .template < 2 ^ 8) × (c .env < 2 ^ 16) × (c .location < 2 ^ 16)
+FieldsFit (Pair a b) = (a < 2 ^ 16) × (b < 2 ^ 16)
+FieldsFit NoValue = Unit
 
 unfoldable pub AnswerFits : End → Type 0
-unfolding FitsCell
-AnswerFits (Halted v) = FitsCell v
+unfolding FieldsFit
+AnswerFits (Halted v) = FieldsFit v
 AnswerFits (Wrong n) = Unit
 AnswerFits OutOfBudget = Unit
 AnswerFits (Refused n p) = Unit
@@ -39,16 +39,16 @@ unfoldable pub RanFits : Ran → Type 0
 unfolding AnswerFits
 RanFits (ran r m) = AnswerFits (r .end)
 
-value-fits : (c : ℕ) → FitsCell (valueOf c)
-unfolding valueOf FitsCell
+value-fits : (c : ℕ) → FieldsFit (valueOf c)
+unfolding valueOf FieldsFit
 value-fits c =
-    either FitsCell (eqb (tagOf c) 1) _ _ tt
-    (either FitsCell (eqb (tagOf c) 2) _ _ tt
-    (either FitsCell (eqb (tagOf c) 3) _ _ tt
-    (either FitsCell (eqb (tagOf c) 4) _ _ tt
-    (either FitsCell (eqb (tagOf c) 6) _ _ tt
-    (either FitsCell (eqb (tagOf c) 7) _ _ (omega arith, omega arith, omega arith)
-    (either FitsCell (eqb (tagOf c) 8) _ _ (omega arith, omega arith) tt))))))
+    either FieldsFit (eqb (tagOf c) 1) _ _ tt
+    (either FieldsFit (eqb (tagOf c) 2) _ _ tt
+    (either FieldsFit (eqb (tagOf c) 3) _ _ tt
+    (either FieldsFit (eqb (tagOf c) 4) _ _ tt
+    (either FieldsFit (eqb (tagOf c) 6) _ _ tt
+    (either FieldsFit (eqb (tagOf c) 7) _ _ (omega arith, omega arith, omega arith)
+    (either FieldsFit (eqb (tagOf c) 8) _ _ (omega arith, omega arith) tt))))))
 
 end-fits : (e : Ending) (v : ℕ) → AnswerFits (endOf e v)
 unfolding endOf AnswerFits

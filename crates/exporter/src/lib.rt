@@ -8,7 +8,7 @@ ghost use Rattle.cells.specs.Cells.{cellOf};
 ghost use Rattle.flatten.specs.Flatten.{flattened};
 ghost use Rattle.machines.specs.Runs.{memory, treeRun, linearRun};
 ghost use Rattle.exporter.specs.Exporter.{endSlots, runSlots, flattenSlots, flattenOutput, flattenResult, exported, runExported};
-ghost use Rattle.exporter.specs.Answers.{FitsCell, AnswerFits};
+ghost use Rattle.exporter.specs.Answers.{FieldsFit, AnswerFits};
 use cells::Value;
 use flatten::Flattened;
 use machines::End;
@@ -16,7 +16,7 @@ use machines::Run;
 
 // The cell of an answer.
 fn answer_cell(v: Value) -> u64
-    requires { ⌜ FitsCell v ⌝ }
+    requires { ⌜ FieldsFit v ⌝ }
     ensures { λ r. ⌜ r ≡ cellOf v ⌝ }
 {
     match v {

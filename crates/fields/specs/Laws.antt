@@ -10,6 +10,7 @@ use borrow.Author.Tests.{le-leb, lt-leb, leb-true, leb-false}
 use lib.ListN.{length, getD}
 use lib.Dec.{leb}
 use lib.Pow.{pow-add, pow-lt, pow-mono, mod-pow-add}
+use Rattle.cells.specs.Laws.{clash}
 use Rattle.cells.specs.declared.BitPlace.{BitPlace}
 use Rattle.fields.specs.declared.Field.{Field}
 use Rattle.fields.specs.declared.Field.the-variants.{Read, Cut}
@@ -38,7 +39,7 @@ module _ (s : List ℕ) (p w : ℕ) where
   -- what is known of a value that was read
   pub value-of : (v : ℕ) (q : BitPlace) → fieldRead s p w ≡ Read v q → (v ≡ fieldAt s p w) × ((q .0 ≡ p + w) × (p + w ≤ 8 * length s))
   value-of v q e = read-cases (λ f. f ≡ Read v q → (v ≡ fieldAt s p w) × ((q .0 ≡ p + w) × (p + w ≤ 8 * length s)))
-      (λ e. let z : _≡_ {A = ℕ} 0 1 = cc in absurd (omega arith))
+      (λ e. clash (cc))
       (λ h e. let e₁ : fieldAt s p w ≡ v = cc in let e₂ : _≡_ {A = BitPlace} (record { 0 = p + w }) q = cc in (sym e₁, (ap (λ (x : BitPlace). x .0) (sym e₂), h))) e
 
 -- a field of w bits is below 2 ^ w

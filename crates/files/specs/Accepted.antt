@@ -2,6 +2,7 @@
 use Prim.Native.Nat.{ℕ}
 use mathlib.Core.List.{List}
 use mathlib.Core.Option.{Option, none, some}
+use Rattle.cells.specs.Numbers.{notClosed, wrongIndex, farOffset}
 use Rattle.files.specs.Reading.{Got, got, refused}
 use Rattle.files.specs.Entries.{then}
 use Rattle.files.specs.Tree.{Template, treeRead}
@@ -17,8 +18,8 @@ orLowest n none g = g
 unfoldable pub treeChecked : List ℕ → Got (List Template)
 treeChecked s =
     then (treeRead s)
-    (λ ts q. orLowest 6 (lowest closedTemplate 0 ts) (orLowest 7 (lowest indexedTemplate 0 ts) (got ts q)))
+    (λ ts q. orLowest notClosed (lowest closedTemplate 0 ts) (orLowest wrongIndex (lowest indexedTemplate 0 ts) (got ts q)))
 
 -- 1 to 8: what the flattener refuses before it looks at the output
 unfoldable pub flatChecked : List ℕ → Got (List Template)
-flatChecked s = then (treeChecked s) (λ ts q. orLowest 8 (lowest offsetTemplate 0 ts) (got ts q))
+flatChecked s = then (treeChecked s) (λ ts q. orLowest farOffset (lowest offsetTemplate 0 ts) (got ts q))

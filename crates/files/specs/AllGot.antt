@@ -8,13 +8,14 @@ use native.Mathlib.Nat.{add-zero}
 use native.Mathlib.Omega.{arith}
 use lib.ListN.{length, getD}
 use lib.Dec.{leb, eqb}
+use Rattle.cells.specs.Laws.{clash}
 use Rattle.fields.specs.Field.{bitAt, fieldAt}
 use Rattle.fields.specs.Laws.{read-cases, field-small}
 use Rattle.files.specs.Reading.{Got, got, refused, listAt}
 use Rattle.files.specs.Entries.{Entry, then, fieldGot, field, valid, entriesAt, toByte, zeroBits, nothingMore}
 use Rattle.files.specs.EntriesLaws.{entries-read}
 use Rattle.files.specs.Tree.{Template, templateAt, templatesAt, paddedEnd, treeRead}
-use Rattle.files.specs.Linear.{Linear, codeAt, linearAt, linearsAt, linearRead}
+use Rattle.files.specs.Linear.{Linear, codeAt, linearTemplateAt, linearTemplatesAt, linearRead}
 use Rattle.files.specs.TableLaws.{Few, treeEntries, linearEntries}
 
 -- ---- what holds of whatever is read
@@ -53,7 +54,7 @@ field-all s p w = read-cases s p w (λ f. AllGot (λ v. v < 2 ^ w) (fieldGot p f
 
 -- ---- what led to what was read
 pub refused-got : {A B : Type 0} {n p q : ℕ} {a : A} → _≡_ {A = Got A} (refused n p) (got a q) → B
-refused-got e = let z : _≡_ {A = ℕ} 0 1 = cc in absurd (omega arith)
+refused-got e = clash (cc)
 
 pub got-value : {A : Type 0} {a b : A} {p q : ℕ} → _≡_ {A = Got A} (got a p) (got b q) → (a ≡ b) × (p ≡ q)
 got-value e = (cc, cc)
@@ -128,19 +129,19 @@ module _ (s : List ℕ) (T : ℕ) (few : T ≤ 64) where
   unfolding codeAt
   code-all n p es h = cond-all (FewEntries linearEntries) (leb (p + 8 * n) (8 * length s)) _ _ (λ e. h) (λ e. tt)
 
-  linear-all : (own p : ℕ) → AllGot (FewEntries linearEntries) (linearAt s own T p)
-  unfolding linearAt
+  linear-all : (own p : ℕ) → AllGot (FewEntries linearEntries) (linearTemplateAt s own T p)
+  unfolding linearTemplateAt
   linear-all own p =
       then-all _ (field s p 8) _ (λ n q e. then-all _ (entriesAt s own T n q) _ (λ es r e₂. then-all _ (zeroBits s (toByte r) r es) _
       (λ es₂ u e₃. then-all _ (field s u 24) _ (λ k v e₄. code-all k v es₂ (got-all (λ xs. length xs < 256) (zero-all (λ xs. length xs < 256) s (toByte r) r es (entries-few own n p q e e₂)) e₃)))))
 
-  linears-all : (n own p : ℕ) → AllGot (Counted linearEntries n) (linearsAt s T own n p)
-  unfolding linearsAt
+  linears-all : (n own p : ℕ) → AllGot (Counted linearEntries n) (linearTemplatesAt s T own n p)
+  unfolding linearTemplatesAt
   linears-all zero own p = (refl, tt)
-  linears-all (suc n) own p = counted-more linearEntries n (linearAt s own T p) (linearsAt s T (own + 1) n) (linear-all own p) (linears-all n (own + 1))
+  linears-all (suc n) own p = counted-more linearEntries n (linearTemplateAt s own T p) (linearTemplatesAt s T (own + 1) n) (linear-all own p) (linears-all n (own + 1))
 
   -- n templates were read
-  pub linears-read : (n own p : ℕ) {ts : List Linear} {q : ℕ} → linearsAt s T own n p ≡ got ts q → Counted linearEntries n ts
+  pub linears-read : (n own p : ℕ) {ts : List Linear} {q : ℕ} → linearTemplatesAt s T own n p ≡ got ts q → Counted linearEntries n ts
   linears-read n own p e = got-all (Counted linearEntries n) (linears-all n own p) e
 
 -- a tree file and a linear file have 1 to 64 templates of fewer than 256 entries
@@ -157,4 +158,4 @@ unfolding linearRead
 linear-read s e =
     got-all (Templates linearEntries)
     (cond-all (Templates linearEntries) (leb (length s) 262144) _ (refused 1 0)
-    (λ i. file-all linearEntries s (λ T p. linearsAt s T 0 T p) (λ ts q. nothingMore s q ts) (λ T p few. linears-all s T few T 0 p) (λ ts q h. nothing-all (Templates linearEntries) s q ts h)) (λ i. tt)) e
+    (λ i. file-all linearEntries s (λ T p. linearTemplatesAt s T 0 T p) (λ ts q. nothingMore s q ts) (λ T p few. linears-all s T few T 0 p) (λ ts q h. nothing-all (Templates linearEntries) s q ts h)) (λ i. tt)) e

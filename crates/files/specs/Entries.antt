@@ -4,6 +4,7 @@ use mathlib.Core.Bool.{Bool, true, false, cond, _&&_}
 use mathlib.Core.List.{List, [], _∷_}
 use lib.ListN.{length}
 use lib.Dec.{ltb, eqb}
+use Rattle.cells.specs.Numbers.{cutField, invalidField, notTheEnd}
 use Rattle.fields.specs.declared.Field.{Field}
 use Rattle.fields.specs.declared.Field.the-variants.{Read, Cut}
 use Rattle.fields.specs.Field.{bitAt, fieldRead}
@@ -22,7 +23,7 @@ then (refused n p) f = refused n p
 
 unfoldable pub fieldGot : ℕ → Field → Got ℕ
 fieldGot p (Read v q) = got v (q .0)
-fieldGot p Cut = refused 2 p
+fieldGot p Cut = refused cutField p
 
 -- the field of w bits at p
 unfoldable pub field : List ℕ → ℕ → ℕ → Got ℕ
@@ -31,7 +32,7 @@ field s p w = fieldGot p (fieldRead s p w)
 -- on where the field at p is valid, else 3 at its first bit
 abbrev pub valid : {A : Type 0} → ℕ → Bool → Got A → Got A
 valid p true g = g
-valid p false g = refused 3 p
+valid p false g = refused invalidField p
 
 -- the constant whose tag t stands at p and ends at q
 unfoldable pub constantAt : List ℕ → ℕ → ℕ → ℕ → Got Entry
@@ -39,7 +40,7 @@ constantAt s p t q = cond (eqb t 4) (then (field s q 32) (λ x r. got (constant 
 
 -- the entry at p whose kind is k and ends at q, of template own of T: 1 a constant, 2 a global, 3 a template above own and below T
 unfoldable pub kindAt : List ℕ → ℕ → ℕ → ℕ → ℕ → ℕ → Got Entry
-kindAt s own T p q zero = refused 3 p
+kindAt s own T p q zero = refused invalidField p
 kindAt s own T p q (suc zero) = then (field s q 3) (λ t r. constantAt s q t r)
 kindAt s own T p q (suc (suc zero)) = then (field s q 8) (λ g r. got (global g) r)
 kindAt s own T p q (suc (suc (suc k))) = then (field s q 8) (λ t r. valid q (ltb own t && ltb t T) (got (template t) r))
@@ -59,8 +60,8 @@ toByte p = (8 - p % 8) % 8
 -- a past n zero bits at p; 5 at the first that is set
 unfoldable pub zeroBits : {A : Type 0} → List ℕ → ℕ → ℕ → A → Got A
 zeroBits s zero p a = got a p
-zeroBits s (suc n) p a = cond (eqb (bitAt s p) 0) (zeroBits s n (p + 1) a) (refused 5 p)
+zeroBits s (suc n) p a = cond (eqb (bitAt s p) 0) (zeroBits s n (p + 1) a) (refused notTheEnd p)
 
 -- nothing more after p, else 5 there
 unfoldable pub nothingMore : {A : Type 0} → List ℕ → ℕ → A → Got A
-nothingMore s p a = cond (eqb p (8 * length s)) (got a p) (refused 5 p)
+nothingMore s p a = cond (eqb p (8 * length s)) (got a p) (refused notTheEnd p)

@@ -7,6 +7,7 @@ use borrow.Author.Tests.{ne-eqb, lt-ltb, le-ltb}
 use lib.ListN.{length, set}
 use lib.Seq.{sets}
 use native.Mathlib.Numerals.{add-one}
+use Rattle.cells.specs.Laws.{clash}
 use Rattle.cells.specs.declared.BitPlace.{BitPlace}
 use Rattle.cells.specs.Cells.{intCell}
 use Rattle.fields.specs.declared.Field.{Field}
@@ -114,11 +115,11 @@ pub record ReadEntry (g : Got Entry) (x : ℕ) (q : BitPlace) : Type 0 where
 pub entry-told : (g : Got Entry) {x : ℕ} {q : BitPlace} → entryTold g ≡ Slot x q → ReadEntry g x q
 unfolding entryTold
 entry-told (got e z) {x} {q} h = let k : _≡_ {A = BitPlace} (record { 0 = z }) q = cc in record { entry = e; is = ap (λ (b : BitPlace). got e (b .0)) k; slot = cc }
-entry-told (refused n z) h = let z : _≡_ {A = ℕ} 0 1 = cc in absurd (omega arith)
+entry-told (refused n z) h = clash (cc)
 
 pub entry-refused : (g : Got Entry) {n : ℕ} {p : BitPlace} → entryTold g ≡ RefusedEntry n p → g ≡ refused n (p .0)
 unfolding entryTold
-entry-refused (got e z) h = let z : _≡_ {A = ℕ} 0 1 = cc in absurd (omega arith)
+entry-refused (got e z) h = clash (cc)
 entry-refused (refused m z) {n} {p} h = let k : _≡_ {A = BitPlace} (record { 0 = z }) p = cc in let i : m ≡ n = cc in rw (i, ← k)
 
 -- the entries whose place was told
@@ -129,11 +130,11 @@ pub record ReadAll (g : Got (List Entry)) (q : BitPlace) : Type 0 where
 pub entries-told : (g : Got (List Entry)) {q : BitPlace} → entriesTold g ≡ ReadEntries q → ReadAll g q
 unfolding entriesTold
 entries-told (got es z) {q} h = let k : _≡_ {A = BitPlace} (record { 0 = z }) q = cc in record { entries = es; is = ap (λ (b : BitPlace). got es (b .0)) k }
-entries-told (refused n z) h = let z : _≡_ {A = ℕ} 0 1 = cc in absurd (omega arith)
+entries-told (refused n z) h = clash (cc)
 
 pub entries-refused : (g : Got (List Entry)) {n : ℕ} {p : BitPlace} → entriesTold g ≡ RefusedEntries n p → g ≡ refused n (p .0)
 unfolding entriesTold
-entries-refused (got es z) h = let z : _≡_ {A = ℕ} 0 1 = cc in absurd (omega arith)
+entries-refused (got es z) h = clash (cc)
 entries-refused (refused m z) {n} {p} h = let k : _≡_ {A = BitPlace} (record { 0 = z }) p = cc in let i : m ≡ n = cc in rw (i, ← k)
 
 -- ---- the entries that are left, from slot i to slot l, by the answer r that reading the first gave
@@ -147,23 +148,23 @@ unfolding entriesAt slotsAt entriesTold
 none-left s own T l i p h = let k : l - i ≡ 0 = omega arith in rw k (refl, refl)
 
 module _ (s : List ℕ) (own T l i p : ℕ) {r : EntryRead} (less : i < l) (asked : r ≡ entryTold (entryAt s own T p)) where
-  left : l - i ≡ suc (l - (i + 1))
-  left = omega arith
+  one-left : l - i ≡ suc (l - (i + 1))
+  one-left = omega arith
 
   module _ {x : ℕ} {q : BitPlace} (is : r ≡ Slot x q) where
     pub entries-on : entriesTold (entriesAt s own T (l - i) p) ≡ entriesTold (entriesAt s own T (l - (i + 1)) (q .0))
     unfolding entriesAt then
-    entries-on = let e = entry-told (entryAt s own T p) (sym asked ∙ is) in rw (left, e .is) (told-more (e .entry) (entriesAt s own T (l - (i + 1)) (q .0)))
+    entries-on = let e = entry-told (entryAt s own T p) (sym asked ∙ is) in rw (one-left, e .is) (told-more (e .entry) (entriesAt s own T (l - (i + 1)) (q .0)))
 
     pub slots-on : (table : List ℕ) → sets table i (slotsAt s own T (l - i) p) ≡ sets (set table i x) (i + 1) (slotsAt s own T (l - (i + 1)) (q .0))
     unfolding slotsAt slotThen
-    slots-on table = let e = entry-told (entryAt s own T p) (sym asked ∙ is) in rw (left, e .is, ← e .slot, add-one)
+    slots-on table = let e = entry-told (entryAt s own T p) (sym asked ∙ is) in rw (one-left, e .is, ← e .slot, add-one)
 
   module _ {n : ℕ} {q : BitPlace} (is : r ≡ RefusedEntry n q) where
     pub entries-stop : RefusedEntries n q ≡ entriesTold (entriesAt s own T (l - i) p)
     unfolding entriesAt then entriesTold
-    entries-stop = rw (left, entry-refused (entryAt s own T p) (sym asked ∙ is))
+    entries-stop = rw (one-left, entry-refused (entryAt s own T p) (sym asked ∙ is))
 
     pub slots-stop : slotsAt s own T (l - i) p ≡ []
     unfolding slotsAt slotThen
-    slots-stop = rw (left, entry-refused (entryAt s own T p) (sym asked ∙ is))
+    slots-stop = rw (one-left, entry-refused (entryAt s own T p) (sym asked ∙ is))

@@ -50,16 +50,22 @@ suits op (some (constant t x)) = eqb op 6
 suits op (some (template t)) = eqb op 7
 suits op (some (global g)) = eqb op 8 || eqb op 9
 
-unfoldable pub indexFits : List Entry → ℕ → List ℕ → Bool
-indexFits es op ns = cond (leb op 9) (suits op (entryOf es (getD ns 0 0))) true
+-- a neutral code's first operand, if it is an index
+unfoldable pub indexFits : List Entry → ℕ → ℕ → Bool
+indexFits es op n = cond (leb op 9) (suits op (entryOf es n)) true
+
+-- a test of each neutral code in a list with its first operand
+unfoldable pub eachNeutral : (ℕ → ℕ → Bool) → Code → Bool
+eachNeutral ok done = true
+eachNeutral ok (neutral op ns r) = ok op (getD ns 0 0) && eachNeutral ok r
+eachNeutral ok (return r) = eachNeutral ok r
+eachNeutral ok (call n r) = eachNeutral ok r
+eachNeutral ok (unless-false x y r) = eachNeutral ok x && eachNeutral ok y && eachNeutral ok r
+eachNeutral ok (make-cont n x r) = eachNeutral ok x && eachNeutral ok r
 
 unfoldable pub indicesFit : List Entry → Code → Bool
-indicesFit es done = true
-indicesFit es (neutral op ns r) = indexFits es op ns && indicesFit es r
-indicesFit es (return r) = indicesFit es r
-indicesFit es (call n r) = indicesFit es r
-indicesFit es (unless-false x y r) = indicesFit es x && indicesFit es y && indicesFit es r
-indicesFit es (make-cont n x r) = indicesFit es x && indicesFit es r
+unfolding indexFits eachNeutral
+indicesFit es c = eachNeutral (indexFits es) c
 
 -- ---- the lowest template that a test refuses, counted from n on
 unfoldable pub lowest : (Template → Bool) → ℕ → List Template → Option ℕ

@@ -1,5 +1,6 @@
 -- The specs of the crate files.
 pub mod Codes
+pub mod CodesLaws
 pub mod Code
 pub mod Reading
 pub mod Entries
@@ -9,6 +10,7 @@ pub mod GrammarLaws
 pub mod Flat
 pub mod Linear
 pub mod Accepted
+pub mod AcceptedLaws
 pub mod Table
 pub mod Valid
 pub mod BytesLaws
@@ -17,7 +19,6 @@ pub mod EntriesLaws
 pub mod TableLaws
 pub mod AllGot
 pub mod Heads
-pub mod ValidEntries
 pub mod EntriesRead
 pub mod EntriesSteps
 pub mod PaddingSteps

@@ -4,6 +4,7 @@ use mathlib.Core.Bool.{cond, _&&_}
 use mathlib.Core.List.{List, [], _∷_, _++_}
 use lib.ListN.{length, getD, take, drop}
 use lib.Dec.{leb, eqb}
+use Rattle.cells.specs.Numbers.{tooLong, cutField}
 use Rattle.files.specs.Entries.{Entry, constant, global, template, then, field, valid, entriesAt, toByte, zeroBits, nothingMore}
 use Rattle.files.specs.Reading.{Got, got, refused}
 use Rattle.files.specs.Tree.{Template}
@@ -61,20 +62,20 @@ pub record Linear : Type 0 where
 
 -- the n code bytes at p, which stands on a byte; 2 at the first that is missing
 unfoldable pub codeAt : List ℕ → List Entry → ℕ → ℕ → Got Linear
-codeAt s es n p = cond (leb (p + 8 * n) (8 * length s)) (got (record { entries = es; start = p / 8; code = take n (drop (p / 8) s) }) (p + 8 * n)) (refused 2 (8 * length s))
+codeAt s es n p = cond (leb (p + 8 * n) (8 * length s)) (got (record { entries = es; start = p / 8; code = take n (drop (p / 8) s) }) (p + 8 * n)) (refused cutField (8 * length s))
 
 -- template own of T at p
-unfoldable pub linearAt : List ℕ → ℕ → ℕ → ℕ → Got Linear
-linearAt s own T p =
+unfoldable pub linearTemplateAt : List ℕ → ℕ → ℕ → ℕ → Got Linear
+linearTemplateAt s own T p =
     then (field s p 8)
     (λ n q. then (entriesAt s own T n q) (λ es r. then (zeroBits s (toByte r) r es) (λ es u. then (field s u 24) (λ k v. codeAt s es k v))))
 
-unfoldable pub linearsAt : List ℕ → ℕ → ℕ → ℕ → ℕ → Got (List Linear)
-linearsAt s T own zero p = got [] p
-linearsAt s T own (suc n) p = then (linearAt s own T p) (λ t q. then (linearsAt s T (own + 1) n q) (λ ts r. got (t ∷ ts) r))
+unfoldable pub linearTemplatesAt : List ℕ → ℕ → ℕ → ℕ → ℕ → Got (List Linear)
+linearTemplatesAt s T own zero p = got [] p
+linearTemplatesAt s T own (suc n) p = then (linearTemplateAt s own T p) (λ t q. then (linearTemplatesAt s T (own + 1) n q) (λ ts r. got (t ∷ ts) r))
 
 unfoldable pub linearRead : List ℕ → Got (List Linear)
 linearRead s =
     cond (leb (length s) 262144)
-    (then (field s 0 8) (λ T p. valid 0 (leb 1 T && leb T 64) (then (linearsAt s T 0 T p) (λ ts q. nothingMore s q ts))))
-    (refused 1 0)
+    (then (field s 0 8) (λ T p. valid 0 (leb 1 T && leb T 64) (then (linearTemplatesAt s T 0 T p) (λ ts q. nothingMore s q ts))))
+    (refused tooLong 0)

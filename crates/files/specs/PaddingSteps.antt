@@ -8,6 +8,7 @@ use mathlib.Core.List.{List}
 use borrow.Author.Tests.{eq-eqb, ne-eqb}
 use lib.ListN.{length}
 use lib.Dec.{eqb}
+use Rattle.cells.specs.Laws.{clash}
 use Rattle.cells.specs.declared.BitPlace.{BitPlace}
 use Rattle.fields.specs.Field.{bitAt, fieldAt}
 use Rattle.files.specs.declared.Padding.{Padding}
@@ -26,16 +27,16 @@ unfolding zeroBits paddingTold
 no-bits s l i h = let k : l - i ≡ 0 = omega arith in rw k
 
 module _ (s : List ℕ) (l i b : ℕ) (less : i < l) (asked : b ≡ fieldAt s i 1) where
-  left : l - i ≡ suc (l - (i + 1))
-  left = omega arith
+  one-left : l - i ≡ suc (l - (i + 1))
+  one-left = omega arith
 
   pub bits-on : b ≡ 0 → paddingTold (zeroBits s (l - i) i (tt {0})) ≡ paddingTold (zeroBits s (l - (i + 1)) (i + 1) (tt {0}))
   unfolding zeroBits
-  bits-on e = rw (left, sym (bit-field s i) ∙ sym asked ∙ e)
+  bits-on e = rw (one-left, sym (bit-field s i) ∙ sym asked ∙ e)
 
   pub bits-stop : (b ≡ 0 → ⊥) → Refused (record { 0 = i }) ≡ paddingTold (zeroBits s (l - i) i (tt {0}))
   unfolding zeroBits paddingTold
-  bits-stop e = rw (left, ne-eqb (bitAt s i) 0 (λ k. e (asked ∙ bit-field s i ∙ k)))
+  bits-stop e = rw (one-left, ne-eqb (bitAt s i) 0 (λ k. e (asked ∙ bit-field s i ∙ k)))
 
 -- ---- what was told was read
 module _ {A : Type 0} (a : A) where
@@ -45,10 +46,10 @@ module _ {A : Type 0} (a : A) where
     pub set-read : {q : BitPlace} → r ≡ Refused q → g ≡ refused 5 (q .0)
 
   good : (p : ℕ) → Padded (got a p) (Zero (record { 0 = p }))
-  good p = record { zero-read = λ {q} h. (let k : _≡_ {A = BitPlace} (record { 0 = p }) q = cc in ap (λ (b : BitPlace). got a (b .0)) k); set-read = λ h. (let z : _≡_ {A = ℕ} 0 1 = cc in absurd (omega arith)) }
+  good p = record { zero-read = λ {q} h. (let k : _≡_ {A = BitPlace} (record { 0 = p }) q = cc in ap (λ (b : BitPlace). got a (b .0)) k); set-read = λ h. (clash (cc)) }
 
   pub bad : (p : ℕ) → Padded (refused 5 p) (Refused (record { 0 = p }))
-  bad p = record { zero-read = λ h. (let z : _≡_ {A = ℕ} 0 1 = cc in absurd (omega arith)); set-read = λ {q} h. (let k : _≡_ {A = BitPlace} (record { 0 = p }) q = cc in ap (λ (b : BitPlace). refused 5 (b .0)) k) }
+  bad p = record { zero-read = λ h. (clash (cc)); set-read = λ {q} h. (let k : _≡_ {A = BitPlace} (record { 0 = p }) q = cc in ap (λ (b : BitPlace). refused 5 (b .0)) k) }
 
   pub zero-told : (s : List ℕ) (n p : ℕ) → Padded (zeroBits s n p a) (paddingTold (zeroBits s n p (tt {0})))
   unfolding zeroBits paddingTold
@@ -75,7 +76,7 @@ module _ {A : Type 0} (a : A) where
     where
       go : (t : Bool) → (zeroBits s n (p + 1) a ≡ got b q → q ≡ p + 1 + n) → cond t (zeroBits s n (p + 1) a) (refused 5 p) ≡ got b q → q ≡ p + suc n
       go true f h = let k = f h in omega arith
-      go false f h = let z : _≡_ {A = ℕ} 0 1 = cc in absurd (omega arith)
+      go false f h = clash (cc)
 
 -- ---- the file's end
 module _ (s : List ℕ) (p : ℕ) where

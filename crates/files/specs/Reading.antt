@@ -2,6 +2,7 @@
 use Prim.Native.Nat.{ℕ, zero, suc, _*_}
 use mathlib.Core.List.{List, [], _∷_}
 use lib.ListN.{length}
+use Rattle.cells.specs.Numbers.{cutField, invalidField, tooDeep}
 use Rattle.fields.specs.declared.Field.{Field}
 use Rattle.fields.specs.declared.Field.the-variants.{Read, Cut}
 use Rattle.fields.specs.Field.{fieldRead}
@@ -27,7 +28,7 @@ pub data Deep : Type 0 where
 -- on with a field's value and the place past it, or refused 2 at its first bit
 unfoldable pub withField : ℕ → (ℕ → ℕ → Head) → Field → Head
 withField p k (Read v q) = k v (q .0)
-withField p k Cut = bad 2 p
+withField p k Cut = bad cutField p
 
 unfoldable pub withList : (Code → ℕ → Head) → Got Code → Head
 withList k (got c q) = k c q
@@ -35,7 +36,7 @@ withList k (refused n p) = bad n p
 
 -- 4 at the code that would open level 17
 unfoldable pub withDeep : ℕ → ((ℕ → Got Code) → Head) → Deep → Head
-withDeep p k bottom = bad 4 p
+withDeep p k bottom = bad tooDeep p
 withDeep p k (below f) = k f
 
 module _ (s : List ℕ) (deep : Deep) where
@@ -47,7 +48,7 @@ module _ (s : List ℕ) (deep : Deep) where
   shaped p v q (suc (suc (suc zero))) = withField q (λ a q₁. withField q₁ (λ b q₂. item (simple v (a ∷ b ∷ [])) q₂) (fieldRead s q₁ 8)) (fieldRead s q 8)
   shaped p v q (suc (suc (suc (suc zero)))) = withDeep p (λ f. withList (λ x q₁. withList (λ y q₂. item (unless-i x y) q₂) (f q₁)) (f q)) deep
   shaped p v q (suc (suc (suc (suc (suc zero))))) = withDeep p (λ f. withField q (λ n q₁. withList (λ x q₂. item (cont-i n x) q₂) (f q₁)) (fieldRead s q 8)) deep
-  shaped p v q (suc (suc (suc (suc (suc (suc k)))))) = bad 3 p
+  shaped p v q (suc (suc (suc (suc (suc (suc k)))))) = bad invalidField p
 
   -- what stands at p
   unfoldable pub headAt : ℕ → Head
@@ -65,7 +66,7 @@ after r (bad n p) = refused n p
 
 -- a list at p, of fewer instructions than the first number
 unfoldable pub items : List ℕ → Deep → ℕ → ℕ → Got Code
-items s deep zero p = refused 2 p
+items s deep zero p = refused cutField p
 items s deep (suc f) p = after (items s deep f) (headAt s deep p)
 
 -- how a list is read with so many levels left below the one that holds it

@@ -9,7 +9,7 @@ use Rattle.files.specs.Code.{put, simple}
 use Rattle.files.specs.Reading.{Got, got, refused, withField, withList, withDeep, shaped, headAt, before, after, items, deepOf, listAt}
 use Rattle.files.specs.Entries.{then, field, fieldGot, constantAt, kindAt, entryAt, entriesAt, zeroBits, nothingMore}
 use Rattle.files.specs.Tree.{Template, templateAt, templatesAt, paddedEnd, treeRead}
-use Rattle.files.specs.Grammar.{isEmpty, isOpen, isClosed, entryOf, suits, indexFits, indicesFit, lowest}
+use Rattle.files.specs.Grammar.{isEmpty, isOpen, isClosed, entryOf, suits, indexFits, eachNeutral, indicesFit, lowest}
 use Rattle.files.specs.Flat.{offset, conditional, flat, armsFit, offsetsFit}
 use Rattle.files.specs.Linear.{bitsOf, entryBits, entriesBits, byteOf, bytesFrom, bytesOf, templateBytes, templatesBytes, linearFile}
 use Rattle.files.specs.Accepted.{orLowest, treeChecked, flatChecked}
@@ -39,12 +39,12 @@ pub data Row : Type 0 where
   flattens : List ℕ → Row
   refuses : ℕ → ℕ → Row
 
-abbrev pub rowOf : Got (List Template) → Row
-rowOf (got ts q) = flattens (linearFile ts)
-rowOf (refused n p) = refuses n p
+abbrev pub fileRow : Got (List Template) → Row
+fileRow (got ts q) = flattens (linearFile ts)
+fileRow (refused n p) = refuses n p
 
-abbrev pub linearRows : List Row
-linearRows =
+abbrev pub fileRows : List Row
+fileRows =
     flattens (plainFile 1 (0x01 ∷ []))
     ∷ flattens
     (0x01 ∷ 0x02 ∷ 0x60 ∷ 0x00 ∷ 0x00 ∷ 0x00 ∷ 0x3B ∷ 0x00 ∷ 0x00 ∷ 0x00 ∷ 0x01 ∷ 0x40 ∷ 0x00 ∷ 0x00 ∷ 0x10 ∷ 0x06 ∷ 0x01 ∷ 0x0C ∷ 0x03 ∷ 0x00 ∷ 0x05 ∷ 0x06 ∷ 0x02 ∷ 0x05 ∷ 0x00 ∷ 0x02 ∷ 0x06 ∷ 0x01 ∷ 0x0C ∷ 0x16 ∷ 0x01 ∷ [])
@@ -56,12 +56,12 @@ linearRows =
     ∷ []
 
 -- P1 to P7, and P8: offset 65,535 splits into 255, 255; 256 into 1, 0
-pub file-rows : (map (λ s. rowOf (flatChecked s)) sheets ≡ linearRows) × (map offset (65535 ∷ 256 ∷ []) ≡ (255 ∷ 255 ∷ []) ∷ (1 ∷ 0 ∷ []) ∷ [])
-unfolding bitAt fieldAt fieldRead pickField shapeOf put simple withField withList withDeep shaped headAt before after items deepOf listAt then field fieldGot constantAt kindAt entryAt entriesAt zeroBits nothingMore templateAt templatesAt paddedEnd treeRead isEmpty isOpen isClosed entryOf suits indexFits indicesFit lowest conditional flat armsFit offsetsFit bitsOf entryBits entriesBits byteOf bytesFrom bytesOf templateBytes templatesBytes linearFile orLowest treeChecked flatChecked
+pub file-rows : (map (λ s. fileRow (flatChecked s)) sheets ≡ fileRows) × (map offset (65535 ∷ 256 ∷ []) ≡ (255 ∷ 255 ∷ []) ∷ (1 ∷ 0 ∷ []) ∷ [])
+unfolding bitAt fieldAt fieldRead pickField shapeOf put simple withField withList withDeep shaped headAt before after items deepOf listAt then field fieldGot constantAt kindAt entryAt entriesAt zeroBits nothingMore templateAt templatesAt paddedEnd treeRead isEmpty isOpen isClosed entryOf suits indexFits eachNeutral indicesFit lowest conditional flat armsFit offsetsFit bitsOf entryBits entriesBits byteOf bytesFrom bytesOf templateBytes templatesBytes linearFile orLowest treeChecked flatChecked
 file-rows = (refl, refl)
 
 -- a saved list that holds something: unless-false (make-cont 0 (unspecified), return) (unspecified), return: the rest comes before the saved list
-saved-after-rest : rowOf (flatChecked (0x01 ∷ 0x00 ∷ 0x19 ∷ 0x00 ∷ 0x1E ∷ 0x00 ∷ 0x81 ∷ 0xE0 ∷ 0x08 ∷ 0x00 ∷ []))
+saved-after-rest : fileRow (flatChecked (0x01 ∷ 0x00 ∷ 0x19 ∷ 0x00 ∷ 0x1E ∷ 0x00 ∷ 0x81 ∷ 0xE0 ∷ 0x08 ∷ 0x00 ∷ []))
     ≡ flattens (plainFile 14 (0x03 ∷ 0x00 ∷ 0x09 ∷ 0x04 ∷ 0x00 ∷ 0x01 ∷ 0x00 ∷ 0x01 ∷ 0x0F ∷ 0x05 ∷ 0x00 ∷ 0x01 ∷ 0x0F ∷ 0x01 ∷ []))
-unfolding bitAt fieldAt fieldRead pickField shapeOf put simple withField withList withDeep shaped headAt before after items deepOf listAt then field fieldGot constantAt kindAt entryAt entriesAt zeroBits nothingMore templateAt templatesAt paddedEnd treeRead isEmpty isOpen isClosed entryOf suits indexFits indicesFit lowest conditional flat armsFit offsetsFit bitsOf entryBits entriesBits byteOf bytesFrom bytesOf templateBytes templatesBytes linearFile orLowest treeChecked flatChecked
+unfolding bitAt fieldAt fieldRead pickField shapeOf put simple withField withList withDeep shaped headAt before after items deepOf listAt then field fieldGot constantAt kindAt entryAt entriesAt zeroBits nothingMore templateAt templatesAt paddedEnd treeRead isEmpty isOpen isClosed entryOf suits indexFits eachNeutral indicesFit lowest conditional flat armsFit offsetsFit bitsOf entryBits entriesBits byteOf bytesFrom bytesOf templateBytes templatesBytes linearFile orLowest treeChecked flatChecked
 saved-after-rest = refl

@@ -1,16 +1,21 @@
 -- What stands in a slot of a run's table. Assumes nothing.
-use Prim.Native.Nat.{ℕ, zero, suc, _+_, _*_, _-_, _≤_, _<_}
+use Prim.Native.Nat.{ℕ, zero, suc, _+_, _*_, _-_, _^_, _≤_, _<_}
 use native.Mathlib.Omega.{arith}
 use mathlib.Core.Path.{_≡_, refl, ap, _∙_}
+use mathlib.Core.Bool.{Bool, true, false, cond}
 use mathlib.Core.List.{List, [], _∷_, _++_, map, append-assoc}
 use mathlib.Core.Option.{Option, none, some}
 use lib.ListN.{length, getD, replicate, length-append, length-replicate, length-map, List·getD-append}
 use lib.Seq.{getD-append-add}
-use Rattle.files.specs.Entries.{Entry}
+use lib.Dec.{eqb}
+use borrow.Author.Tests.{eqb-false}
+use Rattle.cells.specs.Cells.{tagOf, intCell}
+use Rattle.files.specs.Entries.{Entry, constant, global, template}
+use Rattle.files.specs.EntriesLaws.{EntryOk, EntriesOk}
 use Rattle.files.specs.Tree.{Template}
 use Rattle.files.specs.Linear.{Linear}
 use Rattle.files.specs.Grammar.{entryOf}
-use Rattle.files.specs.Table.{slotOf, padTo, rowOf, treeRows, linearRows, treeTable, linearTable}
+use Rattle.files.specs.Table.{constantCell, slotOf, padTo, rowOf, treeRows, linearRows, treeTable, linearTable}
 
 -- ---- a row
 pub zeros-at : (k i : ℕ) → _≡_ {A = ℕ} (getD (replicate k 0) i 0) 0
@@ -31,6 +36,38 @@ row-start x es = refl
 abbrev pub slotOr : Option Entry → ℕ
 slotOr (some e) = slotOf e
 slotOr none = 0
+
+-- ---- what can stand in the slot of an entry that was read
+unfoldable pub EntryFits : Entry → Type 0
+EntryFits (constant t x) = (t < 5) × (x < 2 ^ 32)
+EntryFits (global g) = g < 256
+EntryFits (template t) = t < 256
+
+abbrev pub FoundFits : Option Entry → Type 0
+FoundFits none = Unit
+FoundFits (some e) = EntryFits e
+
+ok-fits : (own T : ℕ) (e : Entry) → EntryOk own T e → EntryFits e
+unfolding EntryFits
+ok-fits own T (constant t x) h = (h .0, h .1)
+ok-fits own T (global g) h = h
+ok-fits own T (template t) h = omega arith
+
+pub found-fits : (own T : ℕ) (es : List Entry) (n : ℕ) → EntriesOk own T es → FoundFits (entryOf es n)
+unfolding entryOf
+found-fits own T es zero h = tt
+found-fits own T [] (suc n) h = tt
+found-fits own T (e ∷ es) (suc zero) h = ok-fits own T e (h .0)
+found-fits own T (e ∷ es) (suc (suc n)) h = found-fits own T es (suc n) (h .1)
+
+-- a constant is marked by none of tags 0, 11 and 12
+pub constant-tag : (t x : ℕ) → t < 5 → x < 2 ^ 32 → (1 ≤ tagOf (constantCell t x)) × (tagOf (constantCell t x) ≤ 6)
+unfolding constantCell
+constant-tag t x h k = by (eqb t 4) refl
+  where
+    by : (b : Bool) → eqb t 4 ≡ b → (1 ≤ tagOf (cond b (intCell x) ((t + 1) * 0x1000000000000000))) × (tagOf (cond b (intCell x) ((t + 1) * 0x1000000000000000)) ≤ 6)
+    by true e = omega arith
+    by false e = omega (arith, eqb-false t 4 e)
 
 slots-entry : (k : ℕ) (es : List Entry) (n : ℕ) → getD (map slotOf es ++ replicate k 0) n 0 ≡ slotOr (entryOf es (suc n))
 unfolding entryOf

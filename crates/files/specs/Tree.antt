@@ -4,6 +4,7 @@ use mathlib.Core.Bool.{cond, _&&_}
 use mathlib.Core.List.{List, [], _∷_}
 use lib.ListN.{length}
 use lib.Dec.{leb}
+use Rattle.cells.specs.Numbers.{tooLong}
 use Rattle.files.specs.Code.{Code}
 use Rattle.files.specs.Reading.{Got, got, refused, listAt}
 use Rattle.files.specs.Entries.{Entry, then, field, valid, entriesAt, toByte, zeroBits, nothingMore}
@@ -34,4 +35,4 @@ unfoldable pub treeRead : List ℕ → Got (List Template)
 treeRead s =
     cond (leb (length s) 65536)
     (then (field s 0 8) (λ T p. valid 0 (leb 1 T && leb T 64) (then (templatesAt s T 0 T p) (λ ts q. paddedEnd s ts q))))
-    (refused 1 0)
+    (refused tooLong 0)

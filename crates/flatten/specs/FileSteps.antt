@@ -13,6 +13,7 @@ use Rattle.files.specs.Reading.{got, refused}
 use Rattle.files.specs.Entries.{then}
 use Rattle.files.specs.Grammar.{lowest}
 use Rattle.files.specs.Flat.{offsetTemplate}
+use Rattle.files.specs.AcceptedLaws.{lowest-none}
 use Rattle.files.specs.Accepted.{flatChecked}
 use Rattle.files.specs.Linear.{templateBytes, templatesBytes, linearFile}
 use Rattle.files.specs.Tree.{Template, templatesAt, treeRead}

@@ -4,6 +4,7 @@ use mathlib.Core.Bool.{cond}
 use mathlib.Core.List.{List, _++_}
 use lib.ListN.{length, drop}
 use lib.Dec.{leb}
+use Rattle.cells.specs.Numbers.{shortOutput}
 use Rattle.files.specs.Reading.{Got, got, refused}
 use Rattle.files.specs.Entries.{then}
 use Rattle.files.specs.Accepted.{flatChecked}
@@ -13,7 +14,7 @@ use Rattle.flatten.specs.declared.Flattened.the-variants.{Written, Refus
 
 -- 9, last: an output of n bytes that is shorter than the linear file; the place is the bytes needed
 unfoldable pub intoBytes : ℕ → List ℕ → ℕ → Got (List ℕ)
-intoBytes n w q = cond (leb (length w) n) (got w q) (refused 9 (length w))
+intoBytes n w q = cond (leb (length w) n) (got w q) (refused shortOutput (length w))
 
 -- the linear file of the tree file s, for an output of n bytes
 unfoldable pub flattened : List ℕ → ℕ → Got (List ℕ)

@@ -1,10 +1,9 @@
 -- How make-cont and return end, and what their functions answer.
 use mathlib.Core.List.{List}
-use Prim.Native.Nat.{ℕ, _+_, _≤_}
-use lib.Dec.{leb, eqb}
-use Rattle.rules.specs.State.{Mem, Res, ok, wrong, need}
+use Prim.Native.Nat.{ℕ, _≤_}
+use Rattle.rules.specs.State.{Mem, Res, ok, wrong}
 use Rattle.rules.specs.Fit.{Fit}
-use Rattle.rules.specs.Rules.{Data, withCell, Back, noFrame, backTo, lastFrame}
+use Rattle.rules.specs.Rules.{Data, Back, noFrame, backTo, lastFrame}
 use Rattle.rules.specs.declared.Regs.{Regs}
 use Rattle.frames.specs.declared.Kept.{Kept}
 use Rattle.frames.specs.declared.Kept.the-variants.{On, Wrong}
@@ -17,10 +16,6 @@ state r m f n = record { regs = r; mem = m; frames = f; fr = n }
 -- what a function answers, and the cells that it leaves
 pub data Left (A : Type 0) : Type 0 where
   left : A → Mem → List ℕ → Left A
-
--- make-cont with the cell x of its frame made already
-unfoldable pub keepRule : ℕ → ℕ → Data → Res Data
-keepRule n x d = need (eqb (d .regs .sp) n) 10 (need (leb (d .fr + n + 1) 2048) 18 (ok (withCell n x d)))
 
 -- how make-cont ends that begins with the state d
 unfoldable pub toldKept : Data → Res Data → Left Kept

@@ -5,8 +5,8 @@ ghost use Prim.Native.Nat.{ℕ, _-_, _≤_};
 ghost use lib.ListN.{length};
 ghost use Rattle.rules.specs.State.{mem};
 ghost use Rattle.rules.specs.Fit.{Fit};
-ghost use Rattle.rules.specs.Rules.{returnRule};
-ghost use Rattle.frames.specs.Ends.{state, left, keepRule, endsKept, endsBack, KeptFit, BackFit};
+ghost use Rattle.rules.specs.Rules.{keepRule, returnRule};
+ghost use Rattle.frames.specs.Ends.{state, left, endsKept, endsBack, KeptFit, BackFit};
 use rules::Regs;
 
 // How make-cont ends: on with these registers and so many frame cells in use, or wrong with its number and nothing changed.

@@ -8,7 +8,7 @@ use lib.Seq.{sets}
 use lib.Dec.{leb}
 use Rattle.files.specs.Reading.{Got, got, refused}
 use Rattle.files.specs.Entries.{Entry, then, field, toByte, zeroBits}
-use Rattle.files.specs.Linear.{Linear, codeAt, linearAt}
+use Rattle.files.specs.Linear.{Linear, codeAt, linearTemplateAt}
 use Rattle.files.specs.EntriesRead.{slotsAt}
 use Rattle.linear.specs.declared.Part.{Part}
 use Rattle.linear.specs.declared.Part.the-variants.{Read, Refused}
@@ -49,7 +49,7 @@ entriesFilled s own T (got n q) table = sets table (256 * own + 1) (slotsAt s ow
 entriesFilled s own T (refused n p) table = table
 
 unfoldable pub templateFilled : List ℕ → ℕ → ℕ → ℕ → List ℕ → List ℕ
-templateFilled s own T p table = codeFilled own (linearAt s own T p) (entriesFilled s own T (field s p 8) table)
+templateFilled s own T p table = codeFilled own (linearTemplateAt s own T p) (entriesFilled s own T (field s p 8) table)
 
 -- on with the next template where this one was read
 unfoldable pub filledThen : Got Linear → (ℕ → List ℕ → List ℕ) → List ℕ → List ℕ
@@ -59,7 +59,7 @@ filledThen (refused n p) f table = table
 -- by n templates from number own on
 unfoldable pub templatesFilled : List ℕ → ℕ → ℕ → ℕ → ℕ → List ℕ → List ℕ
 templatesFilled s T own zero p table = table
-templatesFilled s T own (suc n) p table = filledThen (linearAt s own T p) (templatesFilled s T (own + 1) n) (templateFilled s own T p table)
+templatesFilled s T own (suc n) p table = filledThen (linearTemplateAt s own T p) (templatesFilled s T (own + 1) n) (templateFilled s own T p table)
 
 -- by what T is read as
 unfoldable pub countFilled : List ℕ → Got ℕ → List ℕ → List ℕ

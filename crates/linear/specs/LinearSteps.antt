@@ -6,6 +6,7 @@ use mathlib.Core.List.{List, _∷_}
 use borrow.Author.Tests.{le-leb, lt-leb}
 use lib.ListN.{length, set, take, drop, length-take, length-drop}
 use lib.Seq.{sets}
+use Rattle.cells.specs.Laws.{clash}
 use Rattle.cells.specs.declared.BitPlace.{BitPlace}
 use Rattle.files.specs.declared.Padding.{Padding}
 use Rattle.files.specs.declared.Padding.the-variants.{Zero, Refused as Set}
@@ -14,7 +15,7 @@ use Rattle.files.specs.Entries.{Entry, then, field, entriesAt, toByte, zeroBits
 use Rattle.files.specs.EntriesRead.{paddingTold, slotsAt}
 use Rattle.files.specs.PaddingSteps.{zero-told, nothing-told}
 use Rattle.files.specs.AllGot.{linears-read}
-use Rattle.files.specs.Linear.{Linear, codeAt, linearAt, linearsAt, linearRead}
+use Rattle.files.specs.Linear.{Linear, codeAt, linearTemplateAt, linearTemplatesAt, linearRead}
 use Rattle.linear.specs.declared.Part.{Part}
 use Rattle.linear.specs.declared.Part.the-variants.{Read, Refused}
 use Rattle.linear.specs.declared.LinearFile.{LinearFile}
@@ -32,11 +33,11 @@ module _ {A : Type 0} where
   pub part-told : (g : Got A) {q : BitPlace} → partTold g ≡ Read q → ReadPart g q
   unfolding partTold
   part-told (got a z) {q} h = let k : _≡_ {A = BitPlace} (record { 0 = z }) q = cc in record { part = a; is = ap (λ (b : BitPlace). got a (b .0)) k }
-  part-told (refused n z) h = let z : _≡_ {A = ℕ} 0 1 = cc in absurd (omega arith)
+  part-told (refused n z) h = clash (cc)
 
   pub part-refused : (g : Got A) {n : ℕ} {p : BitPlace} → partTold g ≡ Refused n p → g ≡ refused n (p .0)
   unfolding partTold
-  part-refused (got a z) h = let z : _≡_ {A = ℕ} 0 1 = cc in absurd (omega arith)
+  part-refused (got a z) h = clash (cc)
   part-refused (refused m z) {n} {p} h = let k : _≡_ {A = BitPlace} (record { 0 = z }) p = cc in let i : m ≡ n = cc in rw (i, ← k)
 
 -- ---- what follows the entries es, which end at p, by the answer z that reading the padding gave
@@ -81,37 +82,37 @@ module _ (own : ℕ) (table : List ℕ) (f : List Entry → Got Linear) where
 module _ (s : List ℕ) (own T p : ℕ) (table : List ℕ) where
   -- the answer r and the table t that its reader leaves
   abbrev pub TemplateDone : Part → List ℕ → Type 0
-  TemplateDone r t = (r ≡ partTold (linearAt s own T p)) × (t ≡ templateFilled s own T p table)
+  TemplateDone r t = (r ≡ partTold (linearTemplateAt s own T p)) × (t ≡ templateFilled s own T p table)
 
   pub entries-cut : field s p 8 ≡ refused 2 p → TemplateDone (Refused 2 (record { 0 = p })) table
-  unfolding linearAt then partTold templateFilled codeFilled entriesFilled
+  unfolding linearTemplateAt then partTold templateFilled codeFilled entriesFilled
   entries-cut e = rw e (refl, refl)
 
   module _ {n q : ℕ} {t : List ℕ} (number : field s p 8 ≡ got n q) (stored : t ≡ sets table (256 * own + 1) (slotsAt s own T n q)) where
     pub entries-stop : {m : ℕ} {x : BitPlace} → entriesAt s own T n q ≡ refused m (x .0) → TemplateDone (Refused m x) t
-    unfolding linearAt then partTold templateFilled codeFilled entriesFilled
+    unfolding linearTemplateAt then partTold templateFilled codeFilled entriesFilled
     entries-stop e = rw (number, e) (refl, stored)
 
     pub template-done : {es : List Entry} {r : ℕ} {z : Part} {u : List ℕ} → entriesAt s own T n q ≡ got es r → z ≡ partTold (paddedCode s es r) → u ≡ codeFilled own (paddedCode s es r) t → TemplateDone z u
-    unfolding linearAt then templateFilled entriesFilled paddedCode
+    unfolding linearTemplateAt then templateFilled entriesFilled paddedCode
     template-done e a b = rw (number, e) (a, rw (← stored) b)
 
 -- ---- templates own to T from p on
 module _ (s : List ℕ) (T own p : ℕ) (table : List ℕ) where
   abbrev pub LinearsDone : Part → List ℕ → Type 0
-  LinearsDone r t = (r ≡ partTold (linearsAt s T own (T - own) p)) × (t ≡ templatesFilled s T own (T - own) p table)
+  LinearsDone r t = (r ≡ partTold (linearTemplatesAt s T own (T - own) p)) × (t ≡ templatesFilled s T own (T - own) p table)
 
   pub linears-none : T ≤ own → LinearsDone (Read (record { 0 = p })) table
-  unfolding linearsAt templatesFilled partTold
+  unfolding linearTemplatesAt templatesFilled partTold
   linears-none h = let k : T - own ≡ 0 = omega arith in rw k (refl, refl)
 
   module _ {r : Part} {t : List ℕ} (less : own < T) (done : TemplateDone s own T p table r t) where
-    left : T - own ≡ suc (T - (own + 1))
-    left = omega arith
+    one-left : T - own ≡ suc (T - (own + 1))
+    one-left = omega arith
 
     pub linears-stop : {n : ℕ} {x : BitPlace} → r ≡ Refused n x → LinearsDone (Refused n x) t
-    unfolding linearsAt templatesFilled then filledThen partTold
-    linears-stop e = rw (left, part-refused (linearAt s own T p) (sym (done .0) ∙ e)) (refl, done .1)
+    unfolding linearTemplatesAt templatesFilled then filledThen partTold
+    linears-stop e = rw (one-left, part-refused (linearTemplateAt s own T p) (sym (done .0) ∙ e)) (refl, done .1)
 
     told-more : (a : Linear) (g : Got (List Linear)) → partTold (then g (λ ts q. got (a ∷ ts) q)) ≡ partTold g
     unfolding then partTold
@@ -119,12 +120,12 @@ module _ (s : List ℕ) (T own p : ℕ) (table : List ℕ) where
     told-more a (refused n x) = refl
 
     pub linears-on : {q : BitPlace} → r ≡ Read q
-        → (partTold (linearsAt s T own (T - own) p) ≡ partTold (linearsAt s T (own + 1) (T - (own + 1)) (q .0)))
+        → (partTold (linearTemplatesAt s T own (T - own) p) ≡ partTold (linearTemplatesAt s T (own + 1) (T - (own + 1)) (q .0)))
         × (templatesFilled s T own (T - own) p table ≡ templatesFilled s T (own + 1) (T - (own + 1)) (q .0) t)
-    unfolding linearsAt templatesFilled then filledThen
+    unfolding linearTemplatesAt templatesFilled then filledThen
     linears-on {q} e =
-        let g = part-told (linearAt s own T p) (sym (done .0) ∙ e) in
-        rw (left, g .is) (told-more (g .part) (linearsAt s T (own + 1) (T - (own + 1)) (q .0)), ap (templatesFilled s T (own + 1) (T - (own + 1)) (q .0)) (sym (done .1)))
+        let g = part-told (linearTemplateAt s own T p) (sym (done .0) ∙ e) in
+        rw (one-left, g .is) (told-more (g .part) (linearTemplatesAt s T (own + 1) (T - (own + 1)) (q .0)), ap (templatesFilled s T (own + 1) (T - (own + 1)) (q .0)) (sym (done .1)))
 
 -- ---- the file
 module _ (s : List ℕ) (table : List ℕ) where
@@ -150,34 +151,34 @@ module _ (s : List ℕ) (table : List ℕ) where
         unfolding linearRead linearTold linearFilled countFilled then
         count-high h = rw (le-leb (length s) 262144 short, count, le-leb 1 T some, lt-leb T 64 h) (refl, refl)
 
-        module _ {r : Part} {t : List ℕ} (few : T ≤ 64) (done : (r ≡ partTold (linearsAt s T 0 T p)) × (t ≡ templatesFilled s T 0 T p table)) where
+        module _ {r : Part} {t : List ℕ} (few : T ≤ 64) (done : (r ≡ partTold (linearTemplatesAt s T 0 T p)) × (t ≡ templatesFilled s T 0 T p table)) where
           filled : t ≡ linearFilled s table
           unfolding linearFilled countFilled
           filled = rw (le-leb (length s) 262144 short, count, le-leb 1 T some, le-leb T 64 few) (done .1)
 
-          read : linearRead s ≡ then (linearsAt s T 0 T p) (λ ts q. nothingMore s q ts)
+          read : linearRead s ≡ then (linearTemplatesAt s T 0 T p) (λ ts q. nothingMore s q ts)
           unfolding linearRead then
           read = rw (le-leb (length s) 262144 short, count, le-leb 1 T some, le-leb T 64 few)
 
           pub templates-stop : {n : ℕ} {x : BitPlace} → r ≡ Refused n x → FileDone (RefusedFile n x) t
           unfolding linearTold then
-          templates-stop e = (rw (read, part-refused (linearsAt s T 0 T p) (sym (done .0) ∙ e)), filled)
+          templates-stop e = (rw (read, part-refused (linearTemplatesAt s T 0 T p) (sym (done .0) ∙ e)), filled)
 
           module _ {q : BitPlace} {z : Padding} (is : r ≡ Read q) (ending : z ≡ paddingTold (nothingMore s (q .0) (tt {0}))) where
-            read-ending : (g : ReadPart (linearsAt s T 0 T p) q) → linearRead s ≡ nothingMore s (q .0) (g .part)
+            read-ending : (g : ReadPart (linearTemplatesAt s T 0 T p) q) → linearRead s ≡ nothingMore s (q .0) (g .part)
             unfolding then
             read-ending g = rw (read, g .is)
 
             pub more-stop : {x : BitPlace} → z ≡ Set x → FileDone (RefusedFile 5 x) t
             unfolding linearTold
             more-stop e =
-                let g = part-told (linearsAt s T 0 T p) (sym (done .0) ∙ is) in
+                let g = part-told (linearTemplatesAt s T 0 T p) (sym (done .0) ∙ is) in
                 (rw (read-ending g, nothing-told (g .part) s (q .0) .set-read (sym ending ∙ e)), filled)
 
             pub file-done : {x : BitPlace} → z ≡ Zero x → FileDone (ReadFile T) t
             unfolding linearTold
             file-done e =
-                let g = part-told (linearsAt s T 0 T p) (sym (done .0) ∙ is) in
+                let g = part-told (linearTemplatesAt s T 0 T p) (sym (done .0) ∙ is) in
                 (rw (read-ending g, nothing-told (g .part) s (q .0) .zero-read (sym ending ∙ e), linears-read s T few T 0 p (g .is) .0), filled)
 
 -- ---- whether the file is accepted, by what its reader told

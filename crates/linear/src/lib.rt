@@ -8,7 +8,7 @@ ghost use mathlib.Core.List.{List};
 ghost use Prim.Native.Nat.{_+_, _*_, _≤_, _<_};
 ghost use lib.ListN.{length};
 ghost use Rattle.files.specs.Entries.{Entry};
-ghost use Rattle.files.specs.Linear.{linearAt, linearsAt, linearRead};
+ghost use Rattle.files.specs.Linear.{linearTemplateAt, linearTemplatesAt, linearRead};
 ghost use Rattle.linear.specs.Filled.{partTold, linearTold, checkedTold, paddedCode, codeFilled, templateFilled, templatesFilled, linearFilled};
 
 // What reading a part of the file finds: the place past it, or a refusal's number and place.
@@ -58,7 +58,7 @@ fn read_code(s: &[u8], table: &mut [u64], own: usize, at: BitPlace) -> Part
 // Template `own` of `count`: E, the entries, what follows them.
 fn read_template(s: &[u8], table: &mut [u64], own: usize, count: usize, at: BitPlace) -> Part
     requires { ⌜ (length (now s) ≤ 262144) × ((length (now table) ≡ 16384) × ((own < 64) × (count ≤ 64))) ⌝ }
-    ensures { λ r. ⌜ r ≡ partTold (linearAt (now (s .entry)) own count (at .0)) ⌝ }
+    ensures { λ r. ⌜ r ≡ partTold (linearTemplateAt (now (s .entry)) own count (at .0)) ⌝ }
     ensures { λ _. ⌜ now (table .exit) ≡ templateFilled (now (s .entry)) own count (at .0) (now (table .entry)) ⌝ }
 {
     let Field::Read(n, first) = fields::read_field(s, at, 8) else {
@@ -73,7 +73,7 @@ fn read_template(s: &[u8], table: &mut [u64], own: usize, count: usize, at: BitP
 // The `count` templates, from `at` on.
 fn read_templates(s: &[u8], table: &mut [u64], count: usize, at: BitPlace) -> Part
     requires { ⌜ (length (now s) ≤ 262144) × ((length (now table) ≡ 16384) × (count ≤ 64)) ⌝ }
-    ensures { λ r. ⌜ r ≡ partTold (linearsAt (now (s .entry)) count 0 count (at .0)) ⌝ }
+    ensures { λ r. ⌜ r ≡ partTold (linearTemplatesAt (now (s .entry)) count 0 count (at .0)) ⌝ }
     ensures { λ _. ⌜ now (table .exit) ≡ templatesFilled (now (s .entry)) count 0 count (at .0) (now (table .entry)) ⌝ }
 {
     let mut own: usize = 0;

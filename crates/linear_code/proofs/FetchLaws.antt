@@ -8,9 +8,10 @@ use lib.ListN.{length, getD, take, drop, length-take, length-drop, drop-of-lengt
 use lib.Seq.{take-nil, drop-cons, drop-drop, getD-take, getD-drop}
 use borrow.Author.Tests.{lt-ltb, le-ltb, le-leb, lt-leb, ne-eqb}
 use Rattle.runs.specs.Runs.{part}
+use Rattle.files.specs.Codes.{operandBytes}
 use Rattle.machines.specs.Fetched.{Fetched, returns, calls, branches, saves, jumps, bad, plainly, callIn, branchIn, contIn, jumpIn}
 use Rattle.machines.specs.Slots.{slotAt, slotResolve}
-use Rattle.linear_code.specs.Bytes.{operandCount, neutralBytes, codeBytes, decodeBytes, codeFrom, fetchBytes, codeStart, codeLength, Within, AllWithin}
+use Rattle.linear_code.specs.Bytes.{neutralBytes, codeBytes, decodeBytes, codeFrom, fetchBytes, codeStart, codeLength, Within, AllWithin}
 
 -- ---- cut
 pub call-cut : (w : List ℕ) → length w < 1 → bad ≡ callIn [] w
@@ -100,44 +101,15 @@ module _ (s : List ℕ) (i left : ℕ) (fits : i + left ≤ length s) where
         rw (offset-is (omega arith), ← part-at 2 h)
         (save-whole q (part s i left) (rw part-length h))
 
--- ---- how many operands
-module _ (op : ℕ) where
-  pub under-six : op < 6 → 0 ≡ operandCount op
-  unfolding operandCount
-  under-six h = rw (lt-ltb op 6 h)
-
-  module _ (h₁ : 6 ≤ op) where
-    pub under-ten : op < 10 → 1 ≡ operandCount op
-    unfolding operandCount
-    under-ten h = rw (le-ltb op 6 h₁, lt-ltb op 10 h)
-
-    module _ (h₂ : 10 ≤ op) where
-      pub under-twelve : op < 12 → 2 ≡ operandCount op
-      unfolding operandCount
-      under-twelve h = rw (le-ltb op 6 h₁, le-ltb op 10 h₂, lt-ltb op 12 h)
-
-      module _ (h₃ : 12 ≤ op) where
-        pub thirteen : op ≡ 13 → 1 ≡ operandCount op
-        unfolding operandCount
-        thirteen e = rw (e)
-
-        pub sixteen : (op ≡ 13 → ⊥) → op ≡ 16 → 1 ≡ operandCount op
-        unfolding operandCount
-        sixteen h₄ e = rw (e)
-
-        pub no-operand : (op ≡ 13 → ⊥) → (op ≡ 16 → ⊥) → 0 ≡ operandCount op
-        unfolding operandCount
-        no-operand h₄ h₅ = rw (le-ltb op 6 h₁, le-ltb op 10 h₂, le-ltb op 12 h₃, ne-eqb op 13 h₄, ne-eqb op 16 h₅)
-
 -- ---- a neutral code
-module _ (slot : ℕ → ℕ) (q op n : ℕ) (w : List ℕ) (e : n ≡ operandCount op) where
+module _ (slot : ℕ → ℕ) (q op n : ℕ) (w : List ℕ) (e : n ≡ operandBytes op) where
   pub neutral-cut : length w < n → bad ≡ neutralBytes slot q op w
   unfolding neutralBytes
-  neutral-cut h = rw (lt-leb (operandCount op) (length w) (omega arith))
+  neutral-cut h = rw (lt-leb (operandBytes op) (length w) (omega arith))
 
   pub neutral-whole : (a b : ℕ) → a ≡ getD w 0 0 → b ≡ getD w 1 0 → n ≤ length w → plainly (slotResolve slot op a b) (q + (1 + n)) ≡ neutralBytes slot q op w
   unfolding neutralBytes
-  neutral-whole a b i j h = rw (le-leb (operandCount op) (length w) (omega arith), i, j, e)
+  neutral-whole a b i j h = rw (le-leb (operandBytes op) (length w) (omega arith), i, j, e)
 
 -- ---- a place of a template's code
 drop-take : (k n : ℕ) (l : List ℕ) → drop k (take n l) ≡ take (n - k) (drop k l)

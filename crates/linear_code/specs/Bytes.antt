@@ -3,20 +3,17 @@ use Prim.Native.Nat.{ℕ, _+_, _/_, _%_, _<_, _≤_}
 use mathlib.Core.Path.{_≡_}
 use mathlib.Core.Bool.{cond}
 use mathlib.Core.List.{List, [], _∷_}
-use lib.Dec.{ltb, leb, eqb}
+use lib.Dec.{leb, eqb}
 use lib.ListN.{length, getD, take, drop}
+use Rattle.files.specs.Codes.{operandBytes}
 use Rattle.machines.specs.Fetched.{Fetched, returns, bad, plainly, callIn, branchIn, contIn, jumpIn}
 use Rattle.machines.specs.Machine.{Program}
 use Rattle.machines.specs.Slots.{slotAt, slotResolve}
 
 -- ---- an instruction at place q: its code, the bytes after it, and the slots of the template's row
--- how many operand bytes a neutral code has; 0 where it is none
-unfoldable pub operandCount : ℕ → ℕ
-operandCount op = cond (ltb op 6) 0 (cond (ltb op 10) 1 (cond (ltb op 12) 2 (cond (eqb op 13) 1 (cond (eqb op 16) 1 0))))
-
 unfoldable pub neutralBytes : (ℕ → ℕ) → ℕ → ℕ → List ℕ → Fetched
 neutralBytes slot q op w =
-    cond (leb (operandCount op) (length w)) (plainly (slotResolve slot op (getD w 0 0) (getD w 1 0)) (q + (1 + operandCount op))) bad
+    cond (leb (operandBytes op) (length w)) (plainly (slotResolve slot op (getD w 0 0) (getD w 1 0)) (q + (1 + operandBytes op))) bad
 
 unfoldable pub codeBytes : (ℕ → ℕ) → ℕ → ℕ → List ℕ → Fetched
 unfolding neutralBytes

@@ -1,19 +1,23 @@
 -- What the bytes and the table's slots say is what the entries say. Assumes nothing.
 use Prim.Native.Nat.{ℕ, zero, suc, _<_, _≤_}
-use mathlib.Core.Path.{_≡_, refl, sym, _∙_}
+use mathlib.Core.Path.{_≡_, refl, sym, ap, ap₂, _∙_}
 use mathlib.Core.Bool.{Bool, true, false, cond}
 use mathlib.Core.List.{List, [], _∷_}
-use mathlib.Core.Option.{none}
+use mathlib.Core.Option.{Option, none, some}
 use native.Mathlib.Omega.{arith}
-use lib.Dec.{leb}
-use lib.ListN.{length, getD, take, replicate}
+use lib.Dec.{leb, eqb}
+use lib.ListN.{length, getD, take}
 use lib.Seq.{getD-take}
-use borrow.Author.Tests.{ne-eqb, le-leb}
-use Rattle.files.specs.Codes.{shapeOf, isNeutral, operands}
+use borrow.Author.Tests.{ne-eqb, eqb-true}
+use Rattle.cells.specs.Laws.{clash}
+use Rattle.files.specs.Codes.{shapeOf, isNeutral, operandBytes}
+use Rattle.files.specs.CodesLaws.{neutral-six}
 use Rattle.files.specs.Entries.{Entry}
-use Rattle.machines.specs.Fetched.{bad, plainly, neutralIn, callIn, branchIn, contIn, jumpIn, decode}
-use Rattle.machines.specs.Slots.{slotResolve, RowStands, slot-resolve}
-use Rattle.linear_code.specs.Bytes.{operandCount, neutralBytes, codeBytes, decodeBytes, AllBytes}
+use Rattle.rules.specs.declared.Plain.{Plain}
+use Rattle.rules.specs.declared.Plain.the-variants.{Global, SetGlobal, Local, SetLocal, MakeEnv, CheckArgs}
+use Rattle.machines.specs.Fetched.{Named, asLiteral, asClosure, asGlobal, ruleOf, returns, bad, plainly, neutralIn, callIn, branchIn, contIn, jumpIn, decode}
+use Rattle.machines.specs.Slots.{slotNames, slotResolve, RowStands, slot-resolve}
+use Rattle.linear_code.specs.Bytes.{neutralBytes, codeBytes, decodeBytes, AllBytes}
 
 either-bad : (b : Bool) → cond b bad bad ≡ bad
 either-bad true = refl
@@ -24,69 +28,102 @@ first-byte zero w h = omega arith
 first-byte (suc k) [] h = omega arith
 first-byte (suc k) (x ∷ w) h = h 0
 
--- no code is neutral from 23 on
-sixes : (k n : ℕ) → _≡_ {A = ℕ} (getD (replicate k 6) n 6) 6
-sixes zero n = refl
-sixes (suc k) zero = refl
-sixes (suc k) (suc n) = sixes k n
+-- ---- a rule looks at no more operands than its code has
+module _ (named : ℕ → Named) (op : ℕ) (w : List ℕ) where
+  abbrev own : List ℕ
+  own = take (operandBytes op) w
+
+  -- operand i of code k is one that it has
+  operand-same : (k i : ℕ) → i < operandBytes k → op ≡ k → getD w i 0 ≡ getD own i 0
+  operand-same k i h e = sym (getD-take (operandBytes op) w i 0 (rw e h))
+
+  or : (k : ℕ) {x x′ y y′ : Option Plain} → (op ≡ k → x ≡ x′) → y ≡ y′ → cond (eqb op k) x y ≡ cond (eqb op k) x′ y′
+  or k {x} {x′} {y} {y′} f e = by (eqb op k) refl
+    where
+      by : (b : Bool) → eqb op k ≡ b → cond b x y ≡ cond b x′ y′
+      by true i = f (eqb-true op k i)
+      by false i = e
+
+  -- a rule with no operand, one or two
+  with-none : {x : Option Plain} (k : ℕ) → op ≡ k → x ≡ x
+  with-none k e = refl
+
+  with-one : (f : ℕ → Option Plain) (k : ℕ) → 0 < operandBytes k → op ≡ k → f (getD w 0 0) ≡ f (getD own 0 0)
+  with-one f k h e = ap f (operand-same k 0 h e)
+
+  with-two : (f : ℕ → ℕ → Option Plain) (k : ℕ) → 1 < operandBytes k → op ≡ k → f (getD w 0 0) (getD w 1 0) ≡ f (getD own 0 0) (getD own 1 0)
+  with-two f k h e = ap₂ f (operand-same k 0 (omega arith) e) (operand-same k 1 h e)
+
+  rule-uses : ruleOf named op (getD w 0 0) (getD w 1 0) ≡ ruleOf named op (getD own 0 0) (getD own 1 0)
+  unfolding ruleOf operandBytes
+  rule-uses =
+      or 6 (with-one (λ a. asLiteral (named a)) 6 (omega arith))
+      (or 7 (with-one (λ a. asClosure (named a)) 7 (omega arith))
+      (or 8 (with-one (λ a. asGlobal Global (named a)) 8 (omega arith))
+      (or 9 (with-one (λ a. asGlobal SetGlobal (named a)) 9 (omega arith))
+      (or 10 (with-two (λ a b. some (Local a b)) 10 (omega arith))
+      (or 11 (with-two (λ a b. some (SetLocal a b)) 11 (omega arith))
+      (or 12 (with-none 12)
+      (or 13 (with-one (λ a. some (MakeEnv a)) 13 (omega arith))
+      (or 15 (with-none 15)
+      (or 16 (with-one (λ a. some (CheckArgs a)) 16 (omega arith))
+      (or 18 (with-none 18)
+      (or 19 (with-none 19)
+      (or 20 (with-none 20)
+      (or 21 (with-none 21)
+      (or 22 (with-none 22) refl))))))))))))))
+
+-- only a neutral code has a rule
+no-rule : (named : ℕ → Named) (op a b : ℕ) → isNeutral op ≡ false → ruleOf named op a b ≡ none
+unfolding ruleOf isNeutral shapeOf
+no-rule named op a b h =
+    rw (
+      other 6 refl,
+      other 7 refl,
+      other 8 refl,
+      other 9 refl,
+      other 10 refl,
+      other 11 refl,
+      other 12 refl,
+      other 13 refl,
+      other 15 refl,
+      other 16 refl,
+      other 18 refl,
+      other 19 refl,
+      other 20 refl,
+      other 21 refl,
+      other 22 refl,
+    )
+  where
+    other : (k : ℕ) → isNeutral k ≡ true → eqb op k ≡ false
+    other k i = ne-eqb op k (λ e. let z : true ≡ false = sym i ∙ ap isNeutral (sym e) ∙ h in clash (cc))
 
 module _ (slot : ℕ → ℕ) (es : List Entry) (row : RowStands slot es) (q : ℕ) where
-  -- the operands of the code are all that it looks at
-  abbrev Uses : ℕ → List ℕ → Type 0
-  Uses op w = slotResolve slot op (getD w 0 0) (getD w 1 0) ≡ slotResolve slot op (getD (take (operands op) w) 0 0) (getD (take (operands op) w) 1 0)
+  neutral-bytes : (op : ℕ) (w : List ℕ) → AllBytes w → neutralBytes slot q op w ≡ neutralIn es q op w
+  unfolding neutralBytes neutralIn slotResolve
+  neutral-bytes op w h =
+      rw (rule-uses (λ n. slotNames (slot n)) op w ∙ slot-resolve slot es op (take (operandBytes op) w) row (first-byte (operandBytes op) w h))
 
-  neutral-bytes : (op : ℕ) (w : List ℕ) → AllBytes w → operandCount op ≡ operands op → Uses op w → neutralBytes slot q op w ≡ neutralIn es q op w
-  unfolding neutralBytes neutralIn
-  neutral-bytes op w h n e =
-      rw (n, e ∙ slot-resolve slot es op (take (operands op) w) row (first-byte (operands op) w h))
-
-  not-neutral : (op : ℕ) (w : List ℕ) → slotResolve slot op (getD w 0 0) (getD w 1 0) ≡ none → neutralBytes slot q op w ≡ bad
-  unfolding neutralBytes plainly
-  not-neutral op w e = rw e (either-bad (leb (operandCount op) (length w)))
-
-  one-operand : (w : List ℕ) → getD w 0 0 ≡ getD (take 1 w) 0 0
-  one-operand w = sym (getD-take 1 w 0 0 (omega arith))
-
-  two-operands : (w : List ℕ) (i : ℕ) → i < 2 → getD w i 0 ≡ getD (take 2 w) i 0
-  two-operands w i h = sym (getD-take 2 w i 0 h)
-
-  no-neutral : (op a b : ℕ) → 23 ≤ op → slotResolve slot op a b ≡ none
-  unfolding slotResolve
-  no-neutral op a b h =
-      rw (ne-eqb op 6 (λ e. omega arith), ne-eqb op 7 (λ e. omega arith), ne-eqb op 8 (λ e. omega arith), ne-eqb op 9 (λ e. omega arith), ne-eqb op 10 (λ e. omega arith), ne-eqb op 11 (λ e. omega arith), ne-eqb op 12 (λ e. omega arith), ne-eqb op 13 (λ e. omega arith), ne-eqb op 15 (λ e. omega arith), ne-eqb op 16 (λ e. omega arith), ne-eqb op 18 (λ e. omega arith), ne-eqb op 19 (λ e. omega arith), ne-eqb op 20 (λ e. omega arith), ne-eqb op 21 (λ e. omega arith), ne-eqb op 22 (λ e. omega arith))
-
-  beyond : (op : ℕ) (w : List ℕ) → 23 ≤ op → shapeOf op ≡ 6 → codeBytes slot q op w ≡ decode es q (op ∷ w)
-  unfolding codeBytes decode isNeutral
-  beyond op w h e =
-      rw (ne-eqb op 1 (λ e. omega arith), ne-eqb op 2 (λ e. omega arith), ne-eqb op 3 (λ e. omega arith), ne-eqb op 4 (λ e. omega arith), ne-eqb op 5 (λ e. omega arith), e, le-leb 6 op (omega arith))
-      (not-neutral op w (no-neutral op (getD w 0 0) (getD w 1 0) h))
+  no-bytes : (op : ℕ) (w : List ℕ) → isNeutral op ≡ false → neutralBytes slot q op w ≡ bad
+  unfolding neutralBytes slotResolve plainly
+  no-bytes op w h = rw (no-rule (λ n. slotNames (slot n)) op (getD w 0 0) (getD w 1 0) h) (either-bad (leb (operandBytes op) (length w)))
 
   code-bytes : (op : ℕ) (w : List ℕ) → AllBytes w → codeBytes slot q op w ≡ decode es q (op ∷ w)
-  unfolding codeBytes decode isNeutral operandCount operands shapeOf slotResolve callIn branchIn contIn jumpIn
-  code-bytes zero w h = not-neutral 0 w refl
-  code-bytes (suc zero) w h = refl
-  code-bytes (suc (suc zero)) w h = refl
-  code-bytes (suc (suc (suc zero))) w h = refl
-  code-bytes (suc (suc (suc (suc zero)))) w h = refl
-  code-bytes (suc (suc (suc (suc (suc zero))))) w h = refl
-  code-bytes (suc (suc (suc (suc (suc (suc zero)))))) w h = neutral-bytes 6 w h refl (rw (one-operand w))
-  code-bytes (suc (suc (suc (suc (suc (suc (suc zero))))))) w h = neutral-bytes 7 w h refl (rw (one-operand w))
-  code-bytes (suc (suc (suc (suc (suc (suc (suc (suc zero)))))))) w h = neutral-bytes 8 w h refl (rw (one-operand w))
-  code-bytes (suc (suc (suc (suc (suc (suc (suc (suc (suc zero))))))))) w h = neutral-bytes 9 w h refl (rw (one-operand w))
-  code-bytes (suc (suc (suc (suc (suc (suc (suc (suc (suc (suc zero)))))))))) w h = neutral-bytes 10 w h refl (rw (two-operands w 0 (omega arith), two-operands w 1 (omega arith)))
-  code-bytes (suc (suc (suc (suc (suc (suc (suc (suc (suc (suc (suc zero))))))))))) w h = neutral-bytes 11 w h refl (rw (two-operands w 0 (omega arith), two-operands w 1 (omega arith)))
-  code-bytes (suc (suc (suc (suc (suc (suc (suc (suc (suc (suc (suc (suc zero)))))))))))) w h = neutral-bytes 12 w h refl refl
-  code-bytes (suc (suc (suc (suc (suc (suc (suc (suc (suc (suc (suc (suc (suc zero))))))))))))) w h = neutral-bytes 13 w h refl (rw (one-operand w))
-  code-bytes (suc (suc (suc (suc (suc (suc (suc (suc (suc (suc (suc (suc (suc (suc zero)))))))))))))) w h = not-neutral 14 w refl
-  code-bytes (suc (suc (suc (suc (suc (suc (suc (suc (suc (suc (suc (suc (suc (suc (suc zero))))))))))))))) w h = neutral-bytes 15 w h refl refl
-  code-bytes (suc (suc (suc (suc (suc (suc (suc (suc (suc (suc (suc (suc (suc (suc (suc (suc zero)))))))))))))))) w h = neutral-bytes 16 w h refl (rw (one-operand w))
-  code-bytes (suc (suc (suc (suc (suc (suc (suc (suc (suc (suc (suc (suc (suc (suc (suc (suc (suc zero))))))))))))))))) w h = not-neutral 17 w refl
-  code-bytes (suc (suc (suc (suc (suc (suc (suc (suc (suc (suc (suc (suc (suc (suc (suc (suc (suc (suc zero)))))))))))))))))) w h = neutral-bytes 18 w h refl refl
-  code-bytes (suc (suc (suc (suc (suc (suc (suc (suc (suc (suc (suc (suc (suc (suc (suc (suc (suc (suc (suc zero))))))))))))))))))) w h = neutral-bytes 19 w h refl refl
-  code-bytes (suc (suc (suc (suc (suc (suc (suc (suc (suc (suc (suc (suc (suc (suc (suc (suc (suc (suc (suc (suc zero)))))))))))))))))))) w h = neutral-bytes 20 w h refl refl
-  code-bytes (suc (suc (suc (suc (suc (suc (suc (suc (suc (suc (suc (suc (suc (suc (suc (suc (suc (suc (suc (suc (suc zero))))))))))))))))))))) w h = neutral-bytes 21 w h refl refl
-  code-bytes (suc (suc (suc (suc (suc (suc (suc (suc (suc (suc (suc (suc (suc (suc (suc (suc (suc (suc (suc (suc (suc (suc zero)))))))))))))))))))))) w h = neutral-bytes 22 w h refl refl
-  code-bytes (suc (suc (suc (suc (suc (suc (suc (suc (suc (suc (suc (suc (suc (suc (suc (suc (suc (suc (suc (suc (suc (suc (suc n))))))))))))))))))))))) w h = beyond (suc (suc (suc (suc (suc (suc (suc (suc (suc (suc (suc (suc (suc (suc (suc (suc (suc (suc (suc (suc (suc (suc (suc n))))))))))))))))))))))) w (omega arith) (sixes 9 n)
+  unfolding codeBytes decode callIn branchIn contIn jumpIn
+  code-bytes op w h = by (isNeutral op) refl
+    where
+      by : (b : Bool) → isNeutral op ≡ b → codeBytes slot q op w
+          ≡ cond b (neutralIn es q op w)
+          (cond (eqb op 1) returns
+          (cond (eqb op 2) (callIn es w)
+          (cond (eqb op 3) (branchIn es q w)
+          (cond (eqb op 4) (contIn es q w)
+          (cond (eqb op 5) (jumpIn es q w) bad)))))
+      by true e =
+          let k = neutral-six op e in
+          let past : (n : ℕ) → n < 6 → eqb op n ≡ false = λ n l. ne-eqb op n (λ z. omega arith) in
+          rw (past 1 (omega arith), past 2 (omega arith), past 3 (omega arith), past 4 (omega arith), past 5 (omega arith)) (neutral-bytes op w h)
+      by false e = rw (no-bytes op w e) refl
 
   -- THE LAW
   pub decode-bytes : (w : List ℕ) → AllBytes w → decodeBytes slot q w ≡ decode es q w

@@ -12,14 +12,14 @@ use Rattle.files.specs.Reading.{got, refused}
 use Rattle.files.specs.Entries.{Entry, then, field, valid, entriesAt, toByte, zeroBits, nothingMore}
 use Rattle.files.specs.EntriesLaws.{EntriesOk, then-field, entries-read}
 use Rattle.files.specs.Grammar.{entryOf}
-use Rattle.files.specs.Linear.{Linear, codeAt, linearAt, linearsAt, linearRead}
+use Rattle.files.specs.Linear.{Linear, codeAt, linearTemplateAt, linearTemplatesAt, linearRead}
 use Rattle.files.specs.Table.{rowOf, linearTable}
 use Rattle.files.specs.TableLaws.{Few, row-start, linearStart, linearEntries, linear-slot, linear-beyond}
 use Rattle.files.specs.AllGot.{AllGot, got-all, then-all, cond-all, nothing-all, zero-all, linear-read}
 use Rattle.rules.specs.Lists.{by-lt}
-use Rattle.machines.specs.Fetched.{Fetched, noLinear, linearAt as fetchLinear}
+use Rattle.machines.specs.Fetched.{Fetched, noLinear, linearAt}
 use Rattle.machines.specs.Machine.{linearProgram}
-use Rattle.machines.specs.Slots.{slotAt, Stands, RowStands, row-stands}
+use Rattle.machines.specs.Slots.{slotAt, SlotStands, RowStands, row-stands}
 use Rattle.linear_code.specs.Bytes.{codeFrom, fetchBytes, codeStart, codeLength, bytesProgram, Within, AllWithin, AllBytes}
 use Rattle.linear_code.specs.BytesLaws.{decode-bytes}
 
@@ -52,8 +52,8 @@ module _ (s : List ℕ) (T : ℕ) (few : T ≤ 64) where
       record { own = own; count = T; entries-ok = h; begins = omega arith; ends = rw k (omega arith); code-is = rw k })
       (λ e. tt)
 
-  linear-good : (own p : ℕ) → AllGot (GoodLinear s) (linearAt s own T p)
-  unfolding linearAt
+  linear-good : (own p : ℕ) → AllGot (GoodLinear s) (linearTemplateAt s own T p)
+  unfolding linearTemplateAt
   linear-good own p =
       then-all (GoodLinear s) (field s p 8) _
       (λ n q e. then-all (GoodLinear s) (entriesAt s own T n q) _
@@ -61,12 +61,12 @@ module _ (s : List ℕ) (T : ℕ) (few : T ≤ 64) where
       (λ fs u e₃. then-field (AllGot (GoodLinear s)) s u 24 _ tt
       (λ i. code-good own _ (u + 24) fs (got-all (EntriesOk own T) (zero-all (EntriesOk own T) s (toByte r) r es (entries-read s own T few n q e₂ .ok)) e₃) (omega arith)))))
 
-  linears-good : (n own p : ℕ) → AllGot (AllGood s) (linearsAt s T own n p)
-  unfolding linearsAt
+  linears-good : (n own p : ℕ) → AllGot (AllGood s) (linearTemplatesAt s T own n p)
+  unfolding linearTemplatesAt
   linears-good zero own p = tt
   linears-good (suc n) own p =
-      then-all (AllGood s) (linearAt s own T p) _
-      (λ t q e. then-all (AllGood s) (linearsAt s T (own + 1) n q) _
+      then-all (AllGood s) (linearTemplateAt s own T p) _
+      (λ t q e. then-all (AllGood s) (linearTemplatesAt s T (own + 1) n q) _
       (λ ts r e₂. (got-all (GoodLinear s) (linear-good own p) e, got-all (AllGood s) (linears-good n (own + 1) q) e₂)))
 
 abbrev Accepted : List ℕ → List Linear → Type 0
@@ -82,9 +82,9 @@ accepted s e =
     (λ i. tt)) e
   where
     counted : (T p : ℕ) → length s ≤ 262144 → (a b : Bool) → leb T 64 ≡ b
-        → AllGot (Accepted s) (valid 0 (a && b) (then (linearsAt s T 0 T p) (λ ts q. nothingMore s q ts)))
+        → AllGot (Accepted s) (valid 0 (a && b) (then (linearTemplatesAt s T 0 T p) (λ ts q. nothingMore s q ts)))
     counted T p i true true b =
-        then-all (Accepted s) (linearsAt s T 0 T p) _
+        then-all (Accepted s) (linearTemplatesAt s T 0 T p) _
         (λ ts q e. nothing-all (Accepted s) s q ts (i, got-all (AllGood s) (linears-good s T (leb-true T 64 b) T 0 p) e))
     counted T p i true false b = tt
     counted T p i false y b = tt
@@ -156,10 +156,10 @@ module _ (s : List ℕ) (ts : List Linear) (short : length s ≤ 262144) (good :
 
   module _ (bytes : AllBytes s) (t q : ℕ) where
     abbrev Same : Type 0
-    Same = fetchBytes s table t (codeStart table t) (codeLength table t) q ≡ fetchLinear ts t q
+    Same = fetchBytes s table t (codeStart table t) (codeLength table t) q ≡ linearAt ts t q
 
     there-same : t < length ts → Same
-    unfolding fetchBytes fetchLinear
+    unfolding fetchBytes linearAt
     there-same l =
         let g = good-at s ts t noLinear good l in
         let x : Linear = getD ts t noLinear in
@@ -167,13 +167,13 @@ module _ (s : List ℕ) (ts : List Linear) (short : length s ≤ 262144) (good :
         rw (there-code t l) (decode-bytes (slotAt table t) (x .entries) (there-row t l) q (drop q (x .code)) (drop-bytes q (x .code) b))
 
     nowhere-same : length ts ≤ t → Same
-    unfolding fetchBytes fetchLinear codeFrom Stands entryOf
+    unfolding fetchBytes linearAt codeFrom SlotStands entryOf
     nowhere-same l =
         let k = nowhere-start t l in
         rw (k .0, List·getD-eq-default ts noLinear l)
         (decode-bytes (slotAt table t) [] (λ n m. nowhere-stands n) q (drop q (1 ∷ [])) (drop-bytes q (1 ∷ []) single))
       where
-        nowhere-stands : (n : ℕ) → Stands (slotAt table t n) (entryOf [] n)
+        nowhere-stands : (n : ℕ) → SlotStands (slotAt table t n) (entryOf [] n)
         nowhere-stands zero = rw (nowhere-slot t l zero)
         nowhere-stands (suc n) = rw (nowhere-slot t l (suc n))
 

@@ -4,6 +4,7 @@ use mathlib.Core.Path.{_≡_, refl, sym, ap, _∙_}
 use mathlib.Core.List.{List}
 use native.Mathlib.Omega.{arith}
 use lib.ListN.{length}
+use Rattle.cells.specs.Laws.{clash}
 use Rattle.cells.specs.declared.BitPlace.{BitPlace}
 use Rattle.files.specs.Reading.{Got, got, refused}
 use Rattle.files.specs.Linear.{Linear, linearRead}
@@ -29,11 +30,11 @@ record WasRead (g : Got (List Linear)) : Type 0 where
 was-read : (g : Got (List Linear)) (n : ℕ) → Read n ≡ linearTold g → WasRead g
 unfolding linearTold
 was-read (got ts q) n e = record { templates = ts; past = q; is = refl }
-was-read (refused m p) n e = let z : _≡_ {A = ℕ} 0 1 = cc in absurd (omega arith)
+was-read (refused m p) n e = clash (cc)
 
 was-refused : (g : Got (List Linear)) (n : ℕ) (p : BitPlace) → Refused n p ≡ linearTold g → g ≡ refused n (p .0)
 unfolding linearTold
-was-refused (got ts q) n p e = let z : _≡_ {A = ℕ} 0 1 = cc in absurd (omega arith)
+was-refused (got ts q) n p e = clash (cc)
 was-refused (refused m q) n p e = let k : _≡_ {A = BitPlace} p (record { 0 = q }) = cc in let i : n ≡ m = cc in rw (i, k)
 
 pub table-long : (table : List ℕ) → table ≡ zeros 16384 → length table ≡ 16384

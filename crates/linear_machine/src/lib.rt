@@ -7,7 +7,7 @@ use machines::Start;
 ghost use mathlib.Core.Path.{_≡_};
 ghost use Rattle.files.specs.Linear.{linearRead};
 ghost use Rattle.machines.specs.Runs.{memory, ran, startState, onLinear, linearRun};
-ghost use Rattle.machines.specs.Start.{zeros, Startable};
+ghost use Rattle.machines.specs.Start.{zeros, MayStart};
 ghost use Rattle.machines.specs.Steps.{ranFrom};
 ghost use Rattle.linear_code.specs.Bytes.{bytesProgram, AllWithin};
 
@@ -21,7 +21,7 @@ fn run_read(
     store: &mut [u64],
     frames: &mut [u64],
 ) -> Run
-    requires { ⌜ Startable 2000000 budget (memory (now globals) (now stack) (now store) (now frames)) × AllWithin (now file) (now table) ⌝ }
+    requires { ⌜ MayStart 2000000 budget (memory (now globals) (now stack) (now store) (now frames)) × AllWithin (now file) (now table) ⌝ }
     ensures { λ x. ⌜ ran x (memory (now (globals .exit)) (now (stack .exit)) (now (store .exit)) (now (frames .exit))) ≡ ranFrom (bytesProgram (now (file .entry)) (now (table .entry))) budget 0 (startState (now (globals .entry)) 0) ⌝ }
 {
     let no_links = [0u32; 1];
@@ -49,7 +49,7 @@ fn run_file(
     store: &mut [u64],
     frames: &mut [u64],
 ) -> Run
-    requires { ⌜ Startable 2000000 budget (memory (now globals) (now stack) (now store) (now frames)) × (now table ≡ zeros 16384) ⌝ }
+    requires { ⌜ MayStart 2000000 budget (memory (now globals) (now stack) (now store) (now frames)) × (now table ≡ zeros 16384) ⌝ }
     ensures { λ x. ⌜ ran x (memory (now (globals .exit)) (now (stack .exit)) (now (store .exit)) (now (frames .exit))) ≡ onLinear budget (memory (now (globals .entry)) (now (stack .entry)) (now (store .entry)) (now (frames .entry))) (linearRead (now (file .entry))) ⌝ }
 {
     match linear::read_linear(file, table) {
@@ -67,7 +67,7 @@ fn run_accepted(
     store: &mut [u64],
     frames: &mut [u64],
 ) -> Run
-    requires { ⌜ Startable 2000000 budget (memory (now globals) (now stack) (now store) (now frames)) ⌝ }
+    requires { ⌜ MayStart 2000000 budget (memory (now globals) (now stack) (now store) (now frames)) ⌝ }
     ensures { λ x. ⌜ ran x (memory (now (globals .exit)) (now (stack .exit)) (now (store .exit)) (now (frames .exit))) ≡ onLinear budget (memory (now (globals .entry)) (now (stack .entry)) (now (store .entry)) (now (frames .entry))) (linearRead (now (file .entry))) ⌝ }
 {
     let mut table = [0u64; 16384];

@@ -6,6 +6,7 @@ use mathlib.Core.List.{List}
 use borrow.Author.Tests.{le-leb}
 use lib.ListN.{length, take, drop}
 use lib.Seq.{take-at}
+use Rattle.cells.specs.Laws.{clash}
 use Rattle.files.specs.Reading.{Got, got, refused}
 use Rattle.files.specs.Entries.{then}
 use Rattle.files.specs.Tree.{Template}
@@ -50,7 +51,7 @@ module _ (s : List ℕ) (small : length s ≤ 4096) where
       where
         by : (g : Got (List ℕ)) → Short g → Written n ≡ answered g → n ≤ 16384
         by (got w q) h e = let same : n ≡ length w = cc in omega arith
-        by (refused m p) h e = let z : _≡_ {A = ℕ} 0 1 = cc in absurd (omega arith)
+        by (refused m p) h e = clash (cc)
 
     -- w: the output that held old
     pub accepted-lines : (old w : List ℕ) → w ≡ written old (flattened s 16384) → sheetLines s (linearOf s) ≡ acceptedLines s (take n w)
@@ -59,12 +60,12 @@ module _ (s : List ℕ) (small : length s ≤ 4096) where
       where
         by : (g : Got (List ℕ)) → Written n ≡ answered g → sheetLines s g ≡ acceptedLines s (take n (written old g))
         by (got v q) e = let same : length v ≡ n = cc in rw (take-at v (drop (length v) old) n same)
-        by (refused m p) e = let z : _≡_ {A = ℕ} 0 1 = cc in absurd (omega arith)
+        by (refused m p) e = clash (cc)
 
   pub refused-lines : (n p : ℕ) → Refused n p ≡ answered (flattened s 16384) → sheetLines s (linearOf s) ≡ refusedLine n p
   unfolding answered sheetLines
   refused-lines n p answer = by (linearOf s) (rw enough at answer)
     where
       by : (g : Got (List ℕ)) → Refused n p ≡ answered g → sheetLines s g ≡ refusedLine n p
-      by (got w q) e = let z : _≡_ {A = ℕ} 0 1 = cc in absurd (omega arith)
+      by (got w q) e = clash (cc)
       by (refused m o) e = let a : m ≡ n = cc in let b : o ≡ p = cc in rw (a, b)

@@ -1,24 +1,20 @@
 -- Bytes put one after the other, and the program's lines in its output. Assumes nothing.
 use Prim.Native.Nat.{ℕ, suc, _+_, _≤_, _<_}
 use native.Mathlib.Numerals.{add-one}
-use native.Mathlib.Nat.{add-zero}
 use native.Mathlib.Omega.{arith}
 use mathlib.Core.Path.{_≡_, ap, _∙_}
 use mathlib.Core.List.{List, [], _∷_, _++_, append-assoc}
 use borrow.Author.Tests.{le-leb, lt-leb}
 use lib.ListN.{length, set, getD, take, drop, length-append, drop-of-length-le}
 use lib.Seq.{sets, length-sets, drop-cons, sets-eq, take-at}
+use Rattle.emit.specs.Stores.{sets-append}
 use Rattle.lines.specs.declared.Printed.{Printed}
 use Rattle.lines.specs.declared.Printed.the-variants.{Written, Refused}
 use Rattle.lines.specs.Lines.{line, printed, programOutput}
 use Rattle.lines.specs.Put.{Put}
 
-sets-append : (l : List ℕ) (i : ℕ) (xs ys : List ℕ) → sets (sets l i xs) (i + length xs) ys ≡ sets l i (xs ++ ys)
-sets-append l i [] ys = rw add-zero
-sets-append l i (x ∷ xs) ys = let e : i + suc (length xs) ≡ suc i + length xs = omega arith in rw e (sets-append (set l i x) (suc i) xs ys)
-
 pub put-then : {a b c : List ℕ} {at m n : ℕ} {xs ys : List ℕ} → Put a at b m xs → Put b m c n ys → Put a at c n (xs ++ ys)
-put-then p q = record { next = simp length-append (omega arith); holds = rw (q .holds, p .holds, p .next, sets-append) }
+put-then p q = record { next = simp length-append (omega arith); holds = rw (q .holds, p .holds, p .next, ← sets-append) }
 
 -- one byte of bs more is put
 pub put-on : (s bs : List ℕ) (at i : ℕ) → i < length bs → sets (set s (at + i) (getD bs i 0)) (at + (i + 1)) (drop (i + 1) bs) ≡ sets s (at + i) (drop i bs)

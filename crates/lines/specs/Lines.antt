@@ -3,15 +3,14 @@ use Prim.Native.Nat.{ℕ, zero, suc, _+_, _-_, _/_, _%_}
 use mathlib.Core.Bool.{cond}
 use mathlib.Core.List.{List, [], _∷_, _++_}
 use lib.Dec.{ltb, leb}
-use lib.ListN.{length, drop, replicate}
-use Rattle.cells.specs.Cells.{undefinedCell}
+use lib.ListN.{length, drop}
 use Rattle.cells.specs.declared.Value.{Value}
 use Rattle.cells.specs.declared.Value.the-variants.{False, True, Null, Unspecified, Integer, Procedure, Pair, NoValue}
 use Rattle.files.specs.Reading.{Got, got, refused}
 use Rattle.files.specs.Entries.{then}
 use Rattle.files.specs.Accepted.{flatChecked}
 use Rattle.files.specs.Linear.{linearFile}
-use Rattle.machines.specs.Runs.{Memory, memory, Ran, ran, treeRun, linearRun}
+use Rattle.machines.specs.Runs.{freshMemory, runOf, treeRun, linearRun}
 use Rattle.machines.specs.declared.End.{End}
 use Rattle.machines.specs.declared.End.the-variants.{Halted, Wrong, OutOfBudget, Refused}
 use Rattle.machines.specs.declared.Run.{Run}
@@ -99,13 +98,6 @@ abbrev pub refusedLine : ℕ → ℕ → List ℕ
 refusedLine n p = line (refusedWord ∷ decimal n ∷ decimal p ∷ [])
 
 -- ---- the program
--- all globals undefined
-abbrev pub freshMemory : Memory
-freshMemory = memory (replicate 256 undefinedCell) (replicate 256 0) (replicate 2048 0) (replicate 2048 0)
-
-unfoldable pub runOf : Ran → Run
-runOf (ran r m) = r
-
 abbrev pub tabularRun : List ℕ → Run
 tabularRun s = runOf (treeRun s 1000000 freshMemory)
 

@@ -139,9 +139,9 @@ module _ (s : List ℕ) (l p : ℕ) where
   Outcome L e f (Saved q) = SavedLeft L e f (q .0)
   Outcome L e f Bad = ⊥
 
-  left : (i : Instr) (q : ℕ) → Turn i q → Whole (listAt s l p) → (L : List ℕ) (e f : ℕ) → Left L (linkedItem L p e i) e f q
+  item-left : (i : Instr) (q : ℕ) → Turn i q → Whole (listAt s l p) → (L : List ℕ) (e f : ℕ) → Left L (linkedItem L p e i) e f q
   unfolding Whole linkedGot before
-  left i q t w L e f = by (listAt s l q) refl
+  item-left i q t w L e f = by (listAt s l q) refl
     where
       by : (x : Got Code) → listAt s l q ≡ x → Left L (linkedItem L p e i) e f q
       by (got c z) h = record {
@@ -166,7 +166,7 @@ module _ (s : List ℕ) (l p : ℕ) where
           second-whole = rw (w .2) tt;
           first-room = omega (arith, least-bits x);
           second-room = omega (arith, least-bits y);
-          left = rw (w .1, w .2, z₁, z₂) (rw (← z) at (left (unless-i x y) q t whole L e f));
+          left = rw (w .1, w .2, z₁, z₂) (rw (← z) at (item-left (unless-i x y) q t whole L e f));
         }
 
     saved-left : (n : ℕ) (x : Code) (q : ℕ) → Turn (cont-i n x) q → (L : List ℕ) (e f : ℕ) → SavedLeft L e f q
@@ -179,14 +179,14 @@ module _ (s : List ℕ) (l p : ℕ) where
           levels-left = w .0;
           saved-whole = rw (w .1) tt;
           room = omega (arith, least-bits x);
-          left = rw (w .1, z₁) (rw (← z) at (left (cont-i n x) q t whole L e f));
+          left = rw (w .1, z₁) (rw (← z) at (item-left (cont-i n x) q t whole L e f));
         }
 
     item-outcome : (i : Instr) (q : ℕ) → Turn i q → (L : List ℕ) (e f : ℕ) → Outcome L e f (instrParts p i q)
     unfolding instrParts linkedItem
-    item-outcome (neutral-i op ns) q t L e f = left _ q t whole L e f
-    item-outcome return-i q t L e f = left _ q t whole L e f
-    item-outcome (call-i n) q t L e f = left _ q t whole L e f
+    item-outcome (neutral-i op ns) q t L e f = item-left _ q t whole L e f
+    item-outcome return-i q t L e f = item-left _ q t whole L e f
+    item-outcome (call-i n) q t L e f = item-left _ q t whole L e f
     item-outcome (unless-i x y) q t L e f = arms-left x y q t L e f
     item-outcome (cont-i n x) q t L e f = saved-left n x q t L e f
 

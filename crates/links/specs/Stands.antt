@@ -29,15 +29,15 @@ abbrev pub Takes : ℕ → List ℕ → Type 0
 Takes op ns = (6 ≤ op) × (shapeOf op ≡ 1 + length ns) × (length ns ≤ 2)
 
 -- the list c stands in s at p, with l levels left below it
-unfoldable pub Stands : List ℕ → ℕ → ℕ → Code → Type 0
-Stands s l p done = Reads s p 5 0
-Stands s l p (neutral op ns r) = Reads s p 5 op × Takes op ns × Operands s (p + 5) ns × Stands s l (p + (5 + 8 * length ns)) r
-Stands s l p (return r) = Reads s p 5 1 × Stands s l (p + 5) r
-Stands s l p (call n r) = Reads s p 5 2 × Reads s (p + 5) 8 n × Stands s l (p + 13) r
-Stands s zero p (unless-false x y r) = ⊥
-Stands s (suc l) p (unless-false x y r) = Reads s p 5 3 × Stands s l (p + 5) x × Stands s l (p + 5 + bits x) y × Stands s (suc l) (p + 5 + bits x + bits y) r
-Stands s zero p (make-cont n x r) = ⊥
-Stands s (suc l) p (make-cont n x r) = Reads s p 5 4 × Reads s (p + 5) 8 n × Stands s l (p + 13) x × Stands s (suc l) (p + 13 + bits x) r
+unfoldable pub ListStands : List ℕ → ℕ → ℕ → Code → Type 0
+ListStands s l p done = Reads s p 5 0
+ListStands s l p (neutral op ns r) = Reads s p 5 op × Takes op ns × Operands s (p + 5) ns × ListStands s l (p + (5 + 8 * length ns)) r
+ListStands s l p (return r) = Reads s p 5 1 × ListStands s l (p + 5) r
+ListStands s l p (call n r) = Reads s p 5 2 × Reads s (p + 5) 8 n × ListStands s l (p + 13) r
+ListStands s zero p (unless-false x y r) = ⊥
+ListStands s (suc l) p (unless-false x y r) = Reads s p 5 3 × ListStands s l (p + 5) x × ListStands s l (p + 5 + bits x) y × ListStands s (suc l) (p + 5 + bits x + bits y) r
+ListStands s zero p (make-cont n x r) = ⊥
+ListStands s (suc l) p (make-cont n x r) = Reads s p 5 4 × Reads s (p + 5) 8 n × ListStands s l (p + 13) x × ListStands s (suc l) (p + 13 + bits x) r
 
 -- ---- the same of one instruction, and of what is read
 unfoldable StandsI : List ℕ → ℕ → ℕ → Instr → Type 0
@@ -45,9 +45,9 @@ StandsI s l p (neutral-i op ns) = Reads s p 5 op × Takes op ns × Operands s (p
 StandsI s l p return-i = Reads s p 5 1
 StandsI s l p (call-i n) = Reads s p 5 2 × Reads s (p + 5) 8 n
 StandsI s zero p (unless-i x y) = ⊥
-StandsI s (suc l) p (unless-i x y) = Reads s p 5 3 × Stands s l (p + 5) x × Stands s l (p + 5 + bits x) y
+StandsI s (suc l) p (unless-i x y) = Reads s p 5 3 × ListStands s l (p + 5) x × ListStands s l (p + 5 + bits x) y
 StandsI s zero p (cont-i n x) = ⊥
-StandsI s (suc l) p (cont-i n x) = Reads s p 5 4 × Reads s (p + 5) 8 n × Stands s l (p + 13) x
+StandsI s (suc l) p (cont-i n x) = Reads s p 5 4 × Reads s (p + 5) 8 n × ListStands s l (p + 13) x
 
 abbrev StandsHead : List ℕ → ℕ → ℕ → Head → Type 0
 StandsHead s l p (stop q) = Reads s p 5 0 × (q ≡ p + 5)
@@ -55,12 +55,12 @@ StandsHead s l p (item i q) = StandsI s l p i × (q ≡ p + bitsI i)
 StandsHead s l p (bad n x) = Unit
 
 abbrev StandsGot : List ℕ → ℕ → ℕ → Got Code → Type 0
-StandsGot s l p (got c q) = Stands s l p c × (q ≡ p + bits c)
+StandsGot s l p (got c q) = ListStands s l p c × (q ≡ p + bits c)
 StandsGot s l p (refused n x) = Unit
 
 -- an instruction before the list that stands after it
-stands-put : (s : List ℕ) (l p : ℕ) (i : Instr) (c : Code) → StandsI s l p i → Stands s l (p + bitsI i) c → Stands s l p (put i c)
-unfolding put Stands StandsI bitsI
+stands-put : (s : List ℕ) (l p : ℕ) (i : Instr) (c : Code) → StandsI s l p i → ListStands s l (p + bitsI i) c → ListStands s l p (put i c)
+unfolding put ListStands StandsI bitsI
 stands-put s l p (neutral-i op ns) c h r = (h .0, h .1, h .2, r)
 stands-put s l p return-i c h r = (h, r)
 stands-put s l p (call-i n) c h r = (h .0, h .1, r)
@@ -75,7 +75,7 @@ before-stands s l p q i (got c z) h e r = (stands-put s l p i c h (rw e at (r .0
 before-stands s l p q i (refused n z) h e r = tt
 
 after-stands : (s : List ℕ) (l p : ℕ) (r : ℕ → Got Code) (h : Head) → ((q : ℕ) → StandsGot s l q (r q)) → StandsHead s l p h → StandsGot s l p (after r h)
-unfolding after Stands bits
+unfolding after ListStands bits
 after-stands s l p r (stop q) f i = i
 after-stands s l p r (item k q) f i = before-stands s l p q k (r q) (i .0) (i .1) (f q)
 after-stands s l p r (bad n x) f i = tt
@@ -123,7 +123,7 @@ module _ (s : List ℕ) where
       go false false i j = ((c, (past-five v (omega arith) (omega arith) (eqb-false v 1 i) (eqb-false v 2 j), e, h), o), refl)
 
   list-stands : (P : Head → Type 0) (l p : ℕ) (k : Code → ℕ → Head) (x : Got Code) → ((n z : ℕ) → P (bad n z)) → StandsGot s l p x
-      → ((c : Code) → Stands s l p c → P (k c (p + bits c))) → P (withList k x)
+      → ((c : Code) → ListStands s l p c → P (k c (p + bits c))) → P (withList k x)
   unfolding withList
   list-stands P l p k (got c q) ends h f = rw (h .1) (f c (h .0))
   list-stands P l p k (refused n z) ends h f = ends n z
@@ -182,5 +182,5 @@ module _ (s : List ℕ) where
   inner (suc l) = items-stands l (inner l) (suc (8 * length s))
 
   -- THE LAW: a list that is read stands in the file
-  pub list-stands-there : (l p : ℕ) (c : Code) (q : ℕ) → listAt s l p ≡ got c q → Stands s l p c
+  pub list-stands-there : (l p : ℕ) (c : Code) (q : ℕ) → listAt s l p ≡ got c q → ListStands s l p c
   list-stands-there l p c q e = (rw e at (inner (suc l) p)) .0

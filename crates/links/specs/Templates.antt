@@ -14,7 +14,7 @@ use Rattle.files.specs.Tree.{Template, templateAt, templatesAt, treeRead}
 use Rattle.tree.specs.Parts.{template-parts, templates-parts, templates-count, FileParts, tree-parts}
 use Rattle.links.specs.Links.{linked, linkedAll}
 use Rattle.links.specs.LinksLaws.{Linked, linked-length, Kept, linked-kept, still-linked, linked-holds}
-use Rattle.links.specs.Stands.{Stands, list-stands-there}
+use Rattle.links.specs.Stands.{ListStands, list-stands-there}
 
 -- ---- one template after the other
 -- template own of T, read from p on
@@ -99,7 +99,7 @@ module _ (s : List ℕ) {ts : List Template} {q : ℕ} (read : treeRead s ≡ go
         let a = laid-at s (parts .count) 0 (parts .first) ts i d laid h in
         (a .0, omega (arith, field-got s 0 8 (parts .counted)), same-laid (sym counted) (zero-add i) (a .2))
 
-    pub template-stands : Stands s 15 (getD ts i d .start) (getD ts i d .code)
+    pub template-stands : ListStands s 15 (getD ts i d .start) (getD ts i d .code)
     template-stands = list-stands-there s 15 _ _ _ (template-there .2 .list)
 
     -- THE LAW: its links are there

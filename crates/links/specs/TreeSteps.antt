@@ -24,14 +24,14 @@ linkedFrom L n (got ts q) = linkedAll L (drop n ts)
 linkedFrom L n (refused m x) = L
 
 -- the tree file s is read, and the table is its table
-pub record Ready (s table : List ℕ) (count : ℕ) : Type 0 where
+pub record FileReady (s table : List ℕ) (count : ℕ) : Type 0 where
   pub templates : List Template
   pub past : ℕ
   pub read : treeRead s ≡ got templates past
   pub tabled : table ≡ treeTable templates
   pub counted : count ≡ length templates
 
-module _ {s table : List ℕ} {count : ℕ} (r : Ready s table count) where
+module _ {s table : List ℕ} {count : ℕ} (r : FileReady s table count) where
   pub ready-short : length s ≤ 65536
   ready-short = short s (r .read)
 

@@ -10,7 +10,7 @@ ghost use Rattle.files.specs.Tree.{treeRead};
 ghost use Rattle.files.specs.Reading.{headAt, deepOf, listAt};
 ghost use Rattle.lists.specs.Pass.{simpleAt, deepAt};
 ghost use Rattle.links.specs.Links.{linkAt, link};
-ghost use Rattle.links.specs.TreeSteps.{linkedFrom, Ready};
+ghost use Rattle.links.specs.TreeSteps.{linkedFrom, FileReady};
 ghost use Rattle.links.specs.Parts.{partsOf, Whole, linkedGot, linkedArms, linkedSaved};
 
 // What stands at a place of a list: its end, an instruction without lists and the place past it, the place of a conditional's second arm
@@ -222,7 +222,7 @@ fn link_list(
 
 // The links of the lists of a tree file that is read, where the table is its table and has `count` templates.
 pub fn link_tree(s: &[u8], table: &[u64], count: usize, links: &mut [u32])
-    requires { ⌜ Ready (now s) (now table) count × (length (now table) ≡ 16384) ⌝ }
+    requires { ⌜ FileReady (now s) (now table) count × (length (now table) ≡ 16384) ⌝ }
     ensures { λ _. ⌜ now (links .exit) ≡ linkedFrom (now (links .entry)) 0 (treeRead (now (s .entry))) ⌝ }
 {
     let mut own: usize = 0;

@@ -5,9 +5,9 @@ use mathlib.Core.List.{List}
 use lib.ListN.{length, getD}
 use lib.Dec.{leb, eqb}
 use Rattle.cells.specs.Cells.{tagOf}
-use Rattle.files.specs.Code.{Code, done, neutral, return, call, unless-false, make-cont}
+use Rattle.files.specs.Code.{Code}
 use Rattle.files.specs.Reading.{Got, got, refused}
-use Rattle.files.specs.Grammar.{isEmpty, isOpen, isClosed}
+use Rattle.files.specs.Grammar.{isEmpty, isOpen, isClosed, eachNeutral}
 use Rattle.files.specs.Flat.{flat, offsetsFit}
 use Rattle.lists.specs.declared.Facts.{Facts}
 use Rattle.lists.specs.declared.Listed.{Listed}
@@ -31,12 +31,8 @@ slotNamed table own op n = cond (leb op 9) (cond (eqb n 0) false (slotFits op (g
 
 -- 7, by the table's row of template own
 unfoldable pub slotsFit : List ℕ → ℕ → Code → Bool
-slotsFit table own done = true
-slotsFit table own (neutral op ns r) = slotNamed table own op (getD ns 0 0) && slotsFit table own r
-slotsFit table own (return r) = slotsFit table own r
-slotsFit table own (call n r) = slotsFit table own r
-slotsFit table own (unless-false x y r) = slotsFit table own x && slotsFit table own y && slotsFit table own r
-slotsFit table own (make-cont n x r) = slotsFit table own x && slotsFit table own r
+unfolding eachNeutral
+slotsFit table own c = eachNeutral (slotNamed table own) c
 
 unfoldable pub factsOf : List ℕ → ℕ → Code → Facts
 factsOf table own c = record { class = classOf c; size = length (flat c); named = slotsFit table own c; fits = offsetsFit c }

@@ -10,7 +10,7 @@ use lib.ListN.{length, length-append}
 use lib.Dec.{leb, eqb}
 use Rattle.files.specs.Code.{Code, done, neutral, return, call, unless-false, make-cont, Instr, neutral-i, return-i, call-i, unless-i, cont-i, put}
 use Rattle.files.specs.Reading.{Got, got, refused}
-use Rattle.files.specs.Grammar.{isEmpty, isOpen, isClosed}
+use Rattle.files.specs.Grammar.{isEmpty, isOpen, isClosed, eachNeutral}
 use Rattle.files.specs.Flat.{conditional, flat, fitsOffset, armsFit, offsetsFit}
 use Rattle.lists.specs.declared.Kind.{Kind}
 use Rattle.lists.specs.declared.Kind.the-variants.{Neutral, Ending, SavesOpen, SavesClosed, SavesNeither, Neither}
@@ -196,7 +196,7 @@ module _ (table : List ℕ) (own : ℕ) where
   put-size (cont-i n x) r = simp length-append (omega arith)
 
   put-named : (i : Instr) (r : Code) → slotsFit table own (put i r) ≡ (addedBy table own i .named && slotsFit table own r)
-  unfolding addedBy conditionalAdded saveAdded factsOf put slotsFit
+  unfolding addedBy conditionalAdded saveAdded factsOf put slotsFit eachNeutral
   put-named (neutral-i op ns) r = refl
   put-named return-i r = refl
   put-named (call-i n) r = refl
@@ -279,7 +279,7 @@ module _ (table : List ℕ) (own : ℕ) where
   run-size = by-run (λ c st st′. st′ .size ≡ st .size + length (flat c)) (λ st. omega arith) (λ i c st st′ h. omega (arith, put-size table own i c))
 
   run-named : (c : Code) (st : State) → run table own c st .named ≡ (st .named && slotsFit table own c)
-  unfolding stateAfter slotsFit
+  unfolding stateAfter slotsFit eachNeutral
   run-named = by-run (λ c st st′. st′ .named ≡ (st .named && slotsFit table own c)) (λ st. sym (and-true (st .named))) (λ i c st st′ h. h ∙ and-assoc (st .named) _ _ ∙ rw (put-named table own i c) refl)
 
   run-fits : (c : Code) (st : State) → Fit c st (run table own c st)

@@ -9,6 +9,7 @@ use borrow.Author.Tests.{eqb-true, eqb-false, le-ltb}
 use lib.ListN.{length, getD}
 use lib.Dec.{eqb}
 use Rattle.cells.specs.declared.BitPlace.{BitPlace}
+use Rattle.cells.specs.Laws.{clash}
 use Rattle.fields.specs.declared.Field.the-variants.{Read, Cut}
 use Rattle.fields.specs.Field.{fieldRead}
 use Rattle.fields.specs.Laws.{value-of, field-small}
@@ -54,11 +55,11 @@ module _ (table : List ℕ) (own : ℕ) where
       let g : _≡_ {A = BitPlace} (record { 0 = r }) q = cc in
       let h : factsOf table own c ≡ f = cc in
       (c, ap (λ (y : BitPlace). got c (y .0)) g, h)
-  listed-done (refused n p) q f e = absurd (let z : _≡_ {A = ℕ} 0 1 = cc in omega arith)
+  listed-done (refused n p) q f e = clash (cc)
 
   pub listed-refused : (x : Got Code) (n : ℕ) (q : BitPlace) → listed table own x ≡ Refused n q → x ≡ refused n (q .0)
   unfolding listed
-  listed-refused (got c r) n q e = absurd (let z : _≡_ {A = ℕ} 0 1 = cc in omega arith)
+  listed-refused (got c r) n q e = clash (cc)
   listed-refused (refused m p) n q e =
       let g : _≡_ {A = BitPlace} (record { 0 = p }) q = cc in
       let h : m ≡ n = cc in
@@ -160,12 +161,12 @@ module _ (table : List ℕ) (own : ℕ) where
     turn-bits q o e = go (headAt s (deepOf s l) p) (head-past s (deepOf s l) (deep-past s l) p) e
       where
         go : (h : Head) → Past (8 * length s) p h → itemed table own h ≡ More q o → (p < q .0) × (q .0 ≤ 8 * length s) × (5 * o .size + 2 * p ≤ 2 * q .0)
-        go (stop x) w e = absurd (let z : _≡_ {A = ℕ} 0 1 = cc in omega arith)
+        go (stop x) w e = clash (cc)
         go (item k x) w e =
             let f : _≡_ {A = BitPlace} (record { 0 = x }) q = cc in
             let g : addedBy table own k ≡ o = cc in
             rw (← ap (λ (y : BitPlace). y .0) f, ← g) (omega (arith, some-bits k, added-bits k))
-        go (bad m x) w e = absurd (let z : _≡_ {A = ℕ} 0 1 = cc in omega arith)
+        go (bad m x) w e = clash (cc)
 
 -- what comes after the first make-cont is no more than all
 pub tail-size : (st : State) (o : Added) → st .tail ≤ st .size → (stateAfter st o .tail ≤ stateAfter st o .size) × (stateAfter st o .size ≡ st .size + o .size)

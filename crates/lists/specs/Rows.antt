@@ -8,7 +8,7 @@ use Rattle.fields.specs.Field.{fieldRead, pickField, fieldAt, bitAt}
 use Rattle.files.specs.Codes.{shapeOf}
 use Rattle.files.specs.Code.{put, simple}
 use Rattle.files.specs.Reading.{withField, withList, withDeep, shaped, headAt, before, after, items, deepOf, listAt}
-use Rattle.files.specs.Grammar.{isEmpty, isOpen, isClosed}
+use Rattle.files.specs.Grammar.{isEmpty, isOpen, isClosed, eachNeutral}
 use Rattle.files.specs.Flat.{conditional, flat, armsFit, offsetsFit}
 use Rattle.lists.specs.declared.Listed.the-variants.{Done}
 use Rattle.lists.specs.Facts.{classOf, slotFits, slotNamed, slotsFit, factsOf, listed}
@@ -21,12 +21,12 @@ abbrev row2 : List ℕ
 row2 = 90 ∷ intCell 7 ∷ intCell 5 ∷ []
 
 pub sheet2-facts : listed row2 0 (listAt sheet2 15 90) ≡ Done (record { 0 = 169 }) (record { class = 2; size = 16; named = true; fits = true })
-unfolding listed factsOf classOf slotsFit slotNamed slotFits isEmpty isOpen isClosed flat conditional offsetsFit armsFit listAt items deepOf after before put simple headAt shaped shapeOf withField withList withDeep fieldRead pickField fieldAt bitAt
+unfolding listed factsOf classOf slotsFit eachNeutral slotNamed slotFits isEmpty isOpen isClosed flat conditional offsetsFit armsFit listAt items deepOf after before put simple headAt shaped shapeOf withField withList withDeep fieldRead pickField fieldAt bitAt
 sheet2-facts = refl
 
 abbrev sheet3 : List ℕ
 sheet3 = 0x01 ∷ 0x00 ∷ 0x19 ∷ 0x00 ∷ 0x00 ∷ 0x10 ∷ 0x3C ∷ 0x01 ∷ 0x00 ∷ []
 
 pub sheet3-facts : listed (16 ∷ []) 0 (listAt sheet3 15 16) ≡ Done (record { 0 = 69 }) (record { class = 2; size = 13; named = true; fits = true })
-unfolding listed factsOf classOf slotsFit slotNamed slotFits isEmpty isOpen isClosed flat conditional offsetsFit armsFit listAt items deepOf after before put simple headAt shaped shapeOf withField withList withDeep fieldRead pickField fieldAt bitAt
+unfolding listed factsOf classOf slotsFit eachNeutral slotNamed slotFits isEmpty isOpen isClosed flat conditional offsetsFit armsFit listAt items deepOf after before put simple headAt shaped shapeOf withField withList withDeep fieldRead pickField fieldAt bitAt
 sheet3-facts = refl

@@ -73,30 +73,48 @@ struct State {
     pub fits: bool,
 }
 
-// How a code is followed in a tree: 0 the end of the list; 1, 2, 3 no, one or two operand bytes; 4 two lists; 5 an operand byte and a
-// list; 6 no instruction.
+// How a code is followed in a tree, by code (document 01, 'Codes'): 0 the end of the list; 1, 2, 3 no, one or two operand bytes; 4 two
+// lists; 5 an operand byte and a list; 6 no instruction.
+const SHAPES: [u8; 32] = [
+    0, // 0 end of list
+    1, // 1 return
+    2, // 2 call n
+    4, // 3 unless-false
+    5, // 4 make-cont n
+    6, // 5 (jump)
+    2, // 6 literal n
+    2, // 7 closure n
+    2, // 8 global n
+    2, // 9 set-global! n
+    3, // 10 local n1 n2
+    3, // 11 set-local! n1 n2
+    1, // 12 push
+    2, // 13 make-env n
+    6, // 14
+    1, // 15 unspecified
+    2, // 16 checkargs= n
+    6, // 17
+    1, // 18 %%cons
+    1, // 19 %%car
+    1, // 20 %%cdr
+    1, // 21 %%eqv
+    1, // 22 %%add
+    6, // 23
+    6, // 24
+    6, // 25
+    6, // 26
+    6, // 27
+    6, // 28
+    6, // 29
+    6, // 30
+    6, // 31
+];
+
 pub fn shape_of(code: u32) -> u8
     requires { ⌜ code < 32 ⌝ }
     ensures { λ r. ⌜ r ≡ shapeOf code ⌝ }
 {
-    match code {
-        0 => 0,
-        1 => 1,
-        2 => 2,
-        3 => 4,
-        4 => 5,
-        5 => 6,
-        6..=9 => 2,
-        10..=11 => 3,
-        12 => 1,
-        13 => 2,
-        14 => 6,
-        15 => 1,
-        16 => 2,
-        17 => 6,
-        18..=22 => 1,
-        _ => 6,
-    }
+    SHAPES[code as usize]
 }
 
 fn both(x: bool, y: bool) -> bool

@@ -7,7 +7,7 @@ use mathlib.Core.Bool.{Bool, true, false, cond}
 use Rattle.rules.specs.State.{Res}
 use Rattle.rules.specs.Rules.{Data, plainRule, callRule, makeContRule, Back, returnRule, isFalse}
 use Rattle.rules.specs.Related.{ResR, okR, wrongR, BackR, noneB, someB}
-use Rattle.rules.specs.Numbers.{Never16, other, plain-never, call-never, make-cont-never}
+use Rattle.rules.specs.Never16.{Never16, other, plain-never, call-never, make-cont-never}
 use Rattle.rules.specs.declared.Plain.{Plain}
 use Rattle.machines.specs.Fetched.{Fetched, plain, returns, calls, branches, saves, jumps, bad}
 use Rattle.machines.specs.Machine.{Program, State, at, Step, go, halt, stop, bind, applied, called, returned, act, here, step}

@@ -1,14 +1,17 @@
 -- Resolving a code by its number, one law for each outcome. Assumes nothing.
-use Prim.Native.Nat.{ℕ, _%_}
+use Prim.Native.Nat.{ℕ, _%_, _<_}
 use mathlib.Core.Path.{_≡_, refl}
 use mathlib.Core.Bool.{Bool, true, false, cond}
-use mathlib.Core.Option.{none, some}
+use mathlib.Core.Option.{Option, none, some}
 use native.Mathlib.Omega.{arith}
-use lib.Dec.{eqb}
-use borrow.Author.Tests.{ne-eqb}
+use lib.Dec.{leb, eqb}
+use borrow.Author.Tests.{ne-eqb, eqb-true, lt-leb}
+use Rattle.cells.specs.Laws.{clash}
 use Rattle.cells.specs.Cells.{tagOf}
 use Rattle.rules.specs.declared.Plain.{Plain}
-use Rattle.machines.specs.Slots.{markedAs, slotResolve, resolvedAs}
+use Rattle.rules.specs.declared.Plain.the-variants.{Closure}
+use Rattle.machines.specs.Fetched.{constant-named, global-named, template-named, none-named, asLiteral, asClosure, asGlobal, ruleOf}
+use Rattle.machines.specs.Slots.{slotNames, markedAs, slotResolve, resolvedAs}
 use Rattle.machines.specs.declared.Marked.{Marked}
 use Rattle.machines.specs.declared.Marked.the-variants.{Number, Other}
 use Rattle.machines.specs.declared.Resolved.{Resolved}
@@ -24,7 +27,7 @@ coded slot op k a b x e h = rw e h
 pub no-code : (slot : ℕ → ℕ) (op a b : ℕ) → (op ≡ 6 → ⊥) → (op ≡ 7 → ⊥) → (op ≡ 8 → ⊥) → (op ≡ 9 → ⊥) → (op ≡ 10 → ⊥) → (op ≡ 11 → ⊥) → (op ≡ 12 → ⊥)
     → (op ≡ 13 → ⊥) → (op ≡ 15 → ⊥) → (op ≡ 16 → ⊥) → (op ≡ 18 → ⊥) → (op ≡ 19 → ⊥) → (op ≡ 20 → ⊥) → (op ≡ 21 → ⊥) → (op ≡ 22 → ⊥)
     → Answers slot op a b Unfit
-unfolding slotResolve resolvedAs
+unfolding slotResolve ruleOf resolvedAs
 no-code slot op a b h₁ h₂ h₃ h₄ h₅ h₆ h₇ h₈ h₉ i₁ i₂ i₃ i₄ i₅ i₆ =
     rw (
       ne-eqb op 6 h₁,
@@ -44,20 +47,63 @@ no-code slot op a b h₁ h₂ h₃ h₄ h₅ h₆ h₇ h₈ h₉ i₁ i₂ i₃ 
       ne-eqb op 22 i₆,
     )
 
--- a slot x that was looked at for a tag, with the answer m
-module _ (f : ℕ → Plain) (tag x : ℕ) (m : Marked) (e : m ≡ markedAs tag x) where
-  pub marked-number : (n : ℕ) → m ≡ Number n → Fit (f n) ≡ resolvedAs (cond (eqb (tagOf x) tag) (some (f (x % 256))) none)
-  unfolding markedAs resolvedAs
-  marked-number n k = by (eqb (tagOf x) tag) e
-    where
-      by : (b : Bool) → m ≡ cond b (Number (x % 256)) Other → Fit (f n) ≡ resolvedAs (cond b (some (f (x % 256))) none)
-      by true i = let j : n ≡ x % 256 = cc in rw j
-      by false i = let z : _≡_ {A = ℕ} 0 1 = cc in absurd (omega arith)
+-- ---- what a slot x names, under the tag that it was looked at for
+module _ (x : ℕ) where
+  abbrev Under : Option Plain → (ℕ → Plain) → ℕ → Type 0
+  Under o f tag = o ≡ cond (eqb (tagOf x) tag) (some (f (x % 256))) none
 
-  pub marked-other : m ≡ Other → Unfit ≡ resolvedAs (cond (eqb (tagOf x) tag) (some (f (x % 256))) none)
-  unfolding markedAs resolvedAs
-  marked-other k = by (eqb (tagOf x) tag) e
+  pub closure-slot : Under (asClosure (slotNames x)) Closure 12
+  unfolding slotNames asClosure
+  closure-slot = by (eqb (tagOf x) 12) refl
     where
-      by : (b : Bool) → m ≡ cond b (Number (x % 256)) Other → Unfit ≡ resolvedAs (cond b (some (f (x % 256))) none)
-      by true i = let z : _≡_ {A = ℕ} 0 1 = cc in absurd (omega arith)
-      by false i = refl
+      other : (a b c : Bool) → asClosure (cond a none-named (cond b (constant-named x) (cond c (global-named (x % 256)) none-named))) ≡ none
+      other true b c = refl
+      other false true c = refl
+      other false false true = refl
+      other false false false = refl
+
+      by : (t : Bool) → eqb (tagOf x) 12 ≡ t → asClosure (slotNames x) ≡ cond t (some (Closure (x % 256))) none
+      by true e = rw (eqb-true (tagOf x) 12 e)
+      by false e = rw e (other (eqb (tagOf x) 0) (leb (tagOf x) 6) (eqb (tagOf x) 11))
+
+  pub global-slot : (f : ℕ → Plain) → Under (asGlobal f (slotNames x)) f 11
+  unfolding slotNames asGlobal
+  global-slot f = by (eqb (tagOf x) 11) refl
+    where
+      other : (a b c : Bool) → asGlobal f (cond a none-named (cond b (constant-named x) (cond c (template-named (x % 256)) none-named))) ≡ none
+      other true b c = refl
+      other false true c = refl
+      other false false true = refl
+      other false false false = refl
+
+      by : (t : Bool) → eqb (tagOf x) 11 ≡ t → asGlobal f (slotNames x) ≡ cond t (some (f (x % 256))) none
+      by true e = rw (eqb-true (tagOf x) 11 e)
+      by false e = rw e (other (eqb (tagOf x) 0) (leb (tagOf x) 6) (eqb (tagOf x) 12))
+
+  -- above tag 6
+  pub no-literal : (t : ℕ) → t ≡ tagOf x → 6 < t → Unfit ≡ resolvedAs (asLiteral (slotNames x))
+  unfolding slotNames asLiteral resolvedAs
+  no-literal t e h = rw (ne-eqb (tagOf x) 0 (λ z. omega arith), lt-leb (tagOf x) 6 (omega arith)) (by (eqb (tagOf x) 11) (eqb (tagOf x) 12))
+    where
+      by : (a b : Bool) → Unfit ≡ resolvedAs (asLiteral (cond a (global-named (x % 256)) (cond b (template-named (x % 256)) none-named)))
+      by true b = refl
+      by false true = refl
+      by false false = refl
+
+  -- the answer m was given of the tag
+  module _ (f : ℕ → Plain) (tag : ℕ) (m : Marked) (e : m ≡ markedAs tag x) (o : Option Plain) (u : Under o f tag) where
+    pub marked-number : (n : ℕ) → m ≡ Number n → Fit (f n) ≡ resolvedAs o
+    unfolding markedAs resolvedAs
+    marked-number n k = rw u (by (eqb (tagOf x) tag) e)
+      where
+        by : (b : Bool) → m ≡ cond b (Number (x % 256)) Other → Fit (f n) ≡ resolvedAs (cond b (some (f (x % 256))) none)
+        by true i = let j : n ≡ x % 256 = cc in rw j
+        by false i = clash (cc)
+
+    pub marked-other : m ≡ Other → Unfit ≡ resolvedAs o
+    unfolding markedAs resolvedAs
+    marked-other k = rw u (by (eqb (tagOf x) tag) e)
+      where
+        by : (b : Bool) → m ≡ cond b (Number (x % 256)) Other → Unfit ≡ resolvedAs (cond b (some (f (x % 256))) none)
+        by true i = clash (cc)
+        by false i = refl

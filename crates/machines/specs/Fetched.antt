@@ -5,7 +5,7 @@ use mathlib.Core.List.{List, [], _∷_}
 use mathlib.Core.Option.{Option, none, some}
 use lib.Dec.{ltb, leb, eqb}
 use lib.ListN.{length, getD, take, drop}
-use Rattle.files.specs.Codes.{isNeutral, operands}
+use Rattle.files.specs.Codes.{isNeutral, operandBytes}
 use Rattle.files.specs.Code.{Code, done, neutral, return, call, unless-false, make-cont, bits}
 use Rattle.files.specs.Entries.{Entry, constant, global, template}
 use Rattle.files.specs.Grammar.{isClosed, entryOf}
@@ -28,43 +28,63 @@ pub data Fetched : Type 0 where
   -- 16
   bad : Fetched
 
--- ---- a neutral code with its operands, by the template's entries; none where its entry is unfit
-unfoldable pub asLiteral : Option Entry → Option Plain
-asLiteral none = none
-asLiteral (some (constant t x)) = some (Literal (constantCell t x))
-asLiteral (some (global g)) = none
-asLiteral (some (template t)) = none
+-- ---- a neutral code's rule
+-- what an index names: a constant, as its cell; a global; a template; or nothing that can be used
+pub data Named : Type 0 where
+  constant-named : ℕ → Named
+  global-named : ℕ → Named
+  template-named : ℕ → Named
+  none-named : Named
 
-unfoldable pub asClosure : Option Entry → Option Plain
-asClosure none = none
-asClosure (some (constant t x)) = none
-asClosure (some (global g)) = none
-asClosure (some (template t)) = some (Closure t)
+unfoldable pub namedBy : Option Entry → Named
+namedBy none = none-named
+namedBy (some (constant t x)) = constant-named (constantCell t x)
+namedBy (some (global g)) = global-named g
+namedBy (some (template t)) = template-named t
 
-unfoldable pub asGlobal : (ℕ → Plain) → Option Entry → Option Plain
-asGlobal f none = none
-asGlobal f (some (constant t x)) = none
-asGlobal f (some (global g)) = some (f g)
-asGlobal f (some (template t)) = none
+-- none where the entry is unfit
+unfoldable pub asLiteral : Named → Option Plain
+asLiteral (constant-named x) = some (Literal x)
+asLiteral (global-named g) = none
+asLiteral (template-named t) = none
+asLiteral none-named = none
 
-unfoldable pub resolve : List Entry → ℕ → List ℕ → Option Plain
+unfoldable pub asClosure : Named → Option Plain
+asClosure (constant-named x) = none
+asClosure (global-named g) = none
+asClosure (template-named t) = some (Closure t)
+asClosure none-named = none
+
+unfoldable pub asGlobal : (ℕ → Plain) → Named → Option Plain
+asGlobal f (constant-named x) = none
+asGlobal f (global-named g) = some (f g)
+asGlobal f (template-named t) = none
+asGlobal f none-named = none
+
+-- the rule of a code with operands a and b, of which it may have fewer, where the template's indices name so
+unfoldable pub ruleOf : (ℕ → Named) → ℕ → ℕ → ℕ → Option Plain
 unfolding asLiteral asClosure asGlobal
-resolve es op ns =
-    cond (eqb op 6) (asLiteral (entryOf es (getD ns 0 0)))
-    (cond (eqb op 7) (asClosure (entryOf es (getD ns 0 0)))
-    (cond (eqb op 8) (asGlobal Global (entryOf es (getD ns 0 0)))
-    (cond (eqb op 9) (asGlobal SetGlobal (entryOf es (getD ns 0 0)))
-    (cond (eqb op 10) (some (Local (getD ns 0 0) (getD ns 1 0)))
-    (cond (eqb op 11) (some (SetLocal (getD ns 0 0) (getD ns 1 0)))
+ruleOf named op a b =
+    cond (eqb op 6) (asLiteral (named a))
+    (cond (eqb op 7) (asClosure (named a))
+    (cond (eqb op 8) (asGlobal Global (named a))
+    (cond (eqb op 9) (asGlobal SetGlobal (named a))
+    (cond (eqb op 10) (some (Local a b))
+    (cond (eqb op 11) (some (SetLocal a b))
     (cond (eqb op 12) (some Push)
-    (cond (eqb op 13) (some (MakeEnv (getD ns 0 0)))
+    (cond (eqb op 13) (some (MakeEnv a))
     (cond (eqb op 15) (some Unspecified)
-    (cond (eqb op 16) (some (CheckArgs (getD ns 0 0)))
+    (cond (eqb op 16) (some (CheckArgs a))
     (cond (eqb op 18) (some Cons)
     (cond (eqb op 19) (some Car)
     (cond (eqb op 20) (some Cdr)
     (cond (eqb op 21) (some Eqv)
     (cond (eqb op 22) (some Add) none))))))))))))))
+
+-- by the template's entries
+unfoldable pub resolve : List Entry → ℕ → List ℕ → Option Plain
+unfolding namedBy ruleOf
+resolve es op ns = ruleOf (λ n. namedBy (entryOf es n)) op (getD ns 0 0) (getD ns 1 0)
 
 unfoldable pub plainly : Option Plain → ℕ → Fetched
 plainly (some i) p = plain i p
@@ -131,7 +151,7 @@ module _ (es : List Entry) where
 
   unfoldable pub neutralIn : ℕ → ℕ → List ℕ → Fetched
   unfolding plainly resolve
-  neutralIn q op w = cond (leb (operands op) (length w)) (plainly (resolve es op (take (operands op) w)) (q + (1 + operands op))) bad
+  neutralIn q op w = cond (leb (operandBytes op) (length w)) (plainly (resolve es op (take (operandBytes op) w)) (q + (1 + operandBytes op))) bad
 
   unfoldable pub decode : ℕ → List ℕ → Fetched
   unfolding neutralIn callIn branchIn contIn jumpIn

@@ -2,6 +2,7 @@
 use Prim.Native.Nat.{ℕ, zero, suc, _+_}
 use mathlib.Core.Bool.{cond}
 use mathlib.Core.List.{List}
+use Rattle.cells.specs.Numbers.{badCode}
 use Rattle.files.specs.Tree.{Template}
 use Rattle.files.specs.Linear.{Linear}
 use Rattle.rules.specs.State.{Held, Res, ok, wrong}
@@ -59,7 +60,7 @@ module _ (P : Program) where
   act (branches o p q) s = go (at (s .now) (s .template) (cond (isFalse (s .now .regs)) q p))
   act (saves n p q) s = bind (makeContRule n (s .template) p (s .now)) (λ d. go (at d (s .template) q))
   act (jumps p) s = go (at (s .now) (s .template) p)
-  act bad s = stop 16
+  act bad s = stop badCode
 
   abbrev pub here : State → Fetched
   here s = P .fetch (s .template) (s .place)

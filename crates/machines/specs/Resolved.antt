@@ -16,7 +16,7 @@ use Rattle.files.specs.Grammar.{entryOf, suits, indexFits}
 use Rattle.rules.specs.Lists.{by-lt}
 use Rattle.rules.specs.declared.Plain.{Plain}
 use Rattle.rules.specs.declared.Plain.the-variants.{Global, SetGlobal}
-use Rattle.machines.specs.Fetched.{asLiteral, asClosure, asGlobal, resolve}
+use Rattle.machines.specs.Fetched.{namedBy, asLiteral, asClosure, asGlobal, ruleOf, resolve}
 
 pub data Resolves : Option Plain → Type 0 where
   resolves : {i : Plain} → Resolves (some i)
@@ -24,23 +24,24 @@ pub data Resolves : Option Plain → Type 0 where
 no-test : {A : Type 0} → _≡_ {A = Bool} false true → A
 no-test e = let z : _≡_ {A = ℕ} 0 1 = cc in absurd (omega arith)
 
-literal-suits : (o : Option Entry) → suits 6 o ≡ true → Resolves (asLiteral o)
-unfolding suits asLiteral
+literal-suits : (o : Option Entry) → suits 6 o ≡ true → Resolves (asLiteral (namedBy o))
+unfolding suits asLiteral namedBy
 literal-suits none e = no-test e
 literal-suits (some (constant t x)) e = resolves
 literal-suits (some (global g)) e = no-test e
 literal-suits (some (template t)) e = no-test e
 
-closure-suits : (o : Option Entry) → suits 7 o ≡ true → Resolves (asClosure o)
-unfolding suits asClosure
+closure-suits : (o : Option Entry) → suits 7 o ≡ true → Resolves (asClosure (namedBy o))
+unfolding suits asClosure namedBy
 closure-suits none e = no-test e
 closure-suits (some (constant t x)) e = no-test e
 closure-suits (some (global g)) e = no-test e
 closure-suits (some (template t)) e = resolves
 
 -- n is 8 or 9
-global-suits : (f : ℕ → Plain) (n : ℕ) → eqb n 6 ≡ false → eqb n 7 ≡ false → (o : Option Entry) → suits n o ≡ true → Resolves (asGlobal f o)
-unfolding suits asGlobal
+global-suits : (f : ℕ → Plain) (n : ℕ) → eqb n 6 ≡ false → eqb n 7 ≡ false → (o : Option Entry) → suits n o ≡ true
+    → Resolves (asGlobal f (namedBy o))
+unfolding suits asGlobal namedBy
 global-suits f n h k none e = no-test e
 global-suits f n h k (some (constant t x)) e = no-test (sym h ∙ e)
 global-suits f n h k (some (global g)) e = resolves
@@ -58,7 +59,7 @@ high op h e =
     six : (k : ℕ) → getD {A = ℕ} (replicate 9 6) k 6 ≡ 6
     six k = by-lt k 9 (λ l. getD-replicate {A = ℕ} 9 k 6 6 l) (λ l. List·getD-eq-default {A = ℕ} (replicate 9 6) 6 l)
 
-module _ (es : List Entry) (op : ℕ) (ns : List ℕ) (neutral : isNeutral op ≡ true) (fits : indexFits es op ns ≡ true) where
+module _ (es : List Entry) (op : ℕ) (ns : List ℕ) (neutral : isNeutral op ≡ true) (fits : indexFits es op (getD ns 0 0) ≡ true) where
   -- the code is n, or a higher one
   or : (n : ℕ) (x y : Option Plain) → n ≤ op → (op ≡ n → Resolves x) → (n + 1 ≤ op → Resolves y) → Resolves (cond (eqb op n) x y)
   or n x y l f g = pick (eqb op n) refl
@@ -78,7 +79,7 @@ module _ (es : List Entry) (op : ℕ) (ns : List ℕ) (neutral : isNeutral op �
 
   -- THE LAW
   pub fits-resolves : Resolves (resolve es op ns)
-  unfolding resolve isNeutral shapeOf
+  unfolding resolve ruleOf isNeutral shapeOf
   fits-resolves =
       let o = entryOf es (getD ns 0 0) in
       or 6 _ _ (leb-true 6 op (and-eq-true-iff (leb 6 op) (leb (shapeOf op) 3) .0 neutral .0)) (λ e. literal-suits o (suited 6 refl e))

@@ -3,33 +3,27 @@
 use Prim.Native.Nat.{ℕ}
 use mathlib.Core.Path.{_≡_, refl}
 use mathlib.Core.List.{List, [], _∷_, map}
-use lib.ListN.{replicate}
-use Rattle.cells.specs.Cells.{undefinedCell, startingGlobal, valueOf}
+use Rattle.cells.specs.Cells.{startingGlobal, valueOf}
 use Rattle.cells.specs.declared.Value.the-variants.{Unspecified, Integer}
 use Rattle.fields.specs.Field.{bitAt, fieldAt, fieldRead, pickField}
-use Rattle.files.specs.Codes.{shapeOf, isNeutral, operands}
+use Rattle.files.specs.Codes.{shapeOf, isNeutral, operandBytes}
 use Rattle.files.specs.Code.{put, simple, bits}
 use Rattle.files.specs.Reading.{Got, got, refused, withField, withList, withDeep, shaped, headAt, before, after, items, deepOf, listAt}
 use Rattle.files.specs.Entries.{then, field, fieldGot, constantAt, kindAt, entryAt, entriesAt, zeroBits, nothingMore}
 use Rattle.files.specs.Rows.{plainFile, sheets}
 use Rattle.files.specs.Tree.{Template, templateAt, templatesAt, paddedEnd, treeRead}
-use Rattle.files.specs.Grammar.{isEmpty, isOpen, isClosed, entryOf, suits, indexFits, indicesFit, lowest}
+use Rattle.files.specs.Grammar.{isEmpty, isOpen, isClosed, entryOf, suits, indexFits, eachNeutral, indicesFit, lowest}
 use Rattle.files.specs.Flat.{offset, conditional, flat, armsFit, offsetsFit}
-use Rattle.files.specs.Linear.{bitsOf, entryBits, entriesBits, byteOf, bytesFrom, bytesOf, templateBytes, templatesBytes, linearFile, codeAt, linearAt, linearsAt, linearRead}
+use Rattle.files.specs.Linear.{bitsOf, entryBits, entriesBits, byteOf, bytesFrom, bytesOf, templateBytes, templatesBytes, linearFile, codeAt, linearTemplateAt, linearTemplatesAt, linearRead}
 use Rattle.files.specs.Accepted.{orLowest, treeChecked, flatChecked}
 use Rattle.files.specs.Table.{constantCell}
 use Rattle.rules.specs.Total.{signed, totalOf, within32, bits32, allIntegers}
 use Rattle.rules.specs.Rules.{literalRule, pushRule, addRule, plainRule, makeContRule, returnRule}
-use Rattle.machines.specs.Fetched.{asLiteral, resolve, plainly, openCount, first, beyond, look, callIn, branchIn, contIn, jumpIn, neutralIn, decode, treeAt}
-use Rattle.machines.specs.Fetched.{linearAt as linearCodeAt}
+use Rattle.machines.specs.Fetched.{namedBy, asLiteral, ruleOf, resolve, plainly, openCount, first, beyond, look, callIn, branchIn, contIn, jumpIn, neutralIn, decode, treeAt, linearAt}
 use Rattle.machines.specs.Machine.{bind, applied, called, returned, act, step, jumpCount, firstCount, counted, next, run}
-use Rattle.machines.specs.Runs.{Memory, memory, Ran, ran, refusedRun, rightLengths, lowestUnfit, fitGlobals, started, startState, endOf, memoryOf, reported, programRun, onTree, onLinear, treeRun, linearRun}
+use Rattle.machines.specs.Runs.{freshMemory, Ran, ran, refusedRun, rightLengths, lowestUnfit, fitGlobals, started, startState, endOf, memoryOf, reported, programRun, onTree, onLinear, treeRun, linearRun}
 use Rattle.machines.specs.declared.End.{End}
 use Rattle.machines.specs.declared.End.the-variants.{Halted, Refused}
-
--- fresh memory, all globals undefined
-abbrev pub fresh : Memory
-fresh = memory (replicate 256 undefinedCell) (replicate 256 0) (replicate 2048 0) (replicate 2048 0)
 
 -- what a row tells, with budgets of 100 and 200 steps (a larger one changes no end: longer of agree): the linear file or the refusal's number and place; each machine's end with its answer, and its steps
 pub data Told : Type 0 where
@@ -42,12 +36,12 @@ onTwo w (ran x m) (ran y n) = flattens w (x .end) (x .steps) (y .end) (y .steps)
 abbrev pub onOne : ℕ → ℕ → Ran → Told
 onOne n p (ran x m) = refuses n p (x .end)
 
-abbrev pub toldOf : List ℕ → Got (List Template) → Told
-toldOf s (got ts q) = onTwo (linearFile ts) (treeRun s 100 fresh) (linearRun (linearFile ts) 200 fresh)
-toldOf s (refused n p) = onOne n p (treeRun s 100 fresh)
+abbrev pub rowToldOf : List ℕ → Got (List Template) → Told
+rowToldOf s (got ts q) = onTwo (linearFile ts) (treeRun s 100 freshMemory) (linearRun (linearFile ts) 200 freshMemory)
+rowToldOf s (refused n p) = onOne n p (treeRun s 100 freshMemory)
 
-abbrev pub told : List ℕ → Told
-told s = toldOf s (flatChecked s)
+abbrev pub rowTold : List ℕ → Told
+rowTold s = rowToldOf s (flatChecked s)
 
 abbrev pub expected : List Told
 expected =
@@ -63,6 +57,6 @@ expected =
     ∷ []
 
 -- P1 to P7, and P8: offset 65,535 splits into 255, 255; 256 into 1, 0
-pub rows : (map told sheets ≡ expected) × (map offset (65535 ∷ 256 ∷ []) ≡ (255 ∷ 255 ∷ []) ∷ (1 ∷ 0 ∷ []) ∷ [])
-unfolding startingGlobal valueOf bitAt fieldAt fieldRead pickField shapeOf isNeutral operands put simple bits withField withList withDeep shaped headAt before after items deepOf listAt then field fieldGot constantAt kindAt entryAt entriesAt zeroBits nothingMore templateAt templatesAt paddedEnd treeRead isEmpty isOpen isClosed entryOf suits indexFits indicesFit lowest conditional flat armsFit offsetsFit bitsOf entryBits entriesBits byteOf bytesFrom bytesOf templateBytes templatesBytes linearFile codeAt linearAt linearsAt linearRead orLowest treeChecked flatChecked constantCell signed totalOf within32 bits32 allIntegers literalRule pushRule addRule plainRule makeContRule returnRule asLiteral resolve plainly openCount first beyond look callIn branchIn contIn jumpIn neutralIn decode treeAt linearCodeAt bind applied called returned act step jumpCount firstCount counted next run refusedRun rightLengths lowestUnfit fitGlobals started startState endOf memoryOf reported programRun onTree onLinear treeRun linearRun
+pub rows : (map rowTold sheets ≡ expected) × (map offset (65535 ∷ 256 ∷ []) ≡ (255 ∷ 255 ∷ []) ∷ (1 ∷ 0 ∷ []) ∷ [])
+unfolding startingGlobal valueOf bitAt fieldAt fieldRead pickField shapeOf isNeutral operandBytes put simple bits withField withList withDeep shaped headAt before after items deepOf listAt then field fieldGot constantAt kindAt entryAt entriesAt zeroBits nothingMore templateAt templatesAt paddedEnd treeRead isEmpty isOpen isClosed entryOf suits indexFits eachNeutral indicesFit lowest conditional flat armsFit offsetsFit bitsOf entryBits entriesBits byteOf bytesFrom bytesOf templateBytes templatesBytes linearFile codeAt linearTemplateAt linearTemplatesAt linearRead orLowest treeChecked flatChecked constantCell signed totalOf within32 bits32 allIntegers literalRule pushRule addRule plainRule makeContRule returnRule namedBy asLiteral ruleOf resolve plainly openCount first beyond look callIn branchIn contIn jumpIn neutralIn decode treeAt linearAt bind applied called returned act step jumpCount firstCount counted next run refusedRun rightLengths lowestUnfit fitGlobals started startState endOf memoryOf reported programRun onTree onLinear treeRun linearRun
 rows = (refl, refl)

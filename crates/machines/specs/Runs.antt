@@ -5,7 +5,8 @@ use mathlib.Core.List.{List, [], _∷_}
 use mathlib.Core.Option.{Option, none, some}
 use lib.Dec.{leb, eqb}
 use lib.ListN.{length, replicate}
-use Rattle.cells.specs.Cells.{startingGlobal, unspecifiedCell, valueOf, cellOf}
+use Rattle.cells.specs.Cells.{startingGlobal, undefinedCell, unspecifiedCell, valueOf, cellOf}
+use Rattle.cells.specs.Numbers.{budgetSpent, wrongLength, largeBudget, unfitGlobal}
 use Rattle.files.specs.Reading.{Got, got, refused}
 use Rattle.files.specs.Tree.{Template}
 use Rattle.files.specs.Linear.{Linear, linearRead}
@@ -26,6 +27,10 @@ pub record Memory : Type 0 where
 
 abbrev pub memory : List ℕ → List ℕ → List ℕ → List ℕ → Memory
 memory g s t f = record { globals = g; stack = s; store = t; frames = f }
+
+-- fresh memory, all globals undefined
+abbrev pub freshMemory : Memory
+freshMemory = memory (replicate 256 undefinedCell) (replicate 256 0) (replicate 2048 0) (replicate 2048 0)
 
 -- what a run returns, and the memory that it leaves
 pub data Ran : Type 0 where
@@ -52,15 +57,15 @@ lowestUnfit n (c ∷ cs) = cond (startingGlobal c) (lowestUnfit (n + 1) cs) (som
 
 -- the run, or refused 22
 unfoldable pub fitGlobals : Option ℕ → Memory → Ran → Ran
-fitGlobals (some g) m r = refusedRun 22 g m
+fitGlobals (some g) m r = refusedRun unfitGlobal g m
 fitGlobals none m r = r
 
 unfoldable pub started : ℕ → ℕ → Memory → Ran → Ran
 unfolding rightLengths lowestUnfit fitGlobals
 started most b m r =
     cond (rightLengths m)
-    (cond (leb b most) (fitGlobals (lowestUnfit 0 (m .globals)) m r) (refusedRun 21 0 m))
-    (refusedRun 20 0 m)
+    (cond (leb b most) (fitGlobals (lowestUnfit 0 (m .globals)) m r) (refusedRun largeBudget 0 m))
+    (refusedRun wrongLength 0 m)
 
 -- ---- the run of a program
 -- template 0, v not-specified, nothing on the stack, environment 0, no frames; stack, store and frames zero
@@ -114,7 +119,7 @@ linearRun s b m = started 2000000 b m (onLinear b m (linearRead s))
 unfoldable pub numberOf : End → ℕ
 numberOf (Halted v) = 0
 numberOf (Wrong n) = n
-numberOf OutOfBudget = 19
+numberOf OutOfBudget = budgetSpent
 numberOf (Refused n p) = n
 
 -- the answer's cell: cell 0 unless halted

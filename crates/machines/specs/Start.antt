@@ -7,6 +7,7 @@ use mathlib.Core.List.{List}
 use lib.Dec.{leb, eqb}
 use lib.ListN.{length, replicate, length-replicate}
 use borrow.Author.Tests.{leb-true, eqb-true}
+use Rattle.cells.specs.Numbers.{wrongLength, largeBudget, unfitGlobal}
 use Rattle.machines.specs.Runs.{Memory, Ran, ran, refusedRun, rightLengths, lowestUnfit, fitGlobals, started}
 use Rattle.machines.specs.declared.Run.{Run}
 use Rattle.machines.specs.declared.End.the-variants.{Refused as EndRefused}
@@ -27,7 +28,7 @@ refusal n p = record { end = EndRefused n p; steps = 0; stack = 0; store = 0; fr
 
 -- 22 with the lowest global that is not one to start with, if there is one
 unfoldable pub globalsRefusal : Option ℕ → Start
-globalsRefusal (some g) = Refused 22 g
+globalsRefusal (some g) = Refused unfitGlobal g
 globalsRefusal none = Go
 
 -- 20, 21, 22
@@ -35,8 +36,8 @@ unfoldable pub startRefusal : ℕ → ℕ → Memory → Start
 unfolding rightLengths lowestUnfit globalsRefusal
 startRefusal most b m =
     cond (rightLengths m)
-    (cond (leb b most) (globalsRefusal (lowestUnfit 0 (m .globals))) (Refused 21 0))
-    (Refused 20 0)
+    (cond (leb b most) (globalsRefusal (lowestUnfit 0 (m .globals))) (Refused largeBudget 0))
+    (Refused wrongLength 0)
 
 -- how a run ends that x was said of at its start
 unfoldable pub startedAs : Start → Memory → Ran → Ran
@@ -68,7 +69,7 @@ module _ (most b : ℕ) (m : Memory) where
   started-refused r n p e = rw (started-as most b m r, e)
 
 -- ---- what is known where nothing is refused
-pub record Startable (most b : ℕ) (m : Memory) : Type 0 where
+pub record MayStart (most b : ℕ) (m : Memory) : Type 0 where
   pub globals-long : length (m .globals) ≡ 256
   pub stack-long : length (m .stack) ≡ 256
   pub store-long : length (m .store) ≡ 2048
@@ -80,19 +81,19 @@ abbrev WhereGo : Type 0 → Start → Type 0
 WhereGo P Go = P
 WhereGo P (Refused n p) = Unit
 
-pub startable : (most b : ℕ) (m : Memory) → startRefusal most b m ≡ Go → Startable most b m
+pub startable : (most b : ℕ) (m : Memory) → startRefusal most b m ≡ Go → MayStart most b m
 unfolding startRefusal rightLengths
 startable most b m e =
     rw e at
     (by (eqb (length (m .globals)) 256) (eqb (length (m .stack)) 256) (eqb (length (m .store)) 2048) (eqb (length (m .frames)) 2048) (leb b most) refl refl refl refl refl)
   where
-    known : (x : Start) → Startable most b m → WhereGo (Startable most b m) x
+    known : (x : Start) → MayStart most b m → WhereGo (MayStart most b m) x
     known Go h = h
     known (Refused n p) h = tt
 
     by : (g s t f l : Bool) → eqb (length (m .globals)) 256 ≡ g → eqb (length (m .stack)) 256 ≡ s → eqb (length (m .store)) 2048 ≡ t
         → eqb (length (m .frames)) 2048 ≡ f → leb b most ≡ l
-        → WhereGo (Startable most b m)
+        → WhereGo (MayStart most b m)
         (cond (g && (s && (t && f))) (cond l (globalsRefusal (lowestUnfit 0 (m .globals))) (Refused 21 0)) (Refused 20 0))
     by false s t f l h i j k o = tt
     by true false t f l h i j k o = tt
@@ -111,7 +112,7 @@ startable most b m e =
 
 -- ---- a run that x was answered of at its start
 module _ (most b : ℕ) (m : Memory) (x : Start) (asked : x ≡ startRefusal most b m) where
-  pub may-start : x ≡ Go → Startable most b m
+  pub may-start : x ≡ Go → MayStart most b m
   may-start h = startable most b m (sym asked ∙ h)
 
   pub start-goes : (r r′ : Ran) → x ≡ Go → r ≡ r′ → r ≡ started most b m r′

@@ -34,9 +34,9 @@ unfoldable pub ranFrom : Program → ℕ → ℕ → State → Ran
 ranFrom P b n s = reported (run P b (done n) s)
 
 -- the end e in state s with n steps done
-unfoldable pub ends : End → ℕ → State → Ran
+unfoldable pub endsIn : End → ℕ → State → Ran
 unfolding memoryOf
-ends e n s = ran (record { end = e; steps = n; stack = s .now .regs .sp; store = s .now .regs .st; frames = s .now .fr }) (memoryOf (s .now))
+endsIn e n s = ran (record { end = e; steps = n; stack = s .now .regs .sp; store = s .now .regs .st; frames = s .now .fr }) (memoryOf (s .now))
 
 -- ---- one turn of a machine's loop, which has `left` of the budget b left: what is left to do gives what it gave before
 module _ {goal : Ran} (P : Program) (left b : ℕ) (s : State) (x : Step) (some : 0 < left) (most : left ≤ b) (e : x ≡ step P s)
@@ -51,17 +51,17 @@ module _ {goal : Ran} (P : Program) (left b : ℕ) (s : State) (x : Step) (some 
       counts-forgotten P (left - 1) (done (b - (left - 1))) (counted (here P s) s (done (b - left))) s′ (omega arith)
       ∙ rw k at opened
 
-  pub turn-halts : x ≡ halt → ends (Halted (valueOf (s .now .regs .v))) (b - left + 1) s ≡ goal
-  unfolding next reported endOf ends counted
+  pub turn-halts : x ≡ halt → endsIn (Halted (valueOf (s .now .regs .v))) (b - left + 1) s ≡ goal
+  unfolding next reported endOf endsIn counted
   turn-halts k = rw add-one (rw k at opened)
 
-  pub turn-stops : (n : ℕ) → x ≡ stop n → ends (Wrong n) (b - left) s ≡ goal
-  unfolding next reported endOf ends
+  pub turn-stops : (n : ℕ) → x ≡ stop n → endsIn (Wrong n) (b - left) s ≡ goal
+  unfolding next reported endOf endsIn
   turn-stops n k = rw k at opened
 
 -- nothing is left of the budget
-pub budget-spent : {goal : Ran} (P : Program) (left b : ℕ) (s : State) → left ≤ 0 → ranFrom P left (b - left) s ≡ goal → ends OutOfBudget b s ≡ goal
-unfolding ranFrom run reported endOf ends
+pub budget-spent : {goal : Ran} (P : Program) (left b : ℕ) (s : State) → left ≤ 0 → ranFrom P left (b - left) s ≡ goal → endsIn OutOfBudget b s ≡ goal
+unfolding ranFrom run reported endOf endsIn
 budget-spent P left b s k h = let a : left ≡ 0 = omega arith in rw sub-zero at (rw a at h)
 
 -- the whole budget is left

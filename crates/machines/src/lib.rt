@@ -6,7 +6,8 @@ use rules::Plain;
 ghost use mathlib.Core.Path.{_≡_};
 ghost use lib.ListN.{length};
 ghost use Rattle.machines.specs.Runs.{memory, lowestUnfit};
-ghost use Rattle.machines.specs.Slots.{slotLiteral, slotAt, slotResolve, resolvedAs, markedAs};
+ghost use Rattle.machines.specs.Fetched.{asLiteral};
+ghost use Rattle.machines.specs.Slots.{slotNames, slotAt, slotResolve, resolvedAs, markedAs};
 ghost use Rattle.machines.specs.Start.{zeros, refusal, globalsRefusal, startRefusal};
 
 // How a run ends.
@@ -148,7 +149,7 @@ fn under_tag(slot: u64, tag: u64) -> Marked
 }
 
 fn literal(slot: u64) -> Resolved
-    ensures { λ r. ⌜ r ≡ resolvedAs (slotLiteral slot) ⌝ }
+    ensures { λ r. ⌜ r ≡ resolvedAs (asLiteral (slotNames slot)) ⌝ }
 {
     let tag = cells::tag_of(slot);
     if tag == 0 {

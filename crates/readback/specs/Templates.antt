@@ -11,7 +11,7 @@ use Rattle.files.specs.AllGot.{Each}
 use Rattle.files.specs.EntriesLaws.{EntriesOk}
 use Rattle.files.specs.Tree.{Template}
 use Rattle.files.specs.Flat.{flat}
-use Rattle.files.specs.Linear.{Linear, entriesBits, bytesOf, threeBytes, templateBytes, templatesBytes, linearFile, codeAt, linearAt, linearsAt, linearRead}
+use Rattle.files.specs.Linear.{Linear, entriesBits, bytesOf, threeBytes, templateBytes, templatesBytes, linearFile, codeAt, linearTemplateAt, linearTemplatesAt, linearRead}
 use Rattle.readback.specs.Bits.{Holds, holds-left, holds-right, holds-fits, holds-code, here, byte-field, length-field, bytes-stand, padding-zero}
 use Rattle.readback.specs.Entries.{entries-back, entries-are}
 
@@ -44,8 +44,8 @@ module _ {s : List ℕ} where
 
   module _ (T own : ℕ) where
     template-back : {k : ℕ} (t : Template) → Writable T own t → Holds s k (templateBytes t)
-        → linearAt s own T (8 * k) ≡ got (linear k t) (8 * (k + length (templateBytes t)))
-    unfolding linearAt then templateBytes
+        → linearTemplateAt s own T (8 * k) ≡ got (linear k t) (8 * (k + length (templateBytes t)))
+    unfolding linearTemplateAt then templateBytes
     template-back {k} t ok h =
         let es = t .entries in
         let b = bytesOf (entriesBits es) in
@@ -63,8 +63,8 @@ module _ {s : List ℕ} where
         (here refl (simp length-append (omega arith)))
 
   templates-back : (T own : ℕ) {k : ℕ} (ts : List Template) → Each (Writable T) own ts → Holds s k (templatesBytes ts)
-      → linearsAt s T own (length ts) (8 * k) ≡ got (linears k ts) (8 * (k + length (templatesBytes ts)))
-  unfolding linearsAt linears templatesBytes then
+      → linearTemplatesAt s T own (length ts) (8 * k) ≡ got (linears k ts) (8 * (k + length (templatesBytes ts)))
+  unfolding linearTemplatesAt linears templatesBytes then
   templates-back T own [] ok h = here refl (omega arith)
   templates-back T own {k} (t ∷ ts) ok h =
       rw (

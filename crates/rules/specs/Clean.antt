@@ -16,7 +16,7 @@ use Rattle.rules.specs.State.{Mem, mem, regs, Held, ok}
 use Rattle.rules.specs.Fit.{Fit}
 use Rattle.rules.specs.Lists.{by-lt, sets-above, zeros-at}
 use Rattle.rules.specs.Rules.{Data, Back, noFrame, backTo, walk, lastFrame, frameBase, withFrame, withoutFrame, plainRule, callRule, makeContRule, returnRule}
-use Rattle.rules.specs.Effects.{left, checked, Effects, effect}
+use Rattle.rules.specs.Effects.{leaves-ok, checked, Effects, effect}
 use Rattle.rules.specs.declared.Regs.{Regs}
 use Rattle.rules.specs.declared.Plain.{Plain}
 use Rattle.rules.specs.declared.Plain.the-variants.{SetLocal}
@@ -92,7 +92,7 @@ module _ (d d′ : Data) where
 -- ---- the plain rules
 -- the registers that a plain rule leaves; its environment is as it was, or a new layer's
 pub plain-fit : (i : Plain) (m : Mem) (r : Regs) (h : Held) (u : ℕ) → plainRule i m r ≡ ok h → 2048 ≤ u → Fit r → r .env ≤ u → Fit (h .regs) × (h .regs .env ≤ u)
-plain-fit i m r h u e large f low = left (λ h. Fit (h .regs) × (h .regs .env ≤ u)) (plainRule i m r) h e (effect m r (λ h. Fit (h .regs) × (h .regs .env ≤ u)) i (record {
+plain-fit i m r h u e large f low = leaves-ok (λ h. Fit (h .regs) × (h .regs .env ≤ u)) (plainRule i m r) h e (effect m r (λ h. Fit (h .regs) × (h .regs .env ≤ u)) i (record {
   valued = λ c w. omega arith;
   primitive = λ c w. omega arith;
   closed = λ t w k. omega arith;
@@ -105,7 +105,7 @@ plain-fit i m r h u e large f low = left (λ h. Fit (h .regs) × (h .regs .env �
 
 module _ (i : Plain) (d : Data) (h : Held) (e : plainRule i (d .mem) (d .regs) ≡ ok h) where
   plainly : (P : Held → Type 0) → Effects i (d .mem) (d .regs) P → P h
-  plainly P f = left P (plainRule i (d .mem) (d .regs)) h e (effect (d .mem) (d .regs) P i f)
+  plainly P f = leaves-ok P (plainRule i (d .mem) (d .regs)) h e (effect (d .mem) (d .regs) P i f)
 
   pub plain-sized : Sized d → Sized (after d h)
   plain-sized z = plainly (λ h. Sized (after d h)) (record {
@@ -149,41 +149,41 @@ module _ (i : Plain) (d : Data) (h : Held) (e : plainRule i (d .mem) (d .regs) �
 
 -- ---- call
 module _ (n : ℕ) (d : Data) (t : ℕ) (r : Regs) (e : callRule n (d .regs) ≡ ok (t, r)) where
-  pub called : (P : ℕ × Regs → Type 0)
+  pub by-call : (P : ℕ × Regs → Type 0)
       → (tagOf (d .regs .v) ≡ 7 → P (closureTemplate (d .regs .v), regs (d .regs .v) (closureEnv (d .regs .v)) (d .regs .sp) (d .regs .st))) → P (t, r)
   unfolding callRule
-  called P f =
-      left P (callRule n (d .regs)) (t, r) e
+  by-call P f =
+      leaves-ok P (callRule n (d .regs)) (t, r) e
       (checked P (eqb (d .regs .sp) n) 10 _ (λ k. checked P (eqb (tagOf (d .regs .v)) 7) 11 _ (λ k. f (eqb-true _ 7 k))))
 
   pub call-template : t < 256
-  call-template = called (λ x. x .0 < 256) (λ k. omega arith)
+  call-template = by-call (λ x. x .0 < 256) (λ k. omega arith)
 
   pub call-sized : Sized d → Sized (entered d r)
   call-sized z = same-lengths d (entered d r) refl refl refl refl z
 
   pub call-bound : Bound d → Bound (entered d r)
-  call-bound b = called (λ x. Bound (entered d (x .1))) (λ k. omega arith)
+  call-bound b = by-call (λ x. Bound (entered d (x .1))) (λ k. omega arith)
 
   pub call-clean : Clean d → Clean (entered d r)
-  call-clean c = called (λ x. Clean (entered d (x .1))) (λ k. record { clean-stack = c .clean-stack; clean-store = c .clean-store; clean-frames = c .clean-frames })
+  call-clean c = by-call (λ x. Clean (entered d (x .1))) (λ k. record { clean-stack = c .clean-stack; clean-store = c .clean-store; clean-frames = c .clean-frames })
 
 -- ---- make-cont
 module _ (n t p : ℕ) (d d′ : Data) (e : makeContRule n t p d ≡ ok d′) where
-  pub continued : (P : Data → Type 0) → (d .regs .sp ≡ n → d .fr + n + 1 ≤ 2048 → P (withFrame n t p d)) → P d′
+  pub by-make-cont : (P : Data → Type 0) → (d .regs .sp ≡ n → d .fr + n + 1 ≤ 2048 → P (withFrame n t p d)) → P d′
   unfolding makeContRule
-  continued P f =
-      left P (makeContRule n t p d) d′ e
+  by-make-cont P f =
+      leaves-ok P (makeContRule n t p d) d′ e
       (checked P (eqb (d .regs .sp) n) 10 _ (λ k. checked P (leb (d .fr + n + 1) 2048) 18 _ (λ l. f (eqb-true _ n k) (leb-true _ 2048 l))))
 
   pub make-cont-sized : Sized d → Sized d′
-  make-cont-sized z = continued Sized (λ k l. same-lengths d (withFrame n t p d) refl (simp length-sets) refl (simp (length-set, length-sets)) z)
+  make-cont-sized z = by-make-cont Sized (λ k l. same-lengths d (withFrame n t p d) refl (simp length-sets) refl (simp (length-set, length-sets)) z)
 
   pub make-cont-bound : Bound d → Bound d′
-  make-cont-bound b = continued Bound (λ k l. omega arith)
+  make-cont-bound b = by-make-cont Bound (λ k l. omega arith)
 
   pub make-cont-clean : Clean d → Clean d′
-  make-cont-clean c = continued Clean (λ k l. record {
+  make-cont-clean c = by-make-cont Clean (λ k l. record {
     clean-stack = cleared (d .mem .stack) 0 n (d .regs .sp) (c .clean-stack) (omega arith);
     clean-store = c .clean-store;
     clean-frames = one-stored (sets (d .frames) (d .fr) (take n (d .mem .stack))) (d .fr + n) (d .fr + n + 1) (frameCell n t (d .regs .env) p)
@@ -192,24 +192,24 @@ module _ (n t p : ℕ) (d d′ : Data) (e : makeContRule n t p d ≡ ok d′) wh
 
 -- ---- return
 module _ (d : Data) (t p : ℕ) (d′ : Data) (e : returnRule d ≡ backTo t p d′) where
-  pub returned : (P : ℕ → ℕ → Data → Type 0) → ((d .fr ≡ 0 → ⊥) → P (frameTemplate (lastFrame d)) (framePlace (lastFrame d)) (withoutFrame d)) → P t p d′
+  pub by-return : (P : ℕ → ℕ → Data → Type 0) → ((d .fr ≡ 0 → ⊥) → P (frameTemplate (lastFrame d)) (framePlace (lastFrame d)) (withoutFrame d)) → P t p d′
   unfolding returnRule
-  returned P f = given-back P (returnRule d) t p d′ e (framed P (eqb (d .fr) 0) _ (λ k. f (eqb-false (d .fr) 0 k)))
+  by-return P f = given-back P (returnRule d) t p d′ e (framed P (eqb (d .fr) 0) _ (λ k. f (eqb-false (d .fr) 0 k)))
 
   pub return-template : t < 256
-  return-template = returned (λ t p d. t < 256) (λ k. omega arith)
+  return-template = by-return (λ t p d. t < 256) (λ k. omega arith)
 
   pub return-place : p < 0x1000000
-  return-place = returned (λ t p d. p < 0x1000000) (λ k. omega arith)
+  return-place = by-return (λ t p d. p < 0x1000000) (λ k. omega arith)
 
   pub return-sized : Sized d → Sized d′
-  return-sized z = returned (λ t p d. Sized d) (λ k. same-lengths d (withoutFrame d) refl (simp length-sets) refl (simp length-sets) z)
+  return-sized z = by-return (λ t p d. Sized d) (λ k. same-lengths d (withoutFrame d) refl (simp length-sets) refl (simp length-sets) z)
 
   pub return-bound : Bound d → Bound d′
-  return-bound b = returned (λ t p d. Bound d) (λ k. omega arith)
+  return-bound b = by-return (λ t p d. Bound d) (λ k. omega arith)
 
   pub return-clean : Clean d → Clean d′
-  return-clean c = returned (λ t p d. Clean d) (λ k. record {
+  return-clean c = by-return (λ t p d. Clean d) (λ k. record {
     clean-stack = stored (zeroed (d .mem .stack) 0 (d .regs .sp)) (part (d .frames) (frameBase d) (frameCount (lastFrame d))) 0 (frameCount (lastFrame d))
         (cleared (d .mem .stack) 0 (d .regs .sp) (d .regs .sp) (c .clean-stack) (omega arith)) (simp length-take (omega arith));
     clean-store = c .clean-store;

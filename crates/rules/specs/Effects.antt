@@ -27,8 +27,8 @@ abbrev pub Leaves : {A : Type 0} → (A → Type 0) → Res A → Type 0
 Leaves P (ok a) = P a
 Leaves P (wrong n) = Unit {0}
 
-pub left : {A : Type 0} (P : A → Type 0) (x : Res A) (a : A) → x ≡ ok a → Leaves P x → P a
-left P x a e h = rw e at h
+pub leaves-ok : {A : Type 0} (P : A → Type 0) (x : Res A) (a : A) → x ≡ ok a → Leaves P x → P a
+leaves-ok P x a e h = rw e at h
 
 pub checked : {A : Type 0} (P : A → Type 0) (b : Bool) (n : ℕ) (x : Res A) → (b ≡ true → Leaves P x) → Leaves P (need b n x)
 checked P true n x f = f refl

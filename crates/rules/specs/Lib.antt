@@ -7,7 +7,7 @@ pub mod Fit
 pub mod Answers
 pub mod Told
 pub mod Related
-pub mod Numbers
+pub mod Never16
 pub mod Effects
 pub mod Clean
 pub mod Sound

@@ -10,6 +10,7 @@ use lib.Dec.{ltb, leb, eqb}
 use Rattle.runs.specs.Runs.{zeroed, part}
 use Rattle.cells.specs.Cells.{tagOf, falseCell, trueCell, unspecifiedCell, undefinedCell, intCell, closureCell, closureTemplate, closureEnv}
 use Rattle.cells.specs.Cells.{pairCell, pairFirst, pairSecond, layerCell, layerParent, layerCount, frameCell, frameCount, frameTemplate, frameEnv, framePlace}
+use Rattle.cells.specs.Numbers.{wrongCount, noClosure, undefined, beyondLayers, wrongKind, outOfRange, stackFull, noRoom}
 use Rattle.rules.specs.Total.{totalOf, within32, bits32, allIntegers}
 use Rattle.rules.specs.State.{Mem, mem, regs, Held, Res, ok, wrong, on, need}
 use Rattle.rules.specs.declared.Regs.{Regs}
@@ -26,13 +27,13 @@ literalRule c m r = on (value c r) m
 
 unfoldable pub closureRule : ℕ → Mem → Regs → Res Held
 closureRule t m r =
-    need (leb (r .st + 1) 2048) 18
+    need (leb (r .st + 1) 2048) noRoom
     (on (regs (closureCell t (r .env) (r .st)) (r .env) (r .sp) (r .st + 1)) (mem (m .globals) (m .stack) (set (m .store) (r .st) unspecifiedCell)))
 
 -- ---- global, set-global!
 -- v is what is held; undefined is wrong 12
 unfoldable pub heldRule : ℕ → Mem → Regs → Res Held
-heldRule c m r = need (not (eqb c undefinedCell)) 12 (on (value c r) m)
+heldRule c m r = need (not (eqb c undefinedCell)) undefined (on (value c r) m)
 
 unfoldable pub globalRule : ℕ → Mem → Regs → Res Held
 unfolding heldRule
@@ -49,7 +50,7 @@ walk s e (suc n₁) n₂ = cond (eqb e 0) none (walk s (layerParent (getD s (e -
 
 -- on where a place was found, else wrong 13
 abbrev pub found : Option ℕ → (ℕ → Res Held) → Res Held
-found none f = wrong 13
+found none f = wrong beyondLayers
 found (some l) f = f l
 
 unfoldable pub localRule : ℕ → ℕ → Mem → Regs → Res Held
@@ -63,19 +64,19 @@ setLocalRule n₁ n₂ m r =
 
 -- ---- push, unspecified
 unfoldable pub pushRule : Mem → Regs → Res Held
-pushRule m r = need (ltb (r .sp) 256) 17 (on (regs (r .v) (r .env) (r .sp + 1) (r .st)) (mem (m .globals) (set (m .stack) (r .sp) (r .v)) (m .store)))
+pushRule m r = need (ltb (r .sp) 256) stackFull (on (regs (r .v) (r .env) (r .sp + 1) (r .st)) (mem (m .globals) (set (m .stack) (r .sp) (r .v)) (m .store)))
 
 -- ---- make-env, checkargs=
 -- a layer cell and n cells, top first, go to the store
 unfoldable pub makeEnvRule : ℕ → Mem → Regs → Res Held
 makeEnvRule n m r =
-    need (eqb (r .sp) n) 10
-    (need (leb (r .st + 1 + n) 2048) 18
+    need (eqb (r .sp) n) wrongCount
+    (need (leb (r .st + 1 + n) 2048) noRoom
     (on (regs (r .v) (r .st + 1) 0 (r .st + 1 + n))
     (mem (m .globals) (zeroed (m .stack) 0 n) (sets (m .store) (r .st) (layerCell (r .env) n ∷ reverse (take n (m .stack)))))))
 
 unfoldable pub checkArgsRule : ℕ → Mem → Regs → Res Held
-checkArgsRule n m r = need (eqb (r .sp) n) 10 (on r m)
+checkArgsRule n m r = need (eqb (r .sp) n) wrongCount (on r m)
 
 -- ---- primitives; they empty the stack afterwards
 abbrev pub top : Mem → Regs → ℕ
@@ -91,14 +92,14 @@ emptied c m r = on (regs c (r .env) 0 (r .st)) (mem (m .globals) (zeroed (m .sta
 -- the store gets what is below the top, then the top
 unfoldable pub consRule : Mem → Regs → Res Held
 consRule m r =
-    need (leb 2 (r .sp)) 10
-    (need (leb (r .st + 2) 2048) 18
+    need (leb 2 (r .sp)) wrongCount
+    (need (leb (r .st + 2) 2048) noRoom
     (on (regs (pairCell (r .st) (r .st + 1)) (r .env) 0 (r .st + 2))
     (mem (m .globals) (zeroed (m .stack) 0 (r .sp)) (sets (m .store) (r .st) (under m r ∷ top m r ∷ [])))))
 
 -- what stands at a location of the pair on top
 abbrev pub partRule : (ℕ → ℕ) → Mem → Regs → Res Held
-partRule location m r = need (leb 1 (r .sp)) 10 (need (eqb (tagOf (top m r)) 8) 14 (emptied (getD (m .store) (location (top m r)) 0) m r))
+partRule location m r = need (leb 1 (r .sp)) wrongCount (need (eqb (tagOf (top m r)) 8) wrongKind (emptied (getD (m .store) (location (top m r)) 0) m r))
 
 unfoldable pub carRule : Mem → Regs → Res Held
 carRule m r = partRule pairFirst m r
@@ -107,13 +108,13 @@ unfoldable pub cdrRule : Mem → Regs → Res Held
 cdrRule m r = partRule pairSecond m r
 
 unfoldable pub eqvRule : Mem → Regs → Res Held
-eqvRule m r = need (leb 2 (r .sp)) 10 (emptied (cond (eqb (top m r) (under m r)) trueCell falseCell) m r)
+eqvRule m r = need (leb 2 (r .sp)) wrongCount (emptied (cond (eqb (top m r) (under m r)) trueCell falseCell) m r)
 
 unfoldable pub addRule : Mem → Regs → Res Held
 addRule m r =
-    need (leb 1 (r .sp)) 10
-    (need (allIntegers (take (r .sp) (m .stack))) 14
-    (need (within32 (totalOf (take (r .sp) (m .stack)))) 15
+    need (leb 1 (r .sp)) wrongCount
+    (need (allIntegers (take (r .sp) (m .stack))) wrongKind
+    (need (within32 (totalOf (take (r .sp) (m .stack)))) outOfRange
     (emptied (intCell (bits32 (totalOf (take (r .sp) (m .stack))))) m r)))
 
 -- ---- the plain instructions together
@@ -137,8 +138,8 @@ plainRule Add m r = addRule m r
 -- ---- call: the closure's template, and its environment
 unfoldable pub callRule : ℕ → Regs → Res (ℕ × Regs)
 callRule n r =
-    need (eqb (r .sp) n) 10
-    (need (eqb (tagOf (r .v)) 7) 11 (ok (closureTemplate (r .v), regs (r .v) (closureEnv (r .v)) (r .sp) (r .st))))
+    need (eqb (r .sp) n) wrongCount
+    (need (eqb (tagOf (r .v)) 7) noClosure (ok (closureTemplate (r .v), regs (r .v) (closureEnv (r .v)) (r .sp) (r .st))))
 
 -- ---- the conditional
 abbrev pub isFalse : Regs → Bool
@@ -163,9 +164,13 @@ withCell n x d = record {
 abbrev pub withFrame : ℕ → ℕ → ℕ → Data → Data
 withFrame n t p d = withCell n (frameCell n t (d .regs .env) p) d
 
--- the stack's values, bottom first, and then a frame cell with template t and code place p
+-- the stack's values, bottom first, and then a frame's cell x
+abbrev pub keepRule : ℕ → ℕ → Data → Res Data
+keepRule n x d = need (eqb (d .regs .sp) n) wrongCount (need (leb (d .fr + n + 1) 2048) noRoom (ok (withCell n x d)))
+
+-- a frame cell with template t and code place p
 unfoldable pub makeContRule : ℕ → ℕ → ℕ → Data → Res Data
-makeContRule n t p d = need (eqb (d .regs .sp) n) 10 (need (leb (d .fr + n + 1) 2048) 18 (ok (withFrame n t p d)))
+makeContRule n t p d = keepRule n (frameCell n t (d .regs .env) p) d
 
 -- the last frame's cell, and where its stack cells begin
 abbrev pub lastFrame : Data → ℕ

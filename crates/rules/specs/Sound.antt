@@ -10,6 +10,7 @@ use lib.ListN.{getD, set}
 use lib.Seq.{getD-set-other}
 use lib.Dec.{ltb, eqb}
 use borrow.Author.Tests.{ltb-true, eqb-false}
+use Rattle.cells.specs.Laws.{clash}
 use Rattle.cells.specs.Cells.{tagOf, undefinedCell, closureEnv, pairFirst, pairSecond, layerParent, layerCount, frameCount, frameEnv, ValueCell, cellOf, Fits}
 use Rattle.cells.specs.declared.Value.{Value}
 use Rattle.cells.specs.declared.Value.the-variants.{False, True, Null, Unspecified, Integer, Procedure, Pair, NoValue}
@@ -166,7 +167,7 @@ module _ {s : List ℕ} {u : ℕ} {s′ : List ℕ} {u′ : ℕ} (g : Grows s u 
 
 -- ---- THE LAW: at a place that is found a value is held
 not-none : {B : Type 0} {l : ℕ} → _≡_ {A = Option ℕ} none (some l) → B
-not-none e = let z : _≡_ {A = ℕ} 0 1 = cc in absurd (omega arith)
+not-none e = clash (cc)
 
 cond-else : (b : Bool) (o : Option ℕ) {l : ℕ} → cond b none o ≡ some l → (b ≡ false) × (o ≡ some l)
 cond-else true o e = not-none e

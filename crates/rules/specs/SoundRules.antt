@@ -13,9 +13,9 @@ use Rattle.cells.specs.Laws.{closure-back, pair-back, layer-back, frame-back}
 use Rattle.cells.specs.declared.Value.{Value}
 use Rattle.rules.specs.State.{mem, regs, Held, ok}
 use Rattle.rules.specs.Rules.{Data, backTo, top, under, lastFrame, frameBase, withFrame, withoutFrame, plainRule, callRule, makeContRule, returnRule}
-use Rattle.rules.specs.Effects.{ConstantCell, unspecified-constant, From, from-literal, from-v, from-global, from-local, from-pair, from-constant, held, left, effect}
+use Rattle.rules.specs.Effects.{ConstantCell, unspecified-constant, From, from-literal, from-v, from-global, from-local, from-pair, from-constant, held, leaves-ok, effect}
 use Rattle.rules.specs.Lists.{by-lt, sets-below}
-use Rattle.rules.specs.Clean.{Sized, Bound, after, entered, called, continued, returned}
+use Rattle.rules.specs.Clean.{Sized, Bound, after, entered, by-call, by-make-cont, by-return}
 use Rattle.rules.specs.Sound.{Layer, EnvOk, layer, Spot, ValueIn, StoreCell, a-layer, a-value, FramesOk, no-frame, frame, GlobalsOk, StackOk, StoreOk, Sound}
 use Rattle.rules.specs.Sound.{value-no-layer, constant-in, spot-value, Grows, grown, more-used, set-case, replaced, lower, env-moved, value-moved, frames-moved, store-moved, inside}
 use Rattle.rules.specs.declared.Regs.{Regs}
@@ -251,7 +251,7 @@ module _ (d : Data) (z : Sized d) (b : Bound d) (o : Sound d) where
       rw (e, getD-set-same (d .mem .stack) (d .regs .sp) (d .regs .v) 0 (omega arith)) (o .v-ok))
 
   pub plain-sound : (i : Plain) (h : Held) → PlainOk i → plainRule i (d .mem) (d .regs) ≡ ok h → Sound (after d h)
-  plain-sound i h p e = left (λ h. Sound (after d h)) (plainRule i (d .mem) (d .regs)) h e (effect (d .mem) (d .regs) (λ h. Sound (after d h)) i (record {
+  plain-sound i h p e = leaves-ok (λ h. Sound (after d h)) (plainRule i (d .mem) (d .regs)) h e (effect (d .mem) (d .regs) (λ h. Sound (after d h)) i (record {
     valued = λ c w. kept stays (from-ok i c p w) (o .env-ok) (o .globals-ok) (o .stack-ok) (o .store-ok);
     primitive = λ c w. kept stays (from-ok i c p w) (o .env-ok) (o .globals-ok) (λ j k. absurd (omega arith)) (o .store-ok);
     closed = λ t w k. closed-sound t (rw w at p) k;
@@ -265,7 +265,7 @@ module _ (d : Data) (z : Sized d) (b : Bound d) (o : Sound d) where
 
 -- ---- call
 pub call-sound : (n : ℕ) (d : Data) (t : ℕ) (r : Regs) → callRule n (d .regs) ≡ ok (t, r) → Sound d → Sound (entered d r)
-call-sound n d t r e o = called n d t r e (λ x. Sound (entered d (x .1))) (λ k. record {
+call-sound n d t r e o = by-call n d t r e (λ x. Sound (entered d (x .1))) (λ k. record {
   v-ok = o .v-ok;
   env-ok = o .v-ok .closure-ok k;
   globals-ok = o .globals-ok;
@@ -309,7 +309,7 @@ module _ (n t p : ℕ) (d : Data) (n-fits : n < 2 ^ 8) (t-fits : t < 2 ^ 8) (p-f
           (o .stack-ok i (omega arith))
 
   pub make-cont-sound : (d′ : Data) → makeContRule n t p d ≡ ok d′ → Sound d′
-  make-cont-sound d′ e = continued n t p d d′ e Sound (λ k l. record {
+  make-cont-sound d′ e = by-make-cont n t p d d′ e Sound (λ k l. record {
     v-ok = o .v-ok;
     env-ok = o .env-ok;
     globals-ok = o .globals-ok;
@@ -360,4 +360,4 @@ module _ (d : Data) (z : Sized d) (b : Bound d) (o : Sound d) where
         ∙ getD-take n (drop (frameBase d) (d .frames)) i 0 h ∙ getD-drop (frameBase d) (d .frames) i 0
 
   pub return-sound : (t p : ℕ) (d′ : Data) → returnRule d ≡ backTo t p d′ → Sound d′
-  return-sound t p d′ e = returned d t p d′ e (λ t p d. Sound d) back-sound
+  return-sound t p d′ e = by-return d t p d′ e (λ t p d. Sound d) back-sound

@@ -14,7 +14,7 @@ use Rattle.files.specs.Reading.{Got, got, refused, listAt}
 use Rattle.files.specs.ReadingLaws.{list-bits, list-valid}
 use Rattle.files.specs.AllGot.{AllGot, got-all, then-all, cond-all, nothing-all, zero-all, Each, each-at}
 use Rattle.files.specs.Tree.{Template, templateAt, templatesAt, paddedEnd, treeRead}
-use Rattle.files.specs.Linear.{Linear, codeAt, linearAt, linearsAt, linearRead}
+use Rattle.files.specs.Linear.{Linear, codeAt, linearTemplateAt, linearTemplatesAt, linearRead}
 use Rattle.files.specs.Accepted.{orLowest, treeChecked}
 use Rattle.files.specs.Grammar.{lowest, closedTemplate, indexedTemplate}
 use Rattle.files.specs.Valid.{Bytes}
@@ -108,8 +108,8 @@ module _ (s : List ℕ) (bytes : Bytes s) (small : length s ≤ 262144) (T : ℕ
       })
       (λ e. tt)
 
-  linear-read : (own p : ℕ) → AllGot (LinearOk T own) (linearAt s own T p)
-  unfolding linearAt
+  linear-read : (own p : ℕ) → AllGot (LinearOk T own) (linearTemplateAt s own T p)
+  unfolding linearTemplateAt
   linear-read own p =
       then-all (LinearOk T own) (field s p 8) _
       (λ n q e. then-all (LinearOk T own) (entriesAt s own T n q) _
@@ -117,16 +117,16 @@ module _ (s : List ℕ) (bytes : Bytes s) (small : length s ≤ 262144) (T : ℕ
       (λ es′ u e₃. then-all (LinearOk T own) (field s u 24) _
       (λ k v e₄. code-read own es′ k v (got-all (EntriesOk own T) (zero-all (EntriesOk own T) s (toByte r) r es (entries-read s own T few n q e₂ .ok)) e₃)))))
 
-  linears-read : (n own p : ℕ) → AllGot (Numbered (LinearOk T) n own) (linearsAt s T own n p)
-  unfolding linearsAt
+  linears-read : (n own p : ℕ) → AllGot (Numbered (LinearOk T) n own) (linearTemplatesAt s T own n p)
+  unfolding linearTemplatesAt
   linears-read zero own p = (refl, tt)
-  linears-read (suc n) own p = one-more (LinearOk T) n own (linearAt s own T p) (linearsAt s T (own + 1) n) (linear-read own p) (linears-read n (own + 1))
+  linears-read (suc n) own p = one-more (LinearOk T) n own (linearTemplateAt s own T p) (linearTemplatesAt s T (own + 1) n) (linear-read own p) (linears-read n (own + 1))
 
 linear-read-ok : (s : List ℕ) → Bytes s → AllGot (FileOk LinearOk) (linearRead s)
 unfolding linearRead
 linear-read-ok s bytes =
     cond-all (FileOk LinearOk) (leb (length s) 262144) _ (refused 1 0)
-    (λ i. file-ok LinearOk s (λ T p. linearsAt s T 0 T p) (λ ts q. nothingMore s q ts) (λ T p few. linears-read s bytes (leb-true (length s) 262144 i) T few T 0 p)
+    (λ i. file-ok LinearOk s (λ T p. linearTemplatesAt s T 0 T p) (λ ts q. nothingMore s q ts) (λ T p few. linears-read s bytes (leb-true (length s) 262144 i) T few T 0 p)
     (λ ts q h. nothing-all (FileOk LinearOk) s q ts h))
     (λ i. tt)
 

@@ -10,7 +10,7 @@ use lib.Dec.{ltb, leb, eqb}
 use lib.ListN.{length, getD, take, drop, length-drop, List·getD-eq-default}
 use Rattle.cells.specs.Cells.{cellOf, Fits}
 use Rattle.cells.specs.declared.Value.{Value}
-use Rattle.files.specs.Codes.{isNeutral, operands}
+use Rattle.files.specs.Codes.{isNeutral, operandBytes}
 use Rattle.files.specs.Code.{Code, done, neutral, return, call, unless-false, make-cont, bits}
 use Rattle.files.specs.Entries.{Entry, constant, global, template}
 use Rattle.files.specs.EntriesLaws.{EntryOk, EntriesOk}
@@ -25,7 +25,7 @@ use Rattle.rules.specs.Effects.{ConstantCell, integer-constant}
 use Rattle.rules.specs.SoundRules.{PlainOk}
 use Rattle.rules.specs.declared.Plain.{Plain}
 use Rattle.rules.specs.declared.Plain.the-variants.{Global, SetGlobal}
-use Rattle.machines.specs.Fetched.{Fetched, plain, returns, calls, branches, saves, jumps, bad, asLiteral, asClosure, asGlobal, resolve, plainly}
+use Rattle.machines.specs.Fetched.{Fetched, plain, returns, calls, branches, saves, jumps, bad, namedBy, asLiteral, asClosure, asGlobal, ruleOf, resolve, plainly}
 use Rattle.machines.specs.Fetched.{first, lookBy, beyond, look, callIn, branchIn, contIn, jumpIn, neutralIn, decode, noTemplate, noLinear, treeAt, linearAt}
 use Rattle.machines.specs.Machine.{Program, treeProgram, linearProgram}
 
@@ -82,22 +82,22 @@ ResolvedOk none = Unit {0}
 ResolvedOk (some i) = PlainOk i
 
 module _ (own T : ℕ) (es : List Entry) (fit : EntriesOk own T es) where
-  literal-ok : (e : Option Entry) → FoundOk own T e → ResolvedOk (asLiteral e)
-  unfolding asLiteral
+  literal-ok : (e : Option Entry) → FoundOk own T e → ResolvedOk (asLiteral (namedBy e))
+  unfolding asLiteral namedBy
   literal-ok none k = tt
   literal-ok (some (constant t x)) k = constant-cell t x (k .0) (k .1)
   literal-ok (some (global g)) k = tt
   literal-ok (some (template t)) k = tt
 
-  closure-ok : (e : Option Entry) → FoundOk own T e → ResolvedOk (asClosure e)
-  unfolding asClosure
+  closure-ok : (e : Option Entry) → FoundOk own T e → ResolvedOk (asClosure (namedBy e))
+  unfolding asClosure namedBy
   closure-ok none k = tt
   closure-ok (some (constant t x)) k = tt
   closure-ok (some (global g)) k = tt
   closure-ok (some (template t)) k = omega arith
 
-  global-ok : (f : ℕ → Plain) → ((g : ℕ) → g < 256 → PlainOk (f g)) → (e : Option Entry) → FoundOk own T e → ResolvedOk (asGlobal f e)
-  unfolding asGlobal
+  global-ok : (f : ℕ → Plain) → ((g : ℕ) → g < 256 → PlainOk (f g)) → (e : Option Entry) → FoundOk own T e → ResolvedOk (asGlobal f (namedBy e))
+  unfolding asGlobal namedBy
   global-ok f h none k = tt
   global-ok f h (some (constant t x)) k = tt
   global-ok f h (some (global g)) k = h g k
@@ -105,7 +105,7 @@ module _ (own T : ℕ) (es : List Entry) (fit : EntriesOk own T es) where
 
   -- what an instruction is resolved to is ok
   pub resolve-ok : (op : ℕ) (ns : List ℕ) → Bytes ns → ResolvedOk (resolve es op ns)
-  unfolding resolve
+  unfolding resolve ruleOf
   resolve-ok op ns b =
       let o = entryOf es (getD ns 0 0) in
       let e : FoundOk own T o = entry-ok own T es (getD ns 0 0) fit in
@@ -199,7 +199,7 @@ module _ (own T : ℕ) (es : List Entry) (fit : EntriesOk own T es) where
   decode-ok q [] b k = tt
   decode-ok q (op ∷ w) b k =
       either FetchedOk (isNeutral op) _ _
-      (either FetchedOk (leb (operands op) (length w)) _ bad (neutral-ok op (take (operands op) w) _ (bytes-take (operands op) w (b .1))) tt)
+      (either FetchedOk (leb (operandBytes op) (length w)) _ bad (neutral-ok op (take (operandBytes op) w) _ (bytes-take (operandBytes op) w (b .1))) tt)
       (either FetchedOk (eqb op 1) returns _ tt
       (either FetchedOk (eqb op 2) _ _ (call-in-ok w)
       (either FetchedOk (eqb op 3) _ _ (branch-in-ok q w)

@@ -1,7 +1,6 @@
 -- A run, one law for each way that a turn of the loop goes. Assumes nothing.
 use Prim.Native.Nat.{ℕ, _+_, _-_, _<_, _≤_}
 use mathlib.Core.Path.{_≡_, ap, _∙_}
-use mathlib.Core.Bool.{Bool}
 use mathlib.Core.List.{List}
 use native.Mathlib.Nat.{sub-self}
 use native.Mathlib.Omega.{arith}
@@ -13,12 +12,12 @@ use Rattle.rules.specs.declared.Regs.{Regs}
 use Rattle.machines.specs.Machine.{Program, State, step}
 use Rattle.machines.specs.Runs.{Memory, Ran, ran, memoryOf, startState}
 use Rattle.machines.specs.Start.{zeros, zeros-length}
-use Rattle.machines.specs.Steps.{ranFrom, ends, turn-goes, turn-halts, turn-stops, budget-spent}
-use Rattle.machines.specs.Instruction.{number, isLinear, Of}
+use Rattle.machines.specs.Steps.{ranFrom, endsIn, turn-goes, turn-halts, turn-stops, budget-spent}
+use Rattle.machines.specs.Instruction.{number, Form, formOf, Of}
 use Rattle.machines.specs.declared.CodePlace.{CodePlace}
 use Rattle.machines.specs.declared.End.the-variants as end
 use Rattle.machines.specs.declared.Run.{Run}
-use Rattle.steps.specs.Step.{codeProgram, CodeReady, control, stateOf, endsWith, meant, Unchanged, GoesOn, Taken, Ready}
+use Rattle.steps.specs.Step.{codeProgram, CodeReady, control, stateOf, endsWith, meant, Unchanged, GoesOn, Taken, StepReady}
 use Rattle.steps.specs.declared.Control.{Control}
 use Rattle.steps.specs.declared.OneStep.{OneStep}
 use Rattle.steps.specs.declared.OneStep.the-variants.{Next, Halted, Wrong}
@@ -28,46 +27,46 @@ pub at-first : (P : Program) (b : ℕ) (s : State) → ranFrom P b (b - b) s ≡
 at-first P b s = rw (sub-self b)
 
 -- ---- a turn in code of a form, which the place c .place is in
-module _ {goal : Ran} (linear : Bool) (s L table : List ℕ) (left b : ℕ) (m m′ : Memory) (r : Regs) (c : Control) (x : OneStep) (some : 0 < left) (most : left ≤ b)
-    (o : Of linear (c .place)) (t : Taken (isLinear (c .place)) x m m′ (step (codeProgram (isLinear (c .place)) s L table) (stateOf r c m)))
-    (h : ranFrom (codeProgram linear s L table) left (b - left) (stateOf r c m) ≡ goal) where
+module _ {goal : Ran} (form : Form) (s L table : List ℕ) (left b : ℕ) (m m′ : Memory) (r : Regs) (c : Control) (x : OneStep) (some : 0 < left) (most : left ≤ b)
+    (o : Of form (c .place)) (t : Taken (formOf (c .place)) x m m′ (step (codeProgram (formOf (c .place)) s L table) (stateOf r c m)))
+    (h : ranFrom (codeProgram form s L table) left (b - left) (stateOf r c m) ≡ goal) where
   abbrev P : Program
-  P = codeProgram linear s L table
+  P = codeProgram form s L table
 
   step-is : meant x m′ ≡ step P (stateOf r c m)
-  step-is = t .meant-is ∙ ap (λ (l : Bool). step (codeProgram l s L table) (stateOf r c m)) o
+  step-is = t .meant-is ∙ ap (λ (l : Form). step (codeProgram l s L table) (stateOf r c m)) o
 
   pub next-turn : (q : Regs) (k : Control) → x ≡ Next q k → ranFrom P (left - 1) (b - (left - 1)) (stateOf q k m′) ≡ goal
   unfolding meant
   next-turn q k e = turn-goes P left b (stateOf r c m) (meant x m′) some most step-is h (stateOf q k m′) (rw e)
 
-  pub next-place : (q : Regs) (k : Control) → x ≡ Next q k → Of linear (k .place)
+  pub next-place : (q : Regs) (k : Control) → x ≡ Next q k → Of form (k .place)
   unfolding GoesOn
   next-place q k e = let g = rw e at (t .goes-on) in g .2 ∙ o
 
-  pub next-ready : (q : Regs) (k : Control) → x ≡ Next q k → Ready s table m r c → length (m′ .globals) ≡ 256 → length (m′ .stack) ≡ 256
-      → length (m′ .store) ≡ 2048 → length (m′ .frames) ≡ 2048 → Ready s table m′ q k
+  pub next-ready : (q : Regs) (k : Control) → x ≡ Next q k → StepReady s table m r c → length (m′ .globals) ≡ 256 → length (m′ .stack) ≡ 256
+      → length (m′ .store) ≡ 2048 → length (m′ .frames) ≡ 2048 → StepReady s table m′ q k
   unfolding GoesOn
   next-ready q k e w lg ls lt lf =
       let g = rw e at (t .goes-on) in
       record { code-ready = rw (g .2) (w .code-ready); fit = g .0; frames-fit = g .1; globals-long = lg; stack-long = ls; store-long = lt; frames-long = lf }
 
   pub halted-turn : (v : Value) (y : Run) → x ≡ Halted → v ≡ valueOf (r .v) → y ≡ endsWith (end.Halted v) (b - (left - 1)) r c → ran y m′ ≡ goal
-  unfolding meant Unchanged ends memoryOf
+  unfolding meant Unchanged endsIn memoryOf
   halted-turn v y e k i =
       let u : m′ ≡ m = rw e at (t .unchanged) in
       let n : b - (left - 1) ≡ b - left + 1 = omega arith in
       rw (i, k, u, n) (turn-halts P left b (stateOf r c m) (meant x m′) some most step-is h (rw e))
 
   pub wrong-turn : (n : ℕ) (y : Run) → x ≡ Wrong n → y ≡ endsWith (end.Wrong n) (b - left) r c → ran y m′ ≡ goal
-  unfolding meant Unchanged ends memoryOf
+  unfolding meant Unchanged endsIn memoryOf
   wrong-turn n y e i =
       let u : m′ ≡ m = rw e at (t .unchanged) in
       rw (i, u) (turn-stops P left b (stateOf r c m) (meant x m′) some most step-is h n (rw e))
 
 pub spent-turn : {goal : Ran} (P : Program) (left b : ℕ) (m : Memory) (r : Regs) (c : Control) (y : Run) → left ≤ 0 → ranFrom P left (b - left) (stateOf r c m) ≡ goal
     → y ≡ endsWith end.OutOfBudget (b - left) r c → ran y m ≡ goal
-unfolding ends memoryOf
+unfolding endsIn memoryOf
 spent-turn P left b m r c y l h i = let n : b - left ≡ b = omega arith in rw (i, n) (budget-spent P left b (stateOf r c m) l h)
 
 -- ---- the start
@@ -75,7 +74,7 @@ abbrev firstRegs : Regs
 firstRegs = regs 0x4000000000000000 0 0 0
 
 module _ (m : Memory) (p : CodePlace) (ls : m .stack ≡ zeros 256) (lt : m .store ≡ zeros 2048) (lf : m .frames ≡ zeros 2048) where
-  pub first-ready : (s table : List ℕ) → CodeReady (isLinear p) s table → length (m .globals) ≡ 256 → Ready s table m firstRegs (control 0 p 0)
+  pub first-ready : (s table : List ℕ) → CodeReady (formOf p) s table → length (m .globals) ≡ 256 → StepReady s table m firstRegs (control 0 p 0)
   first-ready s table w lg =
       record {
         code-ready = w;

@@ -1,16 +1,16 @@
 -- A step, one law for each outcome of each kind of instruction. Assumes nothing.
 use Prim.Native.Nat.{ℕ, _%_, _<_, _≤_, _^_}
 use mathlib.Core.Path.{_≡_, refl, sym, ap, _∙_}
-use mathlib.Core.Bool.{Bool, true, false}
 use mathlib.Core.List.{List}
 use mathlib.Core.Option.{Option, none, some}
 use native.Mathlib.Omega.{arith}
 use borrow.Author.Tests.{eq-eqb, ne-eqb}
+use Rattle.cells.specs.Laws.{clash}
 use Rattle.cells.specs.Cells.{falseCell, frameCell, frameTemplate, framePlace}
 use Rattle.cells.specs.declared.BitPlace.{BitPlace}
 use Rattle.cells.specs.declared.BytePlace.{BytePlace}
 use Rattle.rules.specs.State.{Mem, mem, out, told}
-use Rattle.rules.specs.Rules.{Data, plainRule, callRule, makeContRule, returnRule}
+use Rattle.rules.specs.Rules.{Data, plainRule, callRule, keepRule, makeContRule, returnRule}
 use Rattle.rules.specs.Fit.{Fit, EndFit, CallFit}
 use Rattle.rules.specs.Answers.{calledTo}
 use Rattle.rules.specs.Told.{told-next, told-wrong, called-to, called-wrong}
@@ -20,7 +20,7 @@ use Rattle.rules.specs.declared.Stepped.{Stepped}
 use Rattle.rules.specs.declared.Stepped.the-variants as ruled
 use Rattle.rules.specs.declared.Called.{Called}
 use Rattle.rules.specs.declared.Called.the-variants as callee
-use Rattle.frames.specs.Ends.{state, left, keepRule, toldKept, toldBack, KeptFit, BackFit}
+use Rattle.frames.specs.Ends.{state, left, toldKept, toldBack, KeptFit, BackFit}
 use Rattle.frames.specs.Told.{keep-is, kept-on, kept-wrong, back-to, back-halt}
 use Rattle.frames.specs.declared.Kept.{Kept}
 use Rattle.frames.specs.declared.Kept.the-variants as saved
@@ -30,7 +30,7 @@ use Rattle.machines.specs.Fetched.{plain, returns, calls, branches, saves, jump
 use Rattle.machines.specs.Machine.{Program, Step, go, stop, bind, applied, called, returned, act, step}
 use Rattle.machines.specs.Runs.{Memory, memory}
 use Rattle.machines.specs.Slots.{slotAt, resolvedAs}
-use Rattle.machines.specs.Instruction.{number, isLinear, fetchedAs, Of, Places}
+use Rattle.machines.specs.Instruction.{number, Form, treeForm, linearForm, formOf, fetchedAs, Of, Places}
 use Rattle.machines.specs.declared.CodePlace.{CodePlace}
 use Rattle.machines.specs.declared.CodePlace.the-variants.{Tree, Linear}
 use Rattle.machines.specs.declared.Instruction.{Instruction}
@@ -51,37 +51,37 @@ pub linear-number : (q : CodePlace) (p : BytePlace) → q ≡ Linear p → numbe
 unfolding number
 linear-number q p e = rw e
 
-pub in-tree : (q : CodePlace) (p : BitPlace) → q ≡ Tree p → isLinear q ≡ false
-unfolding isLinear
+pub in-tree : (q : CodePlace) (p : BitPlace) → q ≡ Tree p → formOf q ≡ treeForm
+unfolding formOf
 in-tree q p e = rw e
 
-pub in-linear : (q : CodePlace) (p : BytePlace) → q ≡ Linear p → isLinear q ≡ true
-unfolding isLinear
+pub in-linear : (q : CodePlace) (p : BytePlace) → q ≡ Linear p → formOf q ≡ linearForm
+unfolding formOf
 in-linear q p e = rw e
 
 pub framed : (n t e k cell : ℕ) (q : CodePlace) → number q ≡ k → cell ≡ frameCell n t e (k % 0x1000000) → cell ≡ frameCell n t e (number q % 0x1000000)
 framed n t e k cell q i h = rw i h
 
 -- ---- on, and the two ends
-goes : (linear : Bool) (q : Regs) (k : Control) (m m′ : Memory) (y : Step) → y ≡ go (stateOf q k m′) → Fit q → k .fr ≤ 2048 → Of linear (k .place) → Taken linear (Next q k) m m′ y
+goes : (form : Form) (q : Regs) (k : Control) (m m′ : Memory) (y : Step) → y ≡ go (stateOf q k m′) → Fit q → k .fr ≤ 2048 → Of form (k .place) → Taken form (Next q k) m m′ y
 unfolding meant Unchanged GoesOn
-goes linear q k m m′ y e f l o = record { meant-is = sym e; unchanged = tt; goes-on = (f, l, o) }
+goes form q k m m′ y e f l o = record { meant-is = sym e; unchanged = tt; goes-on = (f, l, o) }
 
-stops : (linear : Bool) (n : ℕ) (m m′ : Memory) (y : Step) → y ≡ stop n → m′ ≡ m → Taken linear (Wrong n) m m′ y
+stops : (form : Form) (n : ℕ) (m m′ : Memory) (y : Step) → y ≡ stop n → m′ ≡ m → Taken form (Wrong n) m m′ y
 unfolding meant Unchanged GoesOn
-stops linear n m m′ y e h = record { meant-is = sym e; unchanged = h; goes-on = tt }
+stops form n m m′ y e h = record { meant-is = sym e; unchanged = h; goes-on = tt }
 
 -- ---- a plain instruction
 module _ (P : Program) (g s t g′ s′ t′ f : List ℕ) (i : Plain) (p : CodePlace) (r : Regs) (c : Control) (y : Stepped)
     (e : out y (mem g′ s′ t′) ≡ told (mem g s t) (plainRule i (mem g s t) r)) where
   pub plain-goes : (q : Regs) → y ≡ ruled.Next q → EndFit y → c .fr ≤ 2048
-      → Taken (isLinear p) (Next q (control (c .template) p (c .fr))) (memory g s t f) (memory g′ s′ t′ f) (act P (plain i (number p)) (stateOf r c (memory g s t f)))
+      → Taken (formOf p) (Next q (control (c .template) p (c .fr))) (memory g s t f) (memory g′ s′ t′ f) (act P (plain i (number p)) (stateOf r c (memory g s t f)))
   unfolding act bind applied
   plain-goes q h fit l =
       let a = told-next (mem g s t) (mem g′ s′ t′) q (plainRule i (mem g s t) r) (rw h at e) in
       rw a (goes _ q (control (c .template) p (c .fr)) _ _ _ refl (rw h at fit) l refl)
 
-  pub plain-stops : (n : ℕ) → y ≡ ruled.Wrong n → Taken (isLinear p) (Wrong n) (memory g s t f) (memory g′ s′ t′ f) (act P (plain i (number p)) (stateOf r c (memory g s t f)))
+  pub plain-stops : (n : ℕ) → y ≡ ruled.Wrong n → Taken (formOf p) (Wrong n) (memory g s t f) (memory g′ s′ t′ f) (act P (plain i (number p)) (stateOf r c (memory g s t f)))
   unfolding act bind
   plain-stops n h =
       let a = told-wrong (mem g s t) (mem g′ s′ t′) n (plainRule i (mem g s t) r) (rw h at e) in
@@ -89,30 +89,30 @@ module _ (P : Program) (g s t g′ s′ t′ f : List ℕ) (i : Plain) (p : Code
 
 -- ---- call
 module _ (P : Program) (m : Memory) (n : ℕ) (r : Regs) (c : Control) (y : Called) (e : y ≡ calledTo (callRule n r)) where
-  pub call-goes : (t : ℕ) (q : Regs) (p : CodePlace) → y ≡ callee.To t q → (Fit r → CallFit y) → Fit r → number p ≡ P .start t → c .fr ≤ 2048 → Of (isLinear (c .place)) p
-      → Taken (isLinear (c .place)) (Next q (control t p (c .fr))) m m (act P (calls n) (stateOf r c m))
+  pub call-goes : (t : ℕ) (q : Regs) (p : CodePlace) → y ≡ callee.To t q → (Fit r → CallFit y) → Fit r → number p ≡ P .start t → c .fr ≤ 2048 → Of (formOf (c .place)) p
+      → Taken (formOf (c .place)) (Next q (control t p (c .fr))) m m (act P (calls n) (stateOf r c m))
   unfolding act bind called
   call-goes t q p h fit f j l o =
       let a = called-to t q (callRule n r) (sym h ∙ e) in
       rw (a, ← j) (goes _ q (control t p (c .fr)) m m _ refl (rw h at (fit f)) l o)
 
-  pub call-stops : (w : ℕ) → y ≡ callee.Wrong w → Taken (isLinear (c .place)) (Wrong w) m m (act P (calls n) (stateOf r c m))
+  pub call-stops : (w : ℕ) → y ≡ callee.Wrong w → Taken (formOf (c .place)) (Wrong w) m m (act P (calls n) (stateOf r c m))
   unfolding act bind
   call-stops w h = rw (called-wrong w (callRule n r) (sym h ∙ e)) (stops _ w m m _ refl refl)
 
 -- ---- the conditional, and a jump
 module _ (P : Program) (m : Memory) (r : Regs) (c : Control) (fit : Fit r) (l : c .fr ≤ 2048) (p : CodePlace) (x : OneStep) where
-  pub jump-goes : x ≡ Next r (control (c .template) p (c .fr)) → Taken (isLinear p) x m m (act P (jumps (number p)) (stateOf r c m))
+  pub jump-goes : x ≡ Next r (control (c .template) p (c .fr)) → Taken (formOf p) x m m (act P (jumps (number p)) (stateOf r c m))
   unfolding act
   jump-goes e = rw e (goes _ r (control (c .template) p (c .fr)) m m _ refl fit l refl)
 
-  pub branch-first : (q : ℕ) → (r .v ≡ falseCell → ⊥) → x ≡ Next r (control (c .template) p (c .fr)) → Taken (isLinear p) x m m (act P (branches 0 (number p) q) (stateOf r c m))
+  pub branch-first : (q : ℕ) → (r .v ≡ falseCell → ⊥) → x ≡ Next r (control (c .template) p (c .fr)) → Taken (formOf p) x m m (act P (branches 0 (number p) q) (stateOf r c m))
   unfolding act
   branch-first q h e = rw (e, ne-eqb (r .v) falseCell h) (goes _ r (control (c .template) p (c .fr)) m m _ refl fit l refl)
 
-  pub branch-second : (linear : Bool) (q : ℕ) → r .v ≡ falseCell → Of linear p → x ≡ Next r (control (c .template) p (c .fr)) → Taken linear x m m (act P (branches 0 q (number p)) (stateOf r c m))
+  pub branch-second : (form : Form) (q : ℕ) → r .v ≡ falseCell → Of form p → x ≡ Next r (control (c .template) p (c .fr)) → Taken form x m m (act P (branches 0 q (number p)) (stateOf r c m))
   unfolding act
-  branch-second linear q h o e = rw (e, eq-eqb (r .v) falseCell h) (goes _ r (control (c .template) p (c .fr)) m m _ refl fit l o)
+  branch-second form q h o e = rw (e, eq-eqb (r .v) falseCell h) (goes _ r (control (c .template) p (c .fr)) m m _ refl fit l o)
 
 -- ---- make-cont
 place-fits : (n t e p cell : ℕ) → cell ≡ frameCell n t e (p % 0x1000000) → p < 2 ^ 24 → cell ≡ frameCell n t e p
@@ -128,14 +128,14 @@ module _ (P : Program) (g s t f s′ f′ : List ℕ) (n : ℕ) (p u : CodePlace
   rule-is = keep-is n (c .template) (number p) cell before-save (place-fits n (c .template) (r .env) (number p) cell packed low)
 
   pub save-goes : (q : Regs) (k : ℕ) → y ≡ saved.On q k → KeptFit y
-      → Taken (isLinear u) (Next q (control (c .template) u k)) (memory g s t f) (memory g s′ t f′) (act P (saves n (number p) (number u)) (stateOf r c (memory g s t f)))
+      → Taken (formOf u) (Next q (control (c .template) u k)) (memory g s t f) (memory g s′ t f′) (act P (saves n (number p) (number u)) (stateOf r c (memory g s t f)))
   unfolding act bind
   save-goes q k h fit =
       let a = kept-on before-save (mem g s′ t) f′ q k _ (rw h at e) in
       let b = rw h at fit in
       rw (← rule-is, a) (goes _ q (control (c .template) u k) _ _ _ refl (b .0) (b .1) refl)
 
-  pub save-stops : (w : ℕ) → y ≡ saved.Wrong w → Taken (isLinear u) (Wrong w) (memory g s t f) (memory g s′ t f′) (act P (saves n (number p) (number u)) (stateOf r c (memory g s t f)))
+  pub save-stops : (w : ℕ) → y ≡ saved.Wrong w → Taken (formOf u) (Wrong w) (memory g s t f) (memory g s′ t f′) (act P (saves n (number p) (number u)) (stateOf r c (memory g s t f)))
   unfolding act bind
   save-stops w h =
       let a = kept-wrong before-save (mem g s′ t) f′ w _ (rw h at e) in
@@ -148,15 +148,15 @@ module _ (P : Program) (g s t f s′ f′ : List ℕ) (r : Regs) (c : Control) (
   abbrev before-return : Data
   before-return = state r (mem g s t) f (c .fr)
 
-  pub return-goes : (q : Regs) (k cell n : ℕ) (p : CodePlace) → y ≡ back.To q k cell → BackFit y → n ≡ frameTemplate cell → number p ≡ framePlace cell → Of (isLinear (c .place)) p
-      → Taken (isLinear (c .place)) (Next q (control n p k)) (memory g s t f) (memory g s′ t f′) (act P returns (stateOf r c (memory g s t f)))
+  pub return-goes : (q : Regs) (k cell n : ℕ) (p : CodePlace) → y ≡ back.To q k cell → BackFit y → n ≡ frameTemplate cell → number p ≡ framePlace cell → Of (formOf (c .place)) p
+      → Taken (formOf (c .place)) (Next q (control n p k)) (memory g s t f) (memory g s′ t f′) (act P returns (stateOf r c (memory g s t f)))
   unfolding act returned
   return-goes q k cell n p h fit i j o =
       let a = back-to before-return (mem g s′ t) f′ q k cell (rw h at e) in
       let b = rw h at fit in
       rw (a, ← i, ← j) (goes _ q (control n p k) _ _ _ refl (b .0) (b .1) o)
 
-  pub return-halts : y ≡ back.Halt → Taken (isLinear (c .place)) Halted (memory g s t f) (memory g s′ t f′) (act P returns (stateOf r c (memory g s t f)))
+  pub return-halts : y ≡ back.Halt → Taken (formOf (c .place)) Halted (memory g s t f) (memory g s′ t f′) (act P returns (stateOf r c (memory g s t f)))
   unfolding act returned meant Unchanged GoesOn
   return-halts h =
       let a = back-halt before-return (mem g s′ t) f′ _ (rw h at e) in
@@ -166,61 +166,61 @@ module _ (P : Program) (g s t f s′ f′ : List ℕ) (r : Regs) (c : Control) (
 -- ---- a neutral code, by what resolving it answered
 resolved-as : (o : Option Plain) (i : Plain) → Resolves i ≡ resolvedAs o → o ≡ some i
 unfolding resolvedAs
-resolved-as none i e = let z : _≡_ {A = ℕ} 0 1 = cc in absurd (omega arith)
+resolved-as none i e = clash (cc)
 resolved-as (some j) i e = let z : i ≡ j = cc in rw z
 
 unfit-as : (o : Option Plain) → Unfit ≡ resolvedAs o → o ≡ none
 unfolding resolvedAs
 unfit-as none e = refl
-unfit-as (some j) e = let z : _≡_ {A = ℕ} 0 1 = cc in absurd (omega arith)
+unfit-as (some j) e = clash (cc)
 
 module _ (P : Program) (o : Option Plain) (p : CodePlace) (m : Memory) (r : Regs) (c : Control) (y : Resolved) (e : y ≡ resolvedAs o) where
-  pub neutral-goes : (m′ : Memory) (i : Plain) (x : OneStep) → y ≡ Resolves i → Taken (isLinear p) x m m′ (act P (plain i (number p)) (stateOf r c m))
-      → Taken (isLinear p) x m m′ (act P (plainly o (number p)) (stateOf r c m))
+  pub neutral-goes : (m′ : Memory) (i : Plain) (x : OneStep) → y ≡ Resolves i → Taken (formOf p) x m m′ (act P (plain i (number p)) (stateOf r c m))
+      → Taken (formOf p) x m m′ (act P (plainly o (number p)) (stateOf r c m))
   unfolding plainly
   neutral-goes m′ i x h t = rw (resolved-as o i (sym h ∙ e)) t
 
-  pub neutral-stops : y ≡ Unfit → Taken (isLinear p) (Wrong 16) m m (act P (plainly o (number p)) (stateOf r c m))
+  pub neutral-stops : y ≡ Unfit → Taken (formOf p) (Wrong 16) m m (act P (plainly o (number p)) (stateOf r c m))
   unfolding act plainly
   neutral-stops h = rw (unfit-as o (sym h ∙ e)) (stops _ 16 m m _ refl refl)
 
 -- ---- bad
-pub bad-stops : (linear : Bool) (P : Program) (m : Memory) (r : Regs) (c : Control) → Taken linear (Wrong 16) m m (act P bad (stateOf r c m))
+pub bad-stops : (form : Form) (P : Program) (m : Memory) (r : Regs) (c : Control) → Taken form (Wrong 16) m m (act P bad (stateOf r c m))
 unfolding act
-bad-stops linear P m r c = stops linear 16 m m _ refl refl
+bad-stops form P m r c = stops form 16 m m _ refl refl
 
 -- ---- where a template's code begins
-pub starts : (linear : Bool) (s L table : List ℕ) (t : ℕ) → startAt linear table t ≡ codeProgram linear s L table .start t
+pub starts : (form : Form) (s L table : List ℕ) (t : ℕ) → startAt form table t ≡ codeProgram form s L table .start t
 unfolding startAt codeProgram
-starts true s L table t = refl
-starts false s L table t = refl
+starts treeForm s L table t = refl
+starts linearForm s L table t = refl
 
 -- ---- a step, by what was fetched
 module _ (s L table : List ℕ) (r : Regs) (c : Control) (x z : Instruction)
-    (e : fetchedAs (slotAt table (c .template)) x ≡ codeProgram (isLinear (c .place)) s L table .fetch (c .template) (number (c .place))) (h : x ≡ z) where
+    (e : fetchedAs (slotAt table (c .template)) x ≡ codeProgram (formOf (c .place)) s L table .fetch (c .template) (number (c .place))) (h : x ≡ z) where
   pub step-is : (m m′ : Memory) (y : OneStep)
-      → Taken (isLinear (c .place)) y m m′ (act (codeProgram (isLinear (c .place)) s L table) (fetchedAs (slotAt table (c .template)) z) (stateOf r c m))
-      → Taken (isLinear (c .place)) y m m′ (step (codeProgram (isLinear (c .place)) s L table) (stateOf r c m))
+      → Taken (formOf (c .place)) y m m′ (act (codeProgram (formOf (c .place)) s L table) (fetchedAs (slotAt table (c .template)) z) (stateOf r c m))
+      → Taken (formOf (c .place)) y m m′ (step (codeProgram (formOf (c .place)) s L table) (stateOf r c m))
   unfolding step
   step-is m m′ y t = rw (← e, h) t
 
 -- a step in the form of code that its instruction's places are in
-pub stays : {x : OneStep} {m m′ : Memory} {y : Step} (a b : Bool) → a ≡ b → Taken a x m m′ y → Taken b x m m′ y
+pub stays : {x : OneStep} {m m′ : Memory} {y : Step} (a b : Form) → a ≡ b → Taken a x m m′ y → Taken b x m m′ y
 stays a b e t = rw e at t
 
-module _ (linear : Bool) (x : Instruction) (h : Places linear x) where
-  pub neutral-place : (op a b : ℕ) (p : CodePlace) → x ≡ instruction.Neutral op a b p → Of linear p
+module _ (form : Form) (x : Instruction) (h : Places form x) where
+  pub neutral-place : (op a b : ℕ) (p : CodePlace) → x ≡ instruction.Neutral op a b p → Of form p
   unfolding Places
   neutral-place op a b p e = rw e at h
 
-  pub jump-place : (p : CodePlace) → x ≡ instruction.Jump p → Of linear p
+  pub jump-place : (p : CodePlace) → x ≡ instruction.Jump p → Of form p
   unfolding Places
   jump-place p e = rw e at h
 
-  pub branch-places : (p q : CodePlace) → x ≡ instruction.Branch p q → Of linear p × Of linear q
+  pub branch-places : (p q : CodePlace) → x ≡ instruction.Branch p q → Of form p × Of form q
   unfolding Places
   branch-places p q e = rw e at h
 
-  pub save-places : (n : ℕ) (p q : CodePlace) → x ≡ instruction.Save n p q → Of linear p × Of linear q × (number p < 2 ^ 24)
+  pub save-places : (n : ℕ) (p q : CodePlace) → x ≡ instruction.Save n p q → Of form p × Of form q × (number p < 2 ^ 24)
   unfolding Places
   save-places n p q e = rw e at h

@@ -1,7 +1,6 @@
 -- What a step answers, as a step of the machine of a file's program.
 use Prim.Native.Nat.{ℕ, _≤_}
 use mathlib.Core.Path.{_≡_}
-use mathlib.Core.Bool.{Bool, true, false, cond}
 use mathlib.Core.List.{List}
 use lib.ListN.{length}
 use Rattle.rules.specs.State.{mem}
@@ -10,7 +9,7 @@ use Rattle.rules.specs.declared.Regs.{Regs}
 use Rattle.machines.specs.Machine.{Program, State, at, Step, go, halt, stop}
 use Rattle.machines.specs.Runs.{Memory}
 use Rattle.machines.specs.Slots.{slotAt}
-use Rattle.machines.specs.Instruction.{number, isLinear, Of}
+use Rattle.machines.specs.Instruction.{number, Form, treeForm, linearForm, formOf, Of}
 use Rattle.machines.specs.declared.CodePlace.{CodePlace}
 use Rattle.machines.specs.declared.End.{End}
 use Rattle.machines.specs.declared.Run.{Run}
@@ -21,18 +20,19 @@ use Rattle.steps.specs.declared.OneStep.{OneStep}
 use Rattle.steps.specs.declared.OneStep.the-variants.{Next, Halted, Wrong}
 
 -- ---- the program that a file is, of linear code or of a tree: by its table, and a tree by its links
-unfoldable pub codeProgram : Bool → List ℕ → List ℕ → List ℕ → Program
-codeProgram true s L table = bytesProgram s table
-codeProgram false s L table = linkedProgram s L table
+unfoldable pub codeProgram : Form → List ℕ → List ℕ → List ℕ → Program
+codeProgram treeForm s L table = linkedProgram s L table
+codeProgram linearForm s L table = bytesProgram s table
 
 -- where a template's code begins
-unfoldable pub startAt : Bool → List ℕ → ℕ → ℕ
-startAt linear table t = cond linear 0 (slotAt table t 0)
+unfoldable pub startAt : Form → List ℕ → ℕ → ℕ
+startAt treeForm table t = slotAt table t 0
+startAt linearForm table t = 0
 
 -- what reading at a place asks of the file and its table
-unfoldable pub CodeReady : Bool → List ℕ → List ℕ → Type 0
-CodeReady true s table = AllWithin s table
-CodeReady false s table = length s ≤ 65536
+unfoldable pub CodeReady : Form → List ℕ → List ℕ → Type 0
+CodeReady treeForm s table = length s ≤ 65536
+CodeReady linearForm s table = AllWithin s table
 
 -- ---- states
 -- in template t at place p, with f frame cells in use
@@ -60,20 +60,20 @@ Unchanged (Next r c) m m′ = Unit
 Unchanged Halted m m′ = m′ ≡ m
 Unchanged (Wrong n) m m′ = m′ ≡ m
 
-unfoldable pub GoesOn : Bool → OneStep → Type 0
-GoesOn linear (Next r c) = Fit r × (c .fr ≤ 2048) × Of linear (c .place)
-GoesOn linear Halted = Unit
-GoesOn linear (Wrong n) = Unit
+unfoldable pub GoesOn : Form → OneStep → Type 0
+GoesOn form (Next r c) = Fit r × (c .fr ≤ 2048) × Of form (c .place)
+GoesOn form Halted = Unit
+GoesOn form (Wrong n) = Unit
 
--- x, which leaves the cells m′ where m were, is the step y, and stays in linear code or in the tree
-pub record Taken (linear : Bool) (x : OneStep) (m m′ : Memory) (y : Step) : Type 0 where
+-- x, which leaves the cells m′ where m were, is the step y, and stays in its form of code
+pub record Taken (form : Form) (x : OneStep) (m m′ : Memory) (y : Step) : Type 0 where
   pub meant-is : meant x m′ ≡ y
   pub unchanged : Unchanged x m m′
-  pub goes-on : GoesOn linear x
+  pub goes-on : GoesOn form x
 
 -- what a step asks
-pub record Ready (s table : List ℕ) (m : Memory) (r : Regs) (c : Control) : Type 0 where
-  pub code-ready : CodeReady (isLinear (c .place)) s table
+pub record StepReady (s table : List ℕ) (m : Memory) (r : Regs) (c : Control) : Type 0 where
+  pub code-ready : CodeReady (formOf (c .place)) s table
   pub fit : Fit r
   pub frames-fit : c .fr ≤ 2048
   pub globals-long : length (m .globals) ≡ 256

@@ -24,8 +24,8 @@ ghost use Rattle.machines.specs.Machine.{Program, act, step};
 ghost use Rattle.machines.specs.Runs.{Memory, memory, ran, startState};
 ghost use Rattle.machines.specs.Slots.{slotAt, slotResolve};
 ghost use Rattle.machines.specs.Steps.{ranFrom};
-ghost use Rattle.machines.specs.Instruction.{number, isLinear, fetchedAs, Of, Places};
-ghost use Rattle.steps.specs.Step.{codeProgram, CodeReady, startAt, control, stateOf, endsWith, Taken, Ready};
+ghost use Rattle.machines.specs.Instruction.{number, formOf, fetchedAs, Of, Places};
+ghost use Rattle.steps.specs.Step.{codeProgram, CodeReady, startAt, control, stateOf, endsWith, Taken, StepReady};
 
 // Where a run is: the template, the place in its code; and how many frame cells are in use.
 pub struct Control {
@@ -53,7 +53,7 @@ fn frame_of(n: u8, template: u8, env: u16, saved: CodePlace) -> u64
 }
 
 fn saved_place(cell: u64, like: CodePlace) -> CodePlace
-    ensures { λ x. ⌜ (number x ≡ framePlace cell) × Of (isLinear like) x ⌝ }
+    ensures { λ x. ⌜ (number x ≡ framePlace cell) × Of (formOf like) x ⌝ }
 {
     match like {
         CodePlace::Tree(_) => CodePlace::Tree(cells::tree_place(cell)),
@@ -63,7 +63,7 @@ fn saved_place(cell: u64, like: CodePlace) -> CodePlace
 
 // Where a template's code begins.
 fn start_place(table: &[u64], template: u8, like: CodePlace) -> CodePlace
-    ensures { λ x. ⌜ (number x ≡ startAt (isLinear like) (now (table .entry)) template) × Of (isLinear like) x ⌝ }
+    ensures { λ x. ⌜ (number x ≡ startAt (formOf like) (now (table .entry)) template) × Of (formOf like) x ⌝ }
 {
     match like {
         CodePlace::Tree(_) => {
@@ -75,8 +75,8 @@ fn start_place(table: &[u64], template: u8, like: CodePlace) -> CodePlace
 }
 
 fn fetch(file: &[u8], links: &[u32], table: &[u64], template: u8, at: CodePlace) -> Instruction
-    requires { ⌜ CodeReady (isLinear at) (now file) (now table) ⌝ }
-    ensures { λ x. ⌜ (fetchedAs (slotAt (now (table .entry)) template) x ≡ codeProgram (isLinear at) (now (file .entry)) (now (links .entry)) (now (table .entry)) .fetch template (number at)) × Places (isLinear at) x ⌝ }
+    requires { ⌜ CodeReady (formOf at) (now file) (now table) ⌝ }
+    ensures { λ x. ⌜ (fetchedAs (slotAt (now (table .entry)) template) x ≡ codeProgram (formOf at) (now (file .entry)) (now (links .entry)) (now (table .entry)) .fetch template (number at)) × Places (formOf at) x ⌝ }
 {
     match at {
         CodePlace::Tree(p) => tree_code::fetch(file, links, p),
@@ -96,7 +96,7 @@ fn act_plain(
     c: Control,
 ) -> OneStep
     requires { ⌜ (length (now globals) ≡ 256) × (length (now stack) ≡ 256) × (length (now store) ≡ 2048) × Fit r × (c .fr ≤ 2048) ⌝ }
-    ensures { λ x. ⌜ ((P : Program) (f : List ℕ) → Taken (isLinear next) x (memory (now (globals .entry)) (now (stack .entry)) (now (store .entry)) f) (memory (now (globals .exit)) (now (stack .exit)) (now (store .exit)) f) (act P (plain i (number next)) (stateOf r c (memory (now (globals .entry)) (now (stack .entry)) (now (store .entry)) f)))) ⌝ }
+    ensures { λ x. ⌜ ((P : Program) (f : List ℕ) → Taken (formOf next) x (memory (now (globals .entry)) (now (stack .entry)) (now (store .entry)) f) (memory (now (globals .exit)) (now (stack .exit)) (now (store .exit)) f) (act P (plain i (number next)) (stateOf r c (memory (now (globals .entry)) (now (stack .entry)) (now (store .entry)) f)))) ⌝ }
 {
     match rules::plain_rule(i, globals, stack, store, r) {
         Stepped::Next(q) => {
@@ -127,7 +127,7 @@ fn act_neutral(
     c: Control,
 ) -> OneStep
     requires { ⌜ (length (now globals) ≡ 256) × (length (now stack) ≡ 256) × (length (now store) ≡ 2048) × Fit r × (c .fr ≤ 2048) ⌝ }
-    ensures { λ x. ⌜ ((P : Program) (f : List ℕ) → Taken (isLinear next) x (memory (now (globals .entry)) (now (stack .entry)) (now (store .entry)) f) (memory (now (globals .exit)) (now (stack .exit)) (now (store .exit)) f) (act P (plainly (slotResolve (slotAt (now (table .entry)) (c .template)) op a b) (number next)) (stateOf r c (memory (now (globals .entry)) (now (stack .entry)) (now (store .entry)) f)))) ⌝ }
+    ensures { λ x. ⌜ ((P : Program) (f : List ℕ) → Taken (formOf next) x (memory (now (globals .entry)) (now (stack .entry)) (now (store .entry)) f) (memory (now (globals .exit)) (now (stack .exit)) (now (store .exit)) f) (act P (plainly (slotResolve (slotAt (now (table .entry)) (c .template)) op a b) (number next)) (stateOf r c (memory (now (globals .entry)) (now (stack .entry)) (now (store .entry)) f)))) ⌝ }
 {
     match machines::resolve(table, c.template, op, a, b) {
         Resolved::Fit(i) => act_plain(i, next, globals, stack, store, r, c),
@@ -137,7 +137,7 @@ fn act_neutral(
 
 fn act_call(table: &[u64], n: u8, r: Regs, c: Control) -> OneStep
     requires { ⌜ Fit r × (c .fr ≤ 2048) ⌝ }
-    ensures { λ x. ⌜ ((P : Program) (m : Memory) → ((t : ℕ) → startAt (isLinear (c .place)) (now (table .entry)) t ≡ P .start t) → Taken (isLinear (c .place)) x m m (act P (calls n) (stateOf r c m))) ⌝ }
+    ensures { λ x. ⌜ ((P : Program) (m : Memory) → ((t : ℕ) → startAt (formOf (c .place)) (now (table .entry)) t ≡ P .start t) → Taken (formOf (c .place)) x m m (act P (calls n) (stateOf r c m))) ⌝ }
 {
     match rules::call(n, r) {
         Called::To(template, q) => {
@@ -157,8 +157,8 @@ fn act_call(table: &[u64], n: u8, r: Regs, c: Control) -> OneStep
 }
 
 fn act_branch(first: CodePlace, second: CodePlace, r: Regs, c: Control) -> OneStep
-    requires { ⌜ Fit r × (c .fr ≤ 2048) × Of (isLinear first) second ⌝ }
-    ensures { λ x. ⌜ ((P : Program) (m : Memory) → Taken (isLinear first) x m m (act P (branches 0 (number first) (number second)) (stateOf r c m))) ⌝ }
+    requires { ⌜ Fit r × (c .fr ≤ 2048) × Of (formOf first) second ⌝ }
+    ensures { λ x. ⌜ ((P : Program) (m : Memory) → Taken (formOf first) x m m (act P (branches 0 (number first) (number second)) (stateOf r c m))) ⌝ }
 {
     if r.v == cells::FALSE {
         act_jump(second, r, c)
@@ -191,7 +191,7 @@ fn act_save(
     c: Control,
 ) -> OneStep
     requires { ⌜ (length (now stack) ≡ 256) × (length (now frames) ≡ 2048) × Fit r × (c .fr ≤ 2048) × (number saved < 2 ^ 24) ⌝ }
-    ensures { λ x. ⌜ ((P : Program) (g t : List ℕ) → Taken (isLinear rest) x (memory g (now (stack .entry)) t (now (frames .entry))) (memory g (now (stack .exit)) t (now (frames .exit))) (act P (saves n (number saved) (number rest)) (stateOf r c (memory g (now (stack .entry)) t (now (frames .entry)))))) ⌝ }
+    ensures { λ x. ⌜ ((P : Program) (g t : List ℕ) → Taken (formOf rest) x (memory g (now (stack .entry)) t (now (frames .entry))) (memory g (now (stack .exit)) t (now (frames .exit))) (act P (saves n (number saved) (number rest)) (stateOf r c (memory g (now (stack .entry)) t (now (frames .entry)))))) ⌝ }
 {
     let cell = frame_of(n, c.template, r.env, saved);
     match frames::make_cont(stack, frames, c.fr, r, n, cell) {
@@ -211,7 +211,7 @@ fn act_save(
 
 fn act_return(stack: &mut [u64], frames: &mut [u64], r: Regs, c: Control) -> OneStep
     requires { ⌜ (length (now stack) ≡ 256) × (length (now frames) ≡ 2048) × Fit r × (c .fr ≤ 2048) ⌝ }
-    ensures { λ x. ⌜ ((P : Program) (g t : List ℕ) → Taken (isLinear (c .place)) x (memory g (now (stack .entry)) t (now (frames .entry))) (memory g (now (stack .exit)) t (now (frames .exit))) (act P returns (stateOf r c (memory g (now (stack .entry)) t (now (frames .entry)))))) ⌝ }
+    ensures { λ x. ⌜ ((P : Program) (g t : List ℕ) → Taken (formOf (c .place)) x (memory g (now (stack .entry)) t (now (frames .entry))) (memory g (now (stack .exit)) t (now (frames .exit))) (act P returns (stateOf r c (memory g (now (stack .entry)) t (now (frames .entry)))))) ⌝ }
 {
     match frames::give_back(stack, frames, c.fr, r) {
         Returned::To(q, fr, cell) => {
@@ -242,8 +242,8 @@ fn take_step(
     r: Regs,
     c: Control,
 ) -> OneStep
-    requires { ⌜ Ready (now file) (now table) (memory (now globals) (now stack) (now store) (now frames)) r c ⌝ }
-    ensures { λ x. ⌜ Taken (isLinear (c .place)) x (memory (now (globals .entry)) (now (stack .entry)) (now (store .entry)) (now (frames .entry))) (memory (now (globals .exit)) (now (stack .exit)) (now (store .exit)) (now (frames .exit))) (step (codeProgram (isLinear (c .place)) (now (file .entry)) (now (links .entry)) (now (table .entry))) (stateOf r c (memory (now (globals .entry)) (now (stack .entry)) (now (store .entry)) (now (frames .entry))))) ⌝ }
+    requires { ⌜ StepReady (now file) (now table) (memory (now globals) (now stack) (now store) (now frames)) r c ⌝ }
+    ensures { λ x. ⌜ Taken (formOf (c .place)) x (memory (now (globals .entry)) (now (stack .entry)) (now (store .entry)) (now (frames .entry))) (memory (now (globals .exit)) (now (stack .exit)) (now (store .exit)) (now (frames .exit))) (step (codeProgram (formOf (c .place)) (now (file .entry)) (now (links .entry)) (now (table .entry))) (stateOf r c (memory (now (globals .entry)) (now (stack .entry)) (now (store .entry)) (now (frames .entry))))) ⌝ }
 {
     let place = c.place;
     match fetch(file, links, table, c.template, place) {
@@ -288,8 +288,8 @@ fn run_from(
     first: Regs,
     from: Control,
 ) -> Run
-    requires { ⌜ Ready (now file) (now table) (memory (now globals) (now stack) (now store) (now frames)) first from ⌝ }
-    ensures { λ x. ⌜ ran x (memory (now (globals .exit)) (now (stack .exit)) (now (store .exit)) (now (frames .exit))) ≡ ranFrom (codeProgram (isLinear (from .place)) (now (file .entry)) (now (links .entry)) (now (table .entry))) budget 0 (stateOf first from (memory (now (globals .entry)) (now (stack .entry)) (now (store .entry)) (now (frames .entry)))) ⌝ }
+    requires { ⌜ StepReady (now file) (now table) (memory (now globals) (now stack) (now store) (now frames)) first from ⌝ }
+    ensures { λ x. ⌜ ran x (memory (now (globals .exit)) (now (stack .exit)) (now (store .exit)) (now (frames .exit))) ≡ ranFrom (codeProgram (formOf (from .place)) (now (file .entry)) (now (links .entry)) (now (table .entry))) budget 0 (stateOf first from (memory (now (globals .entry)) (now (stack .entry)) (now (store .entry)) (now (frames .entry)))) ⌝ }
 {
     let mut r = first;
     let mut c = from;
@@ -325,8 +325,8 @@ pub fn run_code(
     store: &mut [u64],
     frames: &mut [u64],
 ) -> Run
-    requires { ⌜ CodeReady (isLinear first) (now file) (now table) × (length (now globals) ≡ 256) × (length (now stack) ≡ 256) × (length (now store) ≡ 2048) × (length (now frames) ≡ 2048) ⌝ }
-    ensures { λ x. ⌜ ran x (memory (now (globals .exit)) (now (stack .exit)) (now (store .exit)) (now (frames .exit))) ≡ ranFrom (codeProgram (isLinear first) (now (file .entry)) (now (links .entry)) (now (table .entry))) budget 0 (startState (now (globals .entry)) (number first)) ⌝ }
+    requires { ⌜ CodeReady (formOf first) (now file) (now table) × (length (now globals) ≡ 256) × (length (now stack) ≡ 256) × (length (now store) ≡ 2048) × (length (now frames) ≡ 2048) ⌝ }
+    ensures { λ x. ⌜ ran x (memory (now (globals .exit)) (now (stack .exit)) (now (store .exit)) (now (frames .exit))) ≡ ranFrom (codeProgram (formOf first) (now (file .entry)) (now (links .entry)) (now (table .entry))) budget 0 (startState (now (globals .entry)) (number first)) ⌝ }
 {
     machines::clear_all(stack, store, frames);
     let registers = Regs {

@@ -6,6 +6,7 @@ use mathlib.Core.Bool.{Bool, true, false, cond}
 use mathlib.Core.List.{List, [], _∷_}
 use mathlib.Core.Option.{Option, none, some}
 use lib.ListN.{length}
+use Rattle.cells.specs.Laws.{clash}
 use Rattle.cells.specs.declared.BitPlace.{BitPlace}
 use Rattle.files.specs.Reading.{Got, got, refused}
 use Rattle.files.specs.Entries.{then}
@@ -31,7 +32,7 @@ tree-told s {m} = go (treeRead s) refl
   where
     go : (g : Got (List Template)) → treeRead s ≡ g → treeTold g ≡ Read m → ReadFile s m
     go (got ts q) e h = record { templates = ts; past = q; is = e; summary = cc }
-    go (refused n z) e h = let z : _≡_ {A = ℕ} 0 1 = cc in absurd (omega arith)
+    go (refused n z) e h = clash (cc)
 
 -- ---- refused 1 to 5
 module _ (s : List ℕ) {n : ℕ} {p : BitPlace} (told : treeTold (treeRead s) ≡ Refused n p) where
@@ -40,7 +41,7 @@ module _ (s : List ℕ) {n : ℕ} {p : BitPlace} (told : treeTold (treeRead s) �
   tree-refused = go (treeRead s) told
     where
       go : (g : Got (List Template)) → treeTold g ≡ Refused n p → g ≡ refused n (p .0)
-      go (got ts z) h = let z : _≡_ {A = ℕ} 0 1 = cc in absurd (omega arith)
+      go (got ts z) h = clash (cc)
       go (refused m z) h = let k : _≡_ {A = BitPlace} (record { 0 = z }) p = cc in let i : m ≡ n = cc in rw (i, ← k)
 
   pub checked-refused : treeChecked s ≡ refused n (p .0)

@@ -5,6 +5,7 @@ use mathlib.Core.Path.{_≡_, refl, sym, ap, _∙_}
 use mathlib.Core.List.{List, _∷_}
 use lib.ListN.{length, set, take, replicate}
 use lib.Seq.{sets}
+use Rattle.cells.specs.Laws.{clash}
 use Rattle.cells.specs.declared.BitPlace.{BitPlace}
 use Rattle.files.specs.Code.{Code}
 use Rattle.files.specs.Reading.{Got, got, refused, listAt}
@@ -12,7 +13,6 @@ use Rattle.files.specs.ReadingLaws.{list-bits, list-valid, flat-bits}
 use Rattle.files.specs.Entries.{Entry, then, field, entriesAt}
 use Rattle.files.specs.EntriesLaws.{entries-read}
 use Rattle.files.specs.EntriesRead.{slotsAt, slots-all}
-use Rattle.files.specs.ValidEntries.{entries-valid}
 use Rattle.files.specs.Linear.{entriesBits, templateBytes}
 use Rattle.files.specs.Tree.{Template, templateAt, templatesAt}
 use Rattle.files.specs.RowFilled.{Unfilled, front-length, row-table}
@@ -62,7 +62,7 @@ module _ (s : List ℕ) (own T p : ℕ) (table : List ℕ) where
         unfolding reportBy reportOf factsOf
         report =
             let b : r - q ≡ length (entriesBits es) = omega (arith, entries-read s own T few n q entries .past) in
-            rw (facts, b, slots-named (set t (256 * own) r) own es row (entries-valid s own T n q es r entries .0) c (list-valid s 15 r c (z .0) list), template-length (record { entries = es; start = r; code = c }), closed-class c) refl
+            rw (facts, b, slots-named (set t (256 * own) r) own T es row (entries-read s own T few n q entries .ok) c (list-valid s 15 r c (z .0) list), template-length (record { entries = es; start = r; code = c }), closed-class c) refl
 
         pub list-done : {o : Report} → o ≡ reportBy f (r - q) → TemplateDone (Done z o) (set t (256 * own) r)
         unfolding templateAt then templateTold templateFilled rowFilled startFilled
@@ -77,11 +77,11 @@ pub record ReadTemplate (g : Got Template) (q : BitPlace) (o : Report) : Type 0 
 pub template-told : (g : Got Template) {q : BitPlace} {o : Report} → templateTold g ≡ Done q o → ReadTemplate g q o
 unfolding templateTold
 template-told (got t z) {q} {o} h = let k : _≡_ {A = BitPlace} (record { 0 = z }) q = cc in record { template = t; is = ap (λ (b : BitPlace). got t (b .0)) k; report = cc }
-template-told (refused n z) h = let z : _≡_ {A = ℕ} 0 1 = cc in absurd (omega arith)
+template-told (refused n z) h = clash (cc)
 
 template-refused : (g : Got Template) {n : ℕ} {p : BitPlace} → templateTold g ≡ Refused n p → g ≡ refused n (p .0)
 unfolding templateTold
-template-refused (got t z) h = let z : _≡_ {A = ℕ} 0 1 = cc in absurd (omega arith)
+template-refused (got t z) h = clash (cc)
 template-refused (refused m z) {n} {p} h = let k : _≡_ {A = BitPlace} (record { 0 = z }) p = cc in let i : m ≡ n = cc in rw (i, ← k)
 
 -- a template takes few bytes
@@ -114,12 +114,12 @@ module _ (s : List ℕ) (T own p : ℕ) (table : List ℕ) (m : Summary) where
   templates-none h = let k : T - own ≡ 0 = omega arith in rw k (refl, refl)
 
   module _ {r : TemplateRead} {t : List ℕ} (less : own < T) (done : TemplateDone s own T p table r t) where
-    left : T - own ≡ suc (T - (own + 1))
-    left = omega arith
+    one-left : T - own ≡ suc (T - (own + 1))
+    one-left = omega arith
 
     pub templates-stop : {n : ℕ} {x : BitPlace} → r ≡ Refused n x → TemplatesDone (RefusedTemplates n x) t
     unfolding templatesAt templatesFilled then filledThen toldFrom
-    templates-stop e = rw (left, template-refused (templateAt s own T p) (sym (done .0) ∙ e)) (refl, done .1)
+    templates-stop e = rw (one-left, template-refused (templateAt s own T p) (sym (done .0) ∙ e)) (refl, done .1)
 
     told-more : (a : Template) (g : Got (List Template)) → toldFrom own m (then g (λ ts q. got (a ∷ ts) q)) ≡ toldFrom (own + 1) (summaryAfter own (reportOf a) m) g
     unfolding then toldFrom summaryFrom
@@ -133,7 +133,7 @@ module _ (s : List ℕ) (T own p : ℕ) (table : List ℕ) (m : Summary) where
     templates-on {q} {o} few is e =
         let a : ReadTemplate (templateAt s own T p) q o = this s own T p table few done is in
         let k : _ ≡ summaryAfter own (reportOf (a .template)) m = e ∙ ap (λ (x : Report). summaryAfter own x m) (sym (a .report)) in
-        rw (left, a .is, k) (told-more (a .template) (templatesAt s T (own + 1) (T - (own + 1)) (q .0)), ap (templatesFilled s T (own + 1) (T - (own + 1)) (q .0)) (sym (done .1)))
+        rw (one-left, a .is, k) (told-more (a .template) (templatesAt s T (own + 1) (T - (own + 1)) (q .0)), ap (templatesFilled s T (own + 1) (T - (own + 1)) (q .0)) (sym (done .1)))
 
 -- ---- all templates
 pub told-all : (s : List ℕ) (T p : ℕ) → T ≤ 64 → templatesTold (templatesAt s T 0 T p) ≡ toldFrom 0 (begun T) (templatesAt s T 0 T p)

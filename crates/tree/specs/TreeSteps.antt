@@ -5,6 +5,7 @@ use mathlib.Core.Path.{_≡_, refl, sym, ap, _∙_}
 use mathlib.Core.List.{List}
 use borrow.Author.Tests.{le-leb, lt-leb}
 use lib.ListN.{length, replicate}
+use Rattle.cells.specs.Laws.{clash}
 use Rattle.cells.specs.declared.BitPlace.{BitPlace}
 use Rattle.files.specs.declared.Padding.{Padding}
 use Rattle.files.specs.declared.Padding.the-variants.{Zero, Refused as Set}
@@ -50,11 +51,11 @@ pub record ReadTemplates (g : Got (List Template)) (q : BitPlace) (m : Summary) 
 templates-told : (g : Got (List Template)) {q : BitPlace} {m : Summary} → templatesTold g ≡ Done q m → ReadTemplates g q m
 unfolding templatesTold
 templates-told (got ts z) {q} {m} h = let k : _≡_ {A = BitPlace} (record { 0 = z }) q = cc in record { templates = ts; is = ap (λ (b : BitPlace). got ts (b .0)) k; summary = cc }
-templates-told (refused n z) h = let z : _≡_ {A = ℕ} 0 1 = cc in absurd (omega arith)
+templates-told (refused n z) h = clash (cc)
 
 templates-refused : (g : Got (List Template)) {n : ℕ} {p : BitPlace} → templatesTold g ≡ RefusedTemplates n p → g ≡ refused n (p .0)
 unfolding templatesTold
-templates-refused (got ts z) h = let z : _≡_ {A = ℕ} 0 1 = cc in absurd (omega arith)
+templates-refused (got ts z) h = clash (cc)
 templates-refused (refused m z) {n} {p} h = let k : _≡_ {A = BitPlace} (record { 0 = z }) p = cc in let i : m ≡ n = cc in rw (i, ← k)
 
 -- ---- the file

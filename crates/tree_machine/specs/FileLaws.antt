@@ -13,7 +13,7 @@ use Rattle.tree.specs.Judged.{ReadFile, tree-told, checked-refused, judged-uncl
 use Rattle.tree.specs.declared.Summary.{Summary}
 use Rattle.tree.specs.declared.TreeFile.{TreeFile}
 use Rattle.tree.specs.declared.TreeFile.the-variants.{Read, Refused}
-use Rattle.links.specs.TreeSteps.{linkedFrom, Ready}
+use Rattle.links.specs.TreeSteps.{linkedFrom, FileReady}
 use Rattle.machines.specs.Runs.{Memory, Ran, ran, refusedRun, startState, onTree}
 use Rattle.machines.specs.Slots.{slotAt}
 use Rattle.machines.specs.Start.{zeros, zeros-length, refusal}
@@ -23,7 +23,7 @@ use Rattle.tree_code.specs.Fetch.{linkedProgram}
 use Rattle.tree_machine.specs.Agree.{tree-run}
 
 -- ---- a file that is accepted, with its links
-pub linked-ran : (s table L L₀ : List ℕ) (count b start : ℕ) (m : Memory) (r : Ran) → Ready s table count → treeChecked s ≡ treeRead s → 8 * length s ≤ 5 * length L₀
+pub linked-ran : (s table L L₀ : List ℕ) (count b start : ℕ) (m : Memory) (r : Ran) → FileReady s table count → treeChecked s ≡ treeRead s → 8 * length s ≤ 5 * length L₀
     → L ≡ linkedFrom L₀ 0 (treeRead s) → start ≡ slotAt table 0 0 → r ≡ ranFrom (linkedProgram s L table) b 0 (startState (m .globals) start) → r ≡ onTree b m (treeChecked s)
 unfolding onTree linkedFrom
 linked-ran s table L L₀ count b start m r k good long e i h =
@@ -34,13 +34,13 @@ zeros-hold s n h = rw (zeros-length n) h
 
 -- ---- a file s that was read
 module _ (s : List ℕ) (x : TreeFile) (m : Summary) (asked : x ≡ treeTold (treeRead s)) (there : x ≡ Read m) where
-  told : treeTold (treeRead s) ≡ Read m
-  told = sym asked ∙ there
+  is-told : treeTold (treeRead s) ≡ Read m
+  is-told = sym asked ∙ there
 
   file : ReadFile s m
-  file = tree-told s told
+  file = tree-told s is-told
 
-  pub file-ready : (table : List ℕ) → table ≡ treeFilled s → Ready s table (m .count)
+  pub file-ready : (table : List ℕ) → table ≡ treeFilled s → FileReady s table (m .count)
   unfolding summaryOf
   file-ready table filled = record {
     templates = file .templates;
@@ -53,14 +53,14 @@ module _ (s : List ℕ) (x : TreeFile) (m : Summary) (asked : x ≡ treeTold (tr
   module _ (b : ℕ) (mem : Memory) where
     pub file-unclosed : (r : Run) → m .unclosed < 64 → r ≡ refusal 6 (m .unclosed) → ran r mem ≡ onTree b mem (treeChecked s)
     unfolding onTree refusedRun
-    file-unclosed r h e = rw (e, judged-unclosed s told h)
+    file-unclosed r h e = rw (e, judged-unclosed s is-told h)
 
     pub file-misnamed : (r : Run) → 64 ≤ m .unclosed → m .misnamed < 64 → r ≡ refusal 7 (m .misnamed) → ran r mem ≡ onTree b mem (treeChecked s)
     unfolding onTree refusedRun
-    file-misnamed r k h e = rw (e, judged-misnamed s told k h)
+    file-misnamed r k h e = rw (e, judged-misnamed s is-told k h)
 
   pub file-good : 64 ≤ m .unclosed → 64 ≤ m .misnamed → treeChecked s ≡ treeRead s
-  file-good k h = judged-good s told k h ∙ sym (read-file s told .is)
+  file-good k h = judged-good s is-told k h ∙ sym (read-file s is-told .is)
 
 -- ---- a file that is refused 1 to 5
 pub file-refused : (s : List ℕ) (x : TreeFile) (b : ℕ) (m : Memory) (n : ℕ) (p : BitPlace) (r : Run) → x ≡ treeTold (treeRead s) → x ≡ Refused n p → r ≡ refusal n (p .0)

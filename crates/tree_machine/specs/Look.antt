@@ -15,7 +15,7 @@ use Rattle.files.specs.Entries.{Entry}
 use Rattle.files.specs.Grammar.{isClosed}
 use Rattle.links.specs.Links.{linkAt}
 use Rattle.links.specs.LinksLaws.{Linked}
-use Rattle.links.specs.Stands.{Reads, Operands, Takes, Stands}
+use Rattle.links.specs.Stands.{Reads, Operands, Takes, ListStands}
 use Rattle.machines.specs.Fetched.{Fetched, plain, returns, calls, branches, saves, jumps, bad, plainly, resolve, first, look}
 use Rattle.machines.specs.FetchedLaws.{look-first, look-neutral, look-first-arm, look-second-arm, look-after-arms, look-saved, look-after-saved}
 use Rattle.machines.specs.Slots.{slotAt, slotResolve}
@@ -55,8 +55,8 @@ leads-plainly P none p h = tt
 leads-plainly P (some i) p h = h
 
 -- the end of a list, and its link
-ends-at : (s L : List ℕ) (c : Code) (l a e f : ℕ) → Stands s l a c → Linked L a e f c → e + 5 ≡ a + bits c → Reads s e 5 0 × (linkAt L e ≡ f)
-unfolding Stands Linked bits
+ends-at : (s L : List ℕ) (c : Code) (l a e f : ℕ) → ListStands s l a c → Linked L a e f c → e + 5 ≡ a + bits c → Reads s e 5 0 × (linkAt L e ≡ f)
+unfolding ListStands Linked bits
 ends-at s L done l a e f st li h = let z : e ≡ a = omega arith in rw z (st, li)
 ends-at s L (neutral op ns r) l a e f st li h = ends-at s L r l _ e f (st .3) li (omega arith)
 ends-at s L (return r) l a e f st li h = ends-at s L r l _ e f (st .1) li (omega arith)
@@ -117,9 +117,9 @@ module _ (s L table : List ℕ) (t : ℕ) (es : List Entry) (P : ℕ → Type 0)
   -- ---- lists, whose entries are in the table
   module _ (slots : (op : ℕ) (ns : List ℕ) → getD ns 0 0 < 256 → slotResolve (slotAt table t) op (getD ns 0 0) (getD ns 1 0) ≡ resolve es op ns) where
     -- what begins a list, or what comes after one that is empty
-    head-found : (c : Code) (k : Bool) (l a e f n : ℕ) (F : Fetched) → Stands s l a c → Linked L a e f c → fits k c ≡ true
+    head-found : (c : Code) (k : Bool) (l a e f n : ℕ) (F : Fetched) → ListStands s l a c → Linked L a e f c → fits k c ≡ true
         → (k ≡ true → Found n f F) → ((p : ℕ) → Real k a c p → P p) → Found (suc n) a (first es a c F)
-    unfolding first Stands Linked Real seen Leads instructionAt withRead shapedAs shapeOf
+    unfolding first ListStands Linked Real seen Leads instructionAt withRead shapedAs shapeOf
     head-found done k l a e f n F st li h on in-list = found-on st li (on (first-real k a done h .0))
     head-found (neutral op ns r) k l a e f n F st li h on in-list =
         found-here op (st .0) (λ z. omega arith)
@@ -142,7 +142,7 @@ module _ (s L table : List ℕ) (t : ℕ) (es : List Entry) (P : ℕ → Type 0)
     -- the list c begins at a and ends at e; F comes after it, and is found at f where the list runs out; n lists hold it, and l more may be
     -- below it
     pub record Sits (k : Bool) (l a e f n : ℕ) (F : Fetched) (c : Code) : Type 0 where
-      pub there : Stands s l a c
+      pub there : ListStands s l a c
       pub links : Linked L a e f c
       pub fit : fits k c ≡ true
       pub ends : k ≡ true → e + 5 ≡ a + bits c
@@ -157,7 +157,7 @@ module _ (s L table : List ℕ) (t : ℕ) (es : List Entry) (P : ℕ → Type 0)
           rw (look-first es a p c F q, q) (later h (head-found c k l a e f n F (x .there) (x .links) (x .fit) (x .follows) (x .inside)))
 
       neutral-rest : {op : ℕ} {ns : List ℕ} {r : Code} → Sits k l a e f n F (neutral op ns r) → Sits k l (a + (5 + 8 * length ns)) e f n F r
-      unfolding Stands Linked Real bits
+      unfolding ListStands Linked Real bits
       neutral-rest {op} {ns} {r} x = record {
         there = x .there .3;
         links = x .links;
@@ -174,7 +174,7 @@ module _ (s L table : List ℕ) (t : ℕ) (es : List Entry) (P : ℕ → Type 0)
       rest = a + 5 + bits x + bits y
 
       conditional-rest : isClosed x ≡ false → fits k r ≡ true → Sits k (suc l) rest e f n F r
-      unfolding Stands Linked Real bits
+      unfolding ListStands Linked Real bits
       conditional-rest o h = record {
         there = sits .there .3;
         links = sits .links .3;
@@ -193,7 +193,7 @@ module _ (s L table : List ℕ) (t : ℕ) (es : List Entry) (P : ℕ → Type 0)
           by (closed-arms i g j h) = false-true (rw i at o)
 
       first-arm : Sits (not (isClosed x)) l (a + 5) (a + bits x) rest (suc n) (first es rest r F) x
-      unfolding Stands Linked Real
+      unfolding ListStands Linked Real
       first-arm = record {
         there = sits .there .1;
         links = sits .links .1;
@@ -205,7 +205,7 @@ module _ (s L table : List ℕ) (t : ℕ) (es : List Entry) (P : ℕ → Type 0)
       }
 
       second-arm : Sits (not (isClosed x)) l (a + 5 + bits x) (a + bits x + bits y) rest (suc n) (first es rest r F) y
-      unfolding Stands Linked Real
+      unfolding ListStands Linked Real
       second-arm = record {
         there = sits .there .2;
         links = sits .links .2;
@@ -234,7 +234,7 @@ module _ (s L table : List ℕ) (t : ℕ) (es : List Entry) (P : ℕ → Type 0)
           by (closed-saved i h) = false-true (rw i at o)
 
       saved-list : Sits (not (isClosed x)) l (a + 13) (a + 8 + bits x) e (suc n) F x
-      unfolding Stands Linked Real
+      unfolding ListStands Linked Real
       saved-list = record {
         there = sits .there .2;
         links = sits .links .1;
@@ -247,7 +247,7 @@ module _ (s L table : List ℕ) (t : ℕ) (es : List Entry) (P : ℕ → Type 0)
 
       -- the rest is closed
       cont-rest : Sits false (suc l) (a + 13 + bits x) e f n bad r
-      unfolding Stands Linked Real bits
+      unfolding ListStands Linked Real bits
       cont-rest = record {
         there = sits .there .3;
         links = sits .links .2;
@@ -269,7 +269,7 @@ module _ (s L table : List ℕ) (t : ℕ) (es : List Entry) (P : ℕ → Type 0)
         let w = real-within k _ r p q in rw (look-neutral es a p op ns r F (omega arith)) (found k l _ e f n F (neutral-rest x) p q)
 
     finds-conditional : (x y r : Code) → Finds x → Finds y → Finds r → Finds (unless-false x y r)
-    unfolding Real Stands
+    unfolding Real ListStands
     finds-conditional x y r in-x in-y in-r k zero a e f n F z p q = absurd (z .there)
     finds-conditional x y r in-x in-y in-r k (suc l) a e f n F z p (inl q) = at-first p z q
     finds-conditional x y r in-x in-y in-r k (suc l) a e f n F z p (inr (inl q)) =
@@ -283,7 +283,7 @@ module _ (s L table : List ℕ) (t : ℕ) (es : List Entry) (P : ℕ → Type 0)
         rw (look-after-arms es a p x y r F (omega arith) (omega arith)) (in-rest z p (λ o. in-r k (suc l) _ e f n F o p) q)
 
     finds-make-cont : (m : ℕ) (x r : Code) → Finds x → Finds r → Finds (make-cont m x r)
-    unfolding Real Stands
+    unfolding Real ListStands
     finds-make-cont m x r in-x in-r k zero a e f n F z p q = absurd (z .there)
     finds-make-cont m x r in-x in-r k (suc l) a e f n F z p (inl q) = at-first p z q
     finds-make-cont m x r in-x in-r k (suc l) a e f n F z p (inr (inl q)) =

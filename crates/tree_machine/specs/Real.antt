@@ -6,6 +6,7 @@ use mathlib.Core.Bool.{Bool, true, false, cond, not, _&&_, _||_, and-eq-true-iff
 use mathlib.Core.Logic.{_⊎_, inl, inr}
 use mathlib.Core.List.{List}
 use lib.ListN.{length}
+use Rattle.cells.specs.Laws.{clash}
 use Rattle.files.specs.Code.{Code, done, neutral, return, call, unless-false, make-cont, bits}
 use Rattle.files.specs.Grammar.{isEmpty, isOpen, isClosed}
 use Rattle.files.specs.GrammarLaws.{empty-done}
@@ -18,7 +19,7 @@ fits true c = isEmpty c || isOpen c
 fits false c = isClosed c
 
 pub false-true : {A : Type 0} → _≡_ {A = Bool} false true → A
-false-true e = let z : _≡_ {A = ℕ} 0 1 = cc in absurd (omega arith)
+false-true e = clash (cc)
 
 or-one : {A : Type 0} (a b : Bool) → a || b ≡ true → (a ≡ true → A) → (b ≡ true → A) → A
 or-one true b e f g = f refl

@@ -9,9 +9,9 @@ ghost use Prim.Native.Nat.{_*_, _≤_};
 ghost use lib.ListN.{length};
 ghost use Rattle.files.specs.Tree.{treeRead};
 ghost use Rattle.files.specs.Accepted.{treeChecked};
-ghost use Rattle.links.specs.TreeSteps.{Ready};
+ghost use Rattle.links.specs.TreeSteps.{FileReady};
 ghost use Rattle.machines.specs.Runs.{memory, ran, onTree, treeRun};
-ghost use Rattle.machines.specs.Start.{zeros, Startable};
+ghost use Rattle.machines.specs.Start.{zeros, MayStart};
 
 // The run of a file that is accepted, where the table is its table and has `count` templates, with links of zeros for it to fill.
 fn run_linked(
@@ -25,7 +25,7 @@ fn run_linked(
     store: &mut [u64],
     frames: &mut [u64],
 ) -> Run
-    requires { ⌜ Startable 1000000 budget (memory (now globals) (now stack) (now store) (now frames)) × Ready (now file) (now table) count × (length (now table) ≡ 16384) × (treeChecked (now file) ≡ treeRead (now file)) × (8 * length (now file) ≤ 5 * length (now links)) ⌝ }
+    requires { ⌜ MayStart 1000000 budget (memory (now globals) (now stack) (now store) (now frames)) × FileReady (now file) (now table) count × (length (now table) ≡ 16384) × (treeChecked (now file) ≡ treeRead (now file)) × (8 * length (now file) ≤ 5 * length (now links)) ⌝ }
     ensures { λ x. ⌜ ran x (memory (now (globals .exit)) (now (stack .exit)) (now (store .exit)) (now (frames .exit))) ≡ onTree budget (memory (now (globals .entry)) (now (stack .entry)) (now (store .entry)) (now (frames .entry))) (treeChecked (now (file .entry))) ⌝ }
 {
     links::link_tree(file, table, count, links);
@@ -56,7 +56,7 @@ fn run_read(
     store: &mut [u64],
     frames: &mut [u64],
 ) -> Run
-    requires { ⌜ Startable 1000000 budget (memory (now globals) (now stack) (now store) (now frames)) × Ready (now file) (now table) count × (length (now table) ≡ 16384) × (treeChecked (now file) ≡ treeRead (now file)) ⌝ }
+    requires { ⌜ MayStart 1000000 budget (memory (now globals) (now stack) (now store) (now frames)) × FileReady (now file) (now table) count × (length (now table) ≡ 16384) × (treeChecked (now file) ≡ treeRead (now file)) ⌝ }
     ensures { λ x. ⌜ ran x (memory (now (globals .exit)) (now (stack .exit)) (now (store .exit)) (now (frames .exit))) ≡ onTree budget (memory (now (globals .entry)) (now (stack .entry)) (now (store .entry)) (now (frames .entry))) (treeChecked (now (file .entry))) ⌝ }
 {
     if file.len() <= 4096 {
@@ -98,7 +98,7 @@ fn run_file(
     store: &mut [u64],
     frames: &mut [u64],
 ) -> Run
-    requires { ⌜ Startable 1000000 budget (memory (now globals) (now stack) (now store) (now frames)) × (now table ≡ zeros 16384) ⌝ }
+    requires { ⌜ MayStart 1000000 budget (memory (now globals) (now stack) (now store) (now frames)) × (now table ≡ zeros 16384) ⌝ }
     ensures { λ x. ⌜ ran x (memory (now (globals .exit)) (now (stack .exit)) (now (store .exit)) (now (frames .exit))) ≡ onTree budget (memory (now (globals .entry)) (now (stack .entry)) (now (store .entry)) (now (frames .entry))) (treeChecked (now (file .entry))) ⌝ }
 {
     match tree::read_tree(file, table) {

@@ -2,7 +2,7 @@
 use borrow.Author.Needs.{needs}
 use native.Mathlib.Omega.{arith}
 use Rattle.cells.specs.Cells.{cellOf}
-use Rattle.exporter.specs.Answers.{FitsCell}
+use Rattle.exporter.specs.Answers.{FieldsFit}
 use Rattle.exporter.proofs.answer_cell.Statement.{statement}
 use Rattle.exporter.proofs.answer_cell.Tie as tie
 
@@ -28,15 +28,15 @@ enum-known-v-2 : tie.Need-enum-known-v-2
 enum-known-v-2 c = search needs
 
 cast-closure-cell : tie.Need-cast-closure-cell
-unfolding FitsCell
+unfolding FieldsFit
 cast-closure-cell c = let h = rw (c .before .before .v2 .given .1) at (c .before .before .before .before .pre) in omega arith
 
 cast-closure-cell-2 : tie.Need-cast-closure-cell-2
-unfolding FitsCell
+unfolding FieldsFit
 cast-closure-cell-2 c = let h = rw (c .before .before .before .v2 .given .1) at (c .before .before .before .before .before .pre) in omega arith
 
 cast-closure-cell-3 : tie.Need-cast-closure-cell-3
-unfolding FitsCell
+unfolding FieldsFit
 cast-closure-cell-3 c = let h = rw (c .before .before .before .before .v2 .given .1) at (c .before .before .before .before .before .before .pre) in omega arith
 
 closure-cell-requires : tie.Need-closure-cell-requires
@@ -46,11 +46,11 @@ enum-known-v-3 : tie.Need-enum-known-v-3
 enum-known-v-3 c = search needs
 
 cast-pair-cell : tie.Need-cast-pair-cell
-unfolding FitsCell
+unfolding FieldsFit
 cast-pair-cell c = let h = rw (c .before .v3 .given .1) at (c .before .before .before .pre) in omega arith
 
 cast-pair-cell-2 : tie.Need-cast-pair-cell-2
-unfolding FitsCell
+unfolding FieldsFit
 cast-pair-cell-2 c = let h = rw (c .before .v3 .given .1) at (c .before .before .before .pre) in omega arith
 
 pair-cell-requires : tie.Need-pair-cell-requires

@@ -4,7 +4,7 @@ use native.Mathlib.Nat.{sub-zero}
 use mathlib.Core.Path.{_≡_, sym, _∙_}
 use borrow.Author.Needs.{needs}
 use lib.ListN.{length}
-use Rattle.files.specs.Linear.{linearsAt}
+use Rattle.files.specs.Linear.{linearTemplatesAt}
 use Rattle.linear.specs.Filled.{partTold, templatesFilled}
 use Rattle.linear.specs.LinearSteps.{linears-none, linears-stop, linears-on}
 use Rattle.linear.proofs.read_templates.Statement.{statement}
@@ -12,7 +12,7 @@ use Rattle.linear.proofs.read_templates.Tie as tie
 
 abbrev Inv-loop : tie.InvT-loop
 Inv-loop s table₀ count own₀ here₀ table own here =
-    (own ≤ count) × (length table ≡ 16384) × (partTold (linearsAt s count 0 count (here₀ .0)) ≡ partTold (linearsAt s count own (count - own) (here .0)))
+    (own ≤ count) × (length table ≡ 16384) × (partTold (linearTemplatesAt s count 0 count (here₀ .0)) ≡ partTold (linearTemplatesAt s count own (count - own) (here .0)))
     × (templatesFilled s count 0 count (here₀ .0) table₀ ≡ templatesFilled s count own (count - own) (here .0) table)
 
 abbrev μ-loop : tie.MeasureT-loop

@@ -1,6 +1,6 @@
 -- `linear_code::fetch_branch` meets its contract. Assumes nothing.
 use mathlib.Core.Path.{refl}
-use Rattle.machines.specs.Instruction.{number, isLinear, fetchedAs, Places}
+use Rattle.machines.specs.Instruction.{number, formOf, fetchedAs, Places}
 use Rattle.linear_code.proofs.FetchLaws.{part-length, branch-cut, branch-there}
 use borrow.Author.Needs.{needs}
 use Rattle.linear_code.proofs.fetch_branch.Statement.{statement}
@@ -23,7 +23,7 @@ add-t11 : tie.Need-add-t11
 add-t11 c = search needs
 
 returns-2 : tie.Need-returns-2
-unfolding number isLinear fetchedAs Places
+unfolding number formOf fetchedAs Places
 returns-2 c = (λ slot. branch-there _ _ _ (c .before .before .before .pre .0) _ _ (c .offset .ensures .0) (c .before .if1 .left), (refl, refl))
 
 pub fetch-branch-spec : {M : Type 1} → statement M

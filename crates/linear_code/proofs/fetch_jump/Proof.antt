@@ -2,7 +2,7 @@
 use mathlib.Core.Path.{refl}
 use borrow.Author.Needs.{needs}
 use Rattle.linear_code.proofs.FetchLaws.{part-length, jump-cut, jump-there}
-use Rattle.machines.specs.Instruction.{number, isLinear, fetchedAs, Places}
+use Rattle.machines.specs.Instruction.{number, formOf, fetchedAs, Places}
 use Rattle.linear_code.proofs.fetch_jump.Statement.{statement}
 use Rattle.linear_code.proofs.fetch_jump.Tie as tie
 
@@ -20,7 +20,7 @@ unfolding fetchedAs Places
 returns c = (λ slot. jump-cut _ _ (rw (part-length _ _ _ (c .before .before .pre .0)) (c .if1 .taken)), tt)
 
 returns-2 : tie.Need-returns-2
-unfolding number isLinear fetchedAs Places
+unfolding number formOf fetchedAs Places
 returns-2 c = (λ slot. jump-there _ _ _ (c .before .before .before .pre .0) _ _ (c .offset .ensures .0) (c .before .if1 .left), refl)
 
 pub fetch-jump-spec : {M : Type 1} → statement M

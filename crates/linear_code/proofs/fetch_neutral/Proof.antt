@@ -1,6 +1,6 @@
 -- `linear_code::fetch_neutral` meets its contract. Assumes nothing.
 use mathlib.Core.Path.{refl}
-use Rattle.machines.specs.Instruction.{number, isLinear, fetchedAs, Places}
+use Rattle.machines.specs.Instruction.{number, formOf, fetchedAs, Places}
 use Rattle.linear_code.proofs.FetchLaws.{part-length, neutral-cut, neutral-whole}
 use borrow.Author.Needs.{needs}
 use Rattle.linear_code.proofs.fetch_neutral.Statement.{statement}
@@ -26,7 +26,7 @@ add-t11 : tie.Need-add-t11
 add-t11 c = search needs
 
 returns-2 : tie.Need-returns-2
-unfolding number isLinear fetchedAs Places
+unfolding number formOf fetchedAs Places
 returns-2 c = (λ slot. neutral-whole slot _ _ _ _ (c .before .before .before .operand-count .ensures) _ _ (c .before .operand .ensures) (c .operand2 .ensures) (rw (part-length _ _ _ (c .before .before .before .before .before .pre .0)) (c .before .before .if1 .left)), refl)
 
 pub fetch-neutral-spec : {M : Type 1} → statement M

@@ -1,7 +1,7 @@
 -- `linear_code::fetch_save` meets its contract. Assumes nothing.
 use mathlib.Core.Path.{refl}
 use native.Mathlib.Omega.{arith}
-use Rattle.machines.specs.Instruction.{number, isLinear, fetchedAs, Places}
+use Rattle.machines.specs.Instruction.{number, formOf, fetchedAs, Places}
 use Rattle.linear_code.proofs.FetchLaws.{part-length, save-cut, save-there}
 use borrow.Author.Needs.{needs}
 use Rattle.linear_code.proofs.fetch_save.Statement.{statement}
@@ -30,7 +30,7 @@ shared-slice-read-t13 : tie.Need-shared-slice-read-t13
 shared-slice-read-t13 c = search needs
 
 returns-2 : tie.Need-returns-2
-unfolding number isLinear fetchedAs Places
+unfolding number formOf fetchedAs Places
 returns-2 c = (λ slot. save-there _ _ _ (c .before .before .before .before .pre .0) _ _ (c .before .offset .ensures .0) (omega (arith, c .before .before .if1 .left)), (refl, refl, search needs))
 
 pub fetch-save-spec : {M : Type 1} → statement M

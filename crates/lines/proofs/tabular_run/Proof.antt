@@ -1,7 +1,7 @@
 -- `lines::tabular_run` meets its contract: the machine's contract, with fresh memory. Assumes nothing.
 use borrow.Author.Needs.{needs}
 use mathlib.Core.Path.{ap}
-use Rattle.lines.specs.Lines.{runOf}
+use Rattle.machines.specs.Runs.{runOf}
 use Rattle.lines.proofs.tabular_run.Statement.{statement}
 use Rattle.lines.proofs.tabular_run.Tie as tie
 

@@ -2,8 +2,9 @@
 use borrow.Author.Needs.{needs}
 use mathlib.Core.Path.{refl, ap, _∙_}
 use Rattle.rules.specs.declared.Plain.the-variants.{Closure, Global, SetGlobal}
-use Rattle.machines.specs.Slots.{slotAt, slotLiteral, slotResolve, resolvedAs, markedAs}
-use Rattle.machines.proofs.ResolveLaws.{coded, no-code, marked-number, marked-other}
+use Rattle.machines.specs.Fetched.{asLiteral, ruleOf}
+use Rattle.machines.specs.Slots.{slotAt, slotNames, slotResolve, resolvedAs, markedAs}
+use Rattle.machines.proofs.ResolveLaws.{coded, no-code, closure-slot, global-slot, marked-number, marked-other}
 use Rattle.machines.proofs.resolve.Statement.{statement}
 use Rattle.machines.proofs.resolve.Tie as tie
 
@@ -50,109 +51,115 @@ enum-told-3 : tie.Need-enum-told-3
 enum-told-3 c = search needs
 
 returns : tie.Need-returns
-unfolding slotResolve
+unfolding slotResolve ruleOf
 returns c =
     let p = c .before .before .before .before .args in
-    coded (slotAt (p .table .now) (p .template)) _ 6 (p .a) (p .b) _ (c .before .before .match .keys1) (c .literal .ensures ∙ ap (λ x. resolvedAs (slotLiteral x)) (c .before .slot-at .ensures))
+    coded (slotAt (p .table .now) (p .template)) _ 6 (p .a) (p .b) _ (c .before .before .match .keys1) (c .literal .ensures ∙ ap (λ x. resolvedAs (asLiteral (slotNames x))) (c .before .slot-at .ensures))
 
 returns-2 : tie.Need-returns-2
-unfolding slotResolve
+unfolding slotResolve ruleOf
 returns-2 c =
     let p = c .before .before .before .before .before .before .before .args in
-    coded (slotAt (p .table .now) (p .template)) _ 7 (p .a) (p .b) _ (c .before .before .before .before .before .match .keys2) (marked-number Closure 12 _ _ (c .before .before .before .under-tag .ensures ∙ ap (markedAs 12) (c .before .before .before .before .slot-at2 .ensures)) _ (c .before .t .given .1))
+    let x = slotAt (p .table .now) (p .template) (p .a) in
+    coded (slotAt (p .table .now) (p .template)) _ 7 (p .a) (p .b) _ (c .before .before .before .before .before .match .keys2) (marked-number x Closure 12 _ (c .before .before .before .under-tag .ensures ∙ ap (markedAs 12) (c .before .before .before .before .slot-at2 .ensures)) _ (closure-slot x) _ (c .before .t .given .1))
 
 returns-3 : tie.Need-returns-3
-unfolding slotResolve
+unfolding slotResolve ruleOf
 returns-3 c =
     let p = c .before .before .before .before .before .before .args in
-    coded (slotAt (p .table .now) (p .template)) _ 7 (p .a) (p .b) _ (c .before .before .before .before .match .keys2) (marked-other Closure 12 _ _ (c .before .before .under-tag .ensures ∙ ap (markedAs 12) (c .before .before .before .slot-at2 .ensures)) (c .enum-told .given .1))
+    let x = slotAt (p .table .now) (p .template) (p .a) in
+    coded (slotAt (p .table .now) (p .template)) _ 7 (p .a) (p .b) _ (c .before .before .before .before .match .keys2) (marked-other x Closure 12 _ (c .before .before .under-tag .ensures ∙ ap (markedAs 12) (c .before .before .before .slot-at2 .ensures)) _ (closure-slot x) (c .enum-told .given .1))
 
 returns-4 : tie.Need-returns-4
-unfolding slotResolve
+unfolding slotResolve ruleOf
 returns-4 c =
     let p = c .before .before .before .before .before .before .before .args in
-    coded (slotAt (p .table .now) (p .template)) _ 8 (p .a) (p .b) _ (c .before .before .before .before .before .match .keys3) (marked-number Global 11 _ _ (c .before .before .before .under-tag2 .ensures ∙ ap (markedAs 11) (c .before .before .before .before .slot-at3 .ensures)) _ (c .before .g .given .1))
+    let x = slotAt (p .table .now) (p .template) (p .a) in
+    coded (slotAt (p .table .now) (p .template)) _ 8 (p .a) (p .b) _ (c .before .before .before .before .before .match .keys3) (marked-number x Global 11 _ (c .before .before .before .under-tag2 .ensures ∙ ap (markedAs 11) (c .before .before .before .before .slot-at3 .ensures)) _ (global-slot x Global) _ (c .before .g .given .1))
 
 returns-5 : tie.Need-returns-5
-unfolding slotResolve
+unfolding slotResolve ruleOf
 returns-5 c =
     let p = c .before .before .before .before .before .before .args in
-    coded (slotAt (p .table .now) (p .template)) _ 8 (p .a) (p .b) _ (c .before .before .before .before .match .keys3) (marked-other Global 11 _ _ (c .before .before .under-tag2 .ensures ∙ ap (markedAs 11) (c .before .before .before .slot-at3 .ensures)) (c .enum-told2 .given .1))
+    let x = slotAt (p .table .now) (p .template) (p .a) in
+    coded (slotAt (p .table .now) (p .template)) _ 8 (p .a) (p .b) _ (c .before .before .before .before .match .keys3) (marked-other x Global 11 _ (c .before .before .under-tag2 .ensures ∙ ap (markedAs 11) (c .before .before .before .slot-at3 .ensures)) _ (global-slot x Global) (c .enum-told2 .given .1))
 
 returns-6 : tie.Need-returns-6
-unfolding slotResolve
+unfolding slotResolve ruleOf
 returns-6 c =
     let p = c .before .before .before .before .before .before .before .args in
-    coded (slotAt (p .table .now) (p .template)) _ 9 (p .a) (p .b) _ (c .before .before .before .before .before .match .keys4) (marked-number SetGlobal 11 _ _ (c .before .before .before .under-tag3 .ensures ∙ ap (markedAs 11) (c .before .before .before .before .slot-at4 .ensures)) _ (c .before .g2 .given .1))
+    let x = slotAt (p .table .now) (p .template) (p .a) in
+    coded (slotAt (p .table .now) (p .template)) _ 9 (p .a) (p .b) _ (c .before .before .before .before .before .match .keys4) (marked-number x SetGlobal 11 _ (c .before .before .before .under-tag3 .ensures ∙ ap (markedAs 11) (c .before .before .before .before .slot-at4 .ensures)) _ (global-slot x SetGlobal) _ (c .before .g2 .given .1))
 
 returns-7 : tie.Need-returns-7
-unfolding slotResolve
+unfolding slotResolve ruleOf
 returns-7 c =
     let p = c .before .before .before .before .before .before .args in
-    coded (slotAt (p .table .now) (p .template)) _ 9 (p .a) (p .b) _ (c .before .before .before .before .match .keys4) (marked-other SetGlobal 11 _ _ (c .before .before .under-tag3 .ensures ∙ ap (markedAs 11) (c .before .before .before .slot-at4 .ensures)) (c .enum-told3 .given .1))
+    let x = slotAt (p .table .now) (p .template) (p .a) in
+    coded (slotAt (p .table .now) (p .template)) _ 9 (p .a) (p .b) _ (c .before .before .before .before .match .keys4) (marked-other x SetGlobal 11 _ (c .before .before .under-tag3 .ensures ∙ ap (markedAs 11) (c .before .before .before .slot-at4 .ensures)) _ (global-slot x SetGlobal) (c .enum-told3 .given .1))
 
 returns-8 : tie.Need-returns-8
-unfolding slotResolve resolvedAs
+unfolding slotResolve ruleOf resolvedAs
 returns-8 c =
     let p = c .before .before .args in
     coded (slotAt (p .table .now) (p .template)) _ 10 (p .a) (p .b) _ (c .match .keys5) refl
 
 returns-9 : tie.Need-returns-9
-unfolding slotResolve resolvedAs
+unfolding slotResolve ruleOf resolvedAs
 returns-9 c =
     let p = c .before .before .args in
     coded (slotAt (p .table .now) (p .template)) _ 11 (p .a) (p .b) _ (c .match .keys6) refl
 
 returns-10 : tie.Need-returns-10
-unfolding slotResolve resolvedAs
+unfolding slotResolve ruleOf resolvedAs
 returns-10 c =
     let p = c .before .before .args in
     coded (slotAt (p .table .now) (p .template)) _ 12 (p .a) (p .b) _ (c .match .keys7) refl
 
 returns-11 : tie.Need-returns-11
-unfolding slotResolve resolvedAs
+unfolding slotResolve ruleOf resolvedAs
 returns-11 c =
     let p = c .before .before .args in
     coded (slotAt (p .table .now) (p .template)) _ 13 (p .a) (p .b) _ (c .match .keys8) refl
 
 returns-12 : tie.Need-returns-12
-unfolding slotResolve resolvedAs
+unfolding slotResolve ruleOf resolvedAs
 returns-12 c =
     let p = c .before .before .args in
     coded (slotAt (p .table .now) (p .template)) _ 15 (p .a) (p .b) _ (c .match .keys9) refl
 
 returns-13 : tie.Need-returns-13
-unfolding slotResolve resolvedAs
+unfolding slotResolve ruleOf resolvedAs
 returns-13 c =
     let p = c .before .before .args in
     coded (slotAt (p .table .now) (p .template)) _ 16 (p .a) (p .b) _ (c .match .keys10) refl
 
 returns-14 : tie.Need-returns-14
-unfolding slotResolve resolvedAs
+unfolding slotResolve ruleOf resolvedAs
 returns-14 c =
     let p = c .before .before .args in
     coded (slotAt (p .table .now) (p .template)) _ 18 (p .a) (p .b) _ (c .match .keys11) refl
 
 returns-15 : tie.Need-returns-15
-unfolding slotResolve resolvedAs
+unfolding slotResolve ruleOf resolvedAs
 returns-15 c =
     let p = c .before .before .args in
     coded (slotAt (p .table .now) (p .template)) _ 19 (p .a) (p .b) _ (c .match .keys12) refl
 
 returns-16 : tie.Need-returns-16
-unfolding slotResolve resolvedAs
+unfolding slotResolve ruleOf resolvedAs
 returns-16 c =
     let p = c .before .before .args in
     coded (slotAt (p .table .now) (p .template)) _ 20 (p .a) (p .b) _ (c .match .keys13) refl
 
 returns-17 : tie.Need-returns-17
-unfolding slotResolve resolvedAs
+unfolding slotResolve ruleOf resolvedAs
 returns-17 c =
     let p = c .before .before .args in
     coded (slotAt (p .table .now) (p .template)) _ 21 (p .a) (p .b) _ (c .match .keys14) refl
 
 returns-18 : tie.Need-returns-18
-unfolding slotResolve resolvedAs
+unfolding slotResolve ruleOf resolvedAs
 returns-18 c =
     let p = c .before .before .args in
     coded (slotAt (p .table .now) (p .template)) _ 22 (p .a) (p .b) _ (c .match .keys15) refl

@@ -3,8 +3,8 @@ use Prim.Native.Nat.{_-_, _≤_}
 use mathlib.Core.Path.{_≡_, refl}
 use Rattle.machines.specs.Runs.{memory}
 use Rattle.machines.specs.Steps.{ranFrom}
-use Rattle.machines.specs.Instruction.{isLinear, Of}
-use Rattle.steps.specs.Step.{codeProgram, stateOf, Ready}
+use Rattle.machines.specs.Instruction.{formOf, Of}
+use Rattle.steps.specs.Step.{codeProgram, stateOf, StepReady}
 use Rattle.steps.proofs.RunLaws.{at-first, next-ready, next-place, next-turn, halted-turn, wrong-turn, spent-turn}
 use borrow.Author.Needs.{needs}
 use Rattle.steps.proofs.run_from.Statement.{statement}
@@ -12,9 +12,9 @@ use Rattle.steps.proofs.run_from.Tie as tie
 
 abbrev Inv-loop : tie.InvT-loop
 Inv-loop file links table globals₀ stack₀ store₀ frames₀ budget r₀ c₀ left₀ globals stack store frames r c left =
-    Ready file table (memory globals stack store frames) r c × (left ≤ budget) × Of (isLinear (c₀ .place)) (c .place)
-    × (ranFrom (codeProgram (isLinear (c₀ .place)) file links table) left (budget - left) (stateOf r c (memory globals stack store frames))
-    ≡ ranFrom (codeProgram (isLinear (c₀ .place)) file links table) budget 0 (stateOf r₀ c₀ (memory globals₀ stack₀ store₀ frames₀)))
+    StepReady file table (memory globals stack store frames) r c × (left ≤ budget) × Of (formOf (c₀ .place)) (c .place)
+    × (ranFrom (codeProgram (formOf (c₀ .place)) file links table) left (budget - left) (stateOf r c (memory globals stack store frames))
+    ≡ ranFrom (codeProgram (formOf (c₀ .place)) file links table) budget 0 (stateOf r₀ c₀ (memory globals₀ stack₀ store₀ frames₀)))
 
 abbrev μ-loop : tie.MeasureT-loop
 μ-loop file links table globals₀ stack₀ store₀ frames₀ budget r₀ c₀ left₀ globals stack store frames r c left = left

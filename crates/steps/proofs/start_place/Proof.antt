@@ -1,6 +1,6 @@
 -- `steps::start_place` meets its contract. Assumes nothing.
 use mathlib.Core.Path.{refl, sym}
-use Rattle.machines.specs.Instruction.{number, isLinear}
+use Rattle.machines.specs.Instruction.{number, formOf}
 use Rattle.steps.specs.Step.{startAt}
 use Rattle.steps.proofs.StepLaws.{in-tree, in-linear}
 use borrow.Author.Needs.{needs}
@@ -17,11 +17,11 @@ enum-told-2 : tie.Need-enum-told-2
 enum-told-2 c = search needs
 
 returns : tie.Need-returns
-unfolding number isLinear startAt
+unfolding number formOf startAt
 returns c = let e = in-tree _ _ (c .before .enum-told .given .1) in (rw e (c .slot-at .ensures), sym e)
 
 returns-2 : tie.Need-returns-2
-unfolding number isLinear startAt
+unfolding number formOf startAt
 returns-2 c = let e = in-linear _ _ (c .enum-told2 .given .1) in (rw e refl, sym e)
 
 pub start-place-spec : {M : Type 1} → statement M

@@ -1,6 +1,6 @@
 -- `steps::take_step` meets its contract. Assumes nothing.
 use mathlib.Core.Path.{sym, _∙_}
-use Rattle.machines.specs.Instruction.{isLinear, fetchedAs}
+use Rattle.machines.specs.Instruction.{formOf, fetchedAs}
 use Rattle.steps.specs.Step.{codeProgram}
 use Rattle.steps.proofs.StepLaws.{step-is, stays, neutral-place, jump-place, branch-places, save-places, starts, jump-goes, bad-stops}
 use borrow.Author.Needs.{needs}
@@ -64,7 +64,7 @@ returns : tie.Need-returns
 unfolding fetchedAs
 returns c =
     let a = c .before .before .before .before .before .before .before .before .before .before .before .before .before .before .before .before .before .before .before .before .before .args in
-    let P = codeProgram (isLinear (a .c .place)) (a .file .now) (a .links .now) (a .table .now) in
+    let P = codeProgram (formOf (a .c .place)) (a .file .now) (a .links .now) (a .table .now) in
     let f = c .before .before .before .before .before .before .before .before .before .before .before .before .before .fetch .ensures in
     step-is (a .file .now) (a .links .now) (a .table .now) (a .r) (a .c) _ _ (f .0) (c .before .before .before .before .before .before .before .before .before .before .before .op .given .1) _ _ _ (stays _ _ (neutral-place _ _ (f .1) _ _ _ _ (c .before .before .before .before .before .before .before .before .before .before .before .op .given .1)) (c .before .before .before .before .before .before .act-neutral .ensures P (a .frames .now)))
 
@@ -78,7 +78,7 @@ returns-2 : tie.Need-returns-2
 unfolding fetchedAs
 returns-2 c =
     let a = c .before .before .before .before .before .before .before .before .before .before .before .before .before .before .before .before .before .args in
-    let P = codeProgram (isLinear (a .c .place)) (a .file .now) (a .links .now) (a .table .now) in
+    let P = codeProgram (formOf (a .c .place)) (a .file .now) (a .links .now) (a .table .now) in
     let f = c .before .before .before .before .before .before .before .before .before .fetch .ensures in
     step-is (a .file .now) (a .links .now) (a .table .now) (a .r) (a .c) _ _ (f .0) (c .before .before .before .before .before .before .before .enum-told .given .1) _ _ _ (c .before .before .before .before .act-return .ensures P (a .globals .now) (a .store .now))
 
@@ -86,7 +86,7 @@ returns-3 : tie.Need-returns-3
 unfolding fetchedAs
 returns-3 c =
     let a = c .before .before .before .before .before .before .before .before .before .before .before .before .args in
-    let P = codeProgram (isLinear (a .c .place)) (a .file .now) (a .links .now) (a .table .now) in
+    let P = codeProgram (formOf (a .c .place)) (a .file .now) (a .links .now) (a .table .now) in
     let f = c .before .before .before .before .fetch .ensures in
     step-is (a .file .now) (a .links .now) (a .table .now) (a .r) (a .c) _ _ (f .0) (c .before .before .n .given .1) _ _ _ (c .act-call .ensures P _ (starts _ (a .file .now) (a .links .now) (a .table .now)))
 
@@ -94,7 +94,7 @@ returns-4 : tie.Need-returns-4
 unfolding fetchedAs
 returns-4 c =
     let a = c .before .before .before .before .before .before .before .before .before .before .before .before .args in
-    let P = codeProgram (isLinear (a .c .place)) (a .file .now) (a .links .now) (a .table .now) in
+    let P = codeProgram (formOf (a .c .place)) (a .file .now) (a .links .now) (a .table .now) in
     let f = c .before .before .before .before .fetch .ensures in
     step-is (a .file .now) (a .links .now) (a .table .now) (a .r) (a .c) _ _ (f .0) (c .before .before .first .given .1) _ _ _ (stays _ _ (branch-places _ _ (f .1) _ _ (c .before .before .first .given .1) .0) (c .act-branch .ensures P _))
 
@@ -108,7 +108,7 @@ returns-5 : tie.Need-returns-5
 unfolding fetchedAs
 returns-5 c =
     let a = c .before .before .before .before .before .before .before .before .before .before .before .before .before .before .before .before .before .before .args in
-    let P = codeProgram (isLinear (a .c .place)) (a .file .now) (a .links .now) (a .table .now) in
+    let P = codeProgram (formOf (a .c .place)) (a .file .now) (a .links .now) (a .table .now) in
     let f = c .before .before .before .before .before .before .before .before .before .before .fetch .ensures in
     step-is (a .file .now) (a .links .now) (a .table .now) (a .r) (a .c) _ _ (f .0) (c .before .before .before .before .before .before .before .before .n2 .given .1) _ _ _ (stays _ _ (save-places _ _ (f .1) _ _ _ (c .before .before .before .before .before .before .before .before .n2 .given .1) .1) (c .before .before .before .before .act-save .ensures P (a .globals .now) (a .store .now)))
 
@@ -116,7 +116,7 @@ returns-6 : tie.Need-returns-6
 unfolding fetchedAs
 returns-6 c =
     let a = c .before .before .before .before .before .before .before .before .before .before .before .before .args in
-    let P = codeProgram (isLinear (a .c .place)) (a .file .now) (a .links .now) (a .table .now) in
+    let P = codeProgram (formOf (a .c .place)) (a .file .now) (a .links .now) (a .table .now) in
     let f = c .before .before .before .before .fetch .ensures in
     step-is (a .file .now) (a .links .now) (a .table .now) (a .r) (a .c) _ _ (f .0) (c .before .before .to .given .1) _ _ _ (stays _ _ (jump-place _ _ (f .1) _ (c .before .before .to .given .1)) (jump-goes P _ (a .r) (a .c) (c .before .before .before .before .before .before .before .before .before .before .before .before .pre .fit) (c .before .before .before .before .before .before .before .before .before .before .before .before .pre .frames-fit) _ _ (c .act-jump .ensures)))
 
@@ -124,7 +124,7 @@ returns-7 : tie.Need-returns-7
 unfolding fetchedAs
 returns-7 c =
     let a = c .before .before .before .before .before .before .before .before .before .before .args in
-    let P = codeProgram (isLinear (a .c .place)) (a .file .now) (a .links .now) (a .table .now) in
+    let P = codeProgram (formOf (a .c .place)) (a .file .now) (a .links .now) (a .table .now) in
     let f = c .before .before .fetch .ensures in
     step-is (a .file .now) (a .links .now) (a .table .now) (a .r) (a .c) _ _ (f .0) (c .enum-told2 .given .1) _ _ _ (bad-stops _ P _ (a .r) (a .c))
 

@@ -1,6 +1,6 @@
 -- `tree_code::fetch_instruction` meets its contract. Assumes nothing.
 use mathlib.Core.Path.{refl, sym, ap, _∙_}
-use Rattle.machines.specs.Instruction.{Places, isLinear}
+use Rattle.machines.specs.Instruction.{Places, formOf}
 use Rattle.tree_code.specs.Fetch.{shapedAs}
 use Rattle.tree_code.specs.FetchSteps.{shape-is, return-read, none-read, branch-read, no-code}
 use borrow.Author.Needs.{needs}
@@ -30,7 +30,7 @@ unfolding Places
 returns c = (λ table t. return-read _ _ table t _ _ _ _ (c .before .before .shape-of .ensures) (c .before .match .keys1) (c .if1 .taken), tt)
 
 returns-2 : tie.Need-returns-2
-unfolding Places isLinear
+unfolding Places formOf
 returns-2 c = (λ table t. none-read _ _ table t _ _ _ _ (c .before .before .shape-of .ensures) (c .before .match .keys1) (c .if1 .left), refl)
 
 returns-3 : tie.Need-returns-3
@@ -40,7 +40,7 @@ returns-4 : tie.Need-returns-4
 returns-4 c = (λ table t. c .fetch-two .ensures .0 _ table t _ ∙ ap (shapedAs _ _ table t _ _ _) (sym (c .before .match .keys3)) ∙ shape-is _ _ table t _ _ _ _ (c .before .before .shape-of .ensures), c .fetch-two .ensures .1)
 
 returns-5 : tie.Need-returns-5
-unfolding Places isLinear
+unfolding Places formOf
 returns-5 c = (λ table t. branch-read _ _ table t _ _ _ _ (c .before .before .shape-of .ensures) (c .before .match .keys4) _ (c .link-at .ensures), (refl, refl))
 
 returns-6 : tie.Need-returns-6

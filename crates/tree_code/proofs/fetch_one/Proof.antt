@@ -1,5 +1,5 @@
 -- `tree_code::fetch_one` meets its contract. Assumes nothing.
-use Rattle.machines.specs.Instruction.{Places, isLinear}
+use Rattle.machines.specs.Instruction.{Places, formOf}
 use Rattle.tree_code.specs.FetchSteps.{operand-cut, call-read, one-read}
 use Rattle.lists.specs.ReadLaws.{read-below}
 use native.Mathlib.Omega.{arith}
@@ -35,7 +35,7 @@ unfolding Places
 returns-2 c = (λ L table t p. call-read _ L table t p _ _ _ _ (sym (c .before .before .before .before .read-field .ensures) ∙ c .before .before .n .given .1) (c .if1 .taken), tt)
 
 returns-3 : tie.Need-returns-3
-unfolding Places isLinear
+unfolding Places formOf
 returns-3 c = (λ L table t p. one-read _ L table t p _ _ _ _ (sym (c .before .before .before .before .read-field .ensures) ∙ c .before .before .n .given .1) (c .if1 .left), refl)
 
 pub fetch-one-spec : {M : Type 1} → statement M

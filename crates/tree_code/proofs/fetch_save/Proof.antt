@@ -1,5 +1,5 @@
 -- `tree_code::fetch_save` meets its contract. Assumes nothing.
-use Rattle.machines.specs.Instruction.{Places, isLinear, number}
+use Rattle.machines.specs.Instruction.{Places, formOf, number}
 use Rattle.tree_code.specs.FetchSteps.{save-cut, save-read, read-fits}
 use Rattle.lists.specs.ReadLaws.{read-below}
 use native.Mathlib.Omega.{arith}
@@ -28,7 +28,7 @@ link-at-requires : tie.Need-link-at-requires
 link-at-requires c κs = search needs
 
 returns-2 : tie.Need-returns-2
-unfolding Places isLinear number
+unfolding Places formOf number
 returns-2 c = (λ table t v. save-read _ _ table t _ v _ _ _ (sym (c .before .before .before .before .read-field .ensures) ∙ c .before .before .n .given .1) _ (c .link-at .ensures), (refl, refl, read-fits _ _ _ _ (c .before .before .before .before .before .before .before .pre) (sym (c .before .before .before .before .read-field .ensures) ∙ c .before .before .n .given .1)))
 
 pub fetch-save-spec : {M : Type 1} → statement M

@@ -1,5 +1,5 @@
 -- `tree_code::fetch_two` meets its contract. Assumes nothing.
-use Rattle.machines.specs.Instruction.{Places, isLinear}
+use Rattle.machines.specs.Instruction.{Places, formOf}
 use Rattle.tree_code.specs.FetchSteps.{operand-cut, second-cut, two-read}
 use Rattle.lists.specs.ReadLaws.{read-below}
 use native.Mathlib.Omega.{arith}
@@ -44,7 +44,7 @@ cast-t12 : tie.Need-cast-t12
 cast-t12 c = omega (arith, read-below _ _ 8 _ _ (sym (c .before .before .before .read-field2 .ensures) ∙ c .before .b .given .1))
 
 returns-3 : tie.Need-returns-3
-unfolding Places isLinear
+unfolding Places formOf
 returns-3 c = (λ L table t p. two-read _ L table t p _ _ _ _ (sym (c .before .before .before .before .before .before .before .read-field .ensures) ∙ c .before .before .before .before .before .a .given .1) _ _ (sym (c .before .before .before .read-field2 .ensures) ∙ c .before .b .given .1), refl)
 
 pub fetch-two-spec : {M : Type 1} → statement M

@@ -1,6 +1,6 @@
 -- `tree_machine::run_linked` meets its contract. Assumes nothing.
 use Rattle.links.specs.TreeSteps.{ready-short}
-use Rattle.machines.specs.Instruction.{number, isLinear}
+use Rattle.machines.specs.Instruction.{number, formOf}
 use Rattle.steps.specs.Step.{codeProgram, CodeReady}
 use Rattle.tree_machine.specs.FileLaws.{linked-ran}
 use borrow.Author.Needs.{needs}
@@ -14,7 +14,7 @@ slot-at-requires : tie.Need-slot-at-requires
 slot-at-requires c κs = search needs
 
 run-code-requires : tie.Need-run-code-requires
-unfolding isLinear CodeReady
+unfolding formOf CodeReady
 run-code-requires c κs = let p = c .before .before .before .before .before .before .before .before .before .before .before .before .before .before .before .before .before .pre in (ready-short (p .1), search needs, search needs, search needs, search needs)
 
 same-length : tie.Need-same-length
@@ -33,7 +33,7 @@ same-length-5 : tie.Need-same-length-5
 same-length-5 c = search needs
 
 returns : tie.Need-returns
-unfolding isLinear number codeProgram
+unfolding formOf number codeProgram
 returns c =
     let p = c .before .before .before .before .before .before .before .before .before .before .before .before .before .before .before .before .before .before .before .before .before .before .before .before .before .before .pre in
     linked-ran _ _ _ _ _ _ _ _ _ (p .1) (p .3) (p .4) (c .before .before .before .before .before .before .before .before .before .before .before .before .before .before .before .before .before .link-tree .ensures) (c .before .before .before .before .before .before .before .before .before .before .before .before .before .before .slot-at .ensures) (c .before .before .before .before .before .before .before .before .run-code .ensures)

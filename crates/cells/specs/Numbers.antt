@@ -1,0 +1,94 @@
+-- Document 01's numbers by name, in its tables' order, each with the definition that gives it. Definitions use the names; rows and laws,
+-- which are laid beside the paper, may use the numbers.
+use Prim.Native.Nat.{ℕ}
+
+-- ---- 'File refusals', and the place returned
+-- 1 tree over 65,536 bytes, linear over 262,144; place 0: treeRead, linearRead (files, Tree and Linear)
+abbrev pub tooLong : ℕ
+tooLong = 1
+
+-- 2 a field runs past the end; its first bit: fieldGot, withField, items, codeAt (files, Entries, Reading and Linear)
+abbrev pub cutField : ℕ
+cutField = 2
+
+-- 3 a field's value or code is invalid; its first bit: valid, kindAt, shaped (files, Entries and Reading)
+abbrev pub invalidField : ℕ
+invalidField = 3
+
+-- 4 an instruction would open level 17; first bit of its code: withDeep (files, Reading)
+abbrev pub tooDeep : ℕ
+tooDeep = 4
+
+-- 5 a padding bit set, or bytes after the end; first such bit: zeroBits, nothingMore (files, Entries)
+abbrev pub notTheEnd : ℕ
+notTheEnd = 5
+
+-- 6 a list isn't open or closed as required; lowest template: treeChecked (files, Accepted), by closedTemplate
+abbrev pub notClosed : ℕ
+notClosed = 6
+
+-- 7 6 to 9 name index 0, one above E, or the wrong kind; lowest template: treeChecked (files, Accepted), by indexedTemplate
+abbrev pub wrongIndex : ℕ
+wrongIndex = 7
+
+-- 8 an offset exceeds 65,535; lowest template: flatChecked (files, Accepted), by offsetTemplate
+abbrev pub farOffset : ℕ
+farOffset = 8
+
+-- 9 output shorter than the linear file; bytes needed: intoBytes (flatten, Flatten)
+abbrev pub shortOutput : ℕ
+shortOutput = 9
+
+-- ---- 'Rules': wrong ends
+-- 10 the stack does not hold so many: makeEnvRule, checkArgsRule, callRule, keepRule, consRule, partRule, eqvRule, addRule (rules, Rules)
+abbrev pub wrongCount : ℕ
+wrongCount = 10
+
+-- 11 v is no closure: callRule (rules, Rules)
+abbrev pub noClosure : ℕ
+noClosure = 11
+
+-- 12 what is held is undefined: heldRule (rules, Rules)
+abbrev pub undefined : ℕ
+undefined = 12
+
+-- 13 beyond the layers, or beyond a layer's places: found (rules, Rules)
+abbrev pub beyondLayers : ℕ
+beyondLayers = 13
+
+-- 14 no pair, or not all integers: partRule, addRule (rules, Rules)
+abbrev pub wrongKind : ℕ
+wrongKind = 14
+
+-- 15 the exact total is not within 32 bits signed: addRule (rules, Rules)
+abbrev pub outOfRange : ℕ
+outOfRange = 15
+
+-- 16 a linear code position outside the code, an invalid byte, a cut instruction or an unfit entry: act (machines, Machine), of `bad`
+abbrev pub badCode : ℕ
+badCode = 16
+
+-- 17 stack full: pushRule (rules, Rules)
+abbrev pub stackFull : ℕ
+stackFull = 17
+
+-- 18 store or frames full: closureRule, makeEnvRule, consRule, keepRule (rules, Rules)
+abbrev pub noRoom : ℕ
+noRoom = 18
+
+-- 19 the steps reach the budget without a halt: numberOf (machines, Runs), of OutOfBudget
+abbrev pub budgetSpent : ℕ
+budgetSpent = 19
+
+-- ---- 'Cells': refused at the start
+-- 20 a wrong length; place 0: started (machines, Runs), startRefusal (Start)
+abbrev pub wrongLength : ℕ
+wrongLength = 20
+
+-- 21 budget over 1,000,000 for the tree, 2,000,000 for the linear machine; place 0: started, startRefusal
+abbrev pub largeBudget : ℕ
+largeBudget = 21
+
+-- 22 a starting global that isn't exactly one of tags 1 to 6; lowest number: fitGlobals (machines, Runs), globalsRefusal (Start)
+abbrev pub unfitGlobal : ℕ
+unfitGlobal = 22

@@ -1,2 +1,0 @@
--- The proofs of the crate lists that belong to no one function.
-pub mod Shapes
