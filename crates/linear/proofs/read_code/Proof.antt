@@ -1,25 +1,17 @@
 -- `linear::read_code` meets its contract: each answer leads to its case of `paddedCode`. Assumes nothing.
-use Prim.Native.Nat.{ℕ, _+_, _*_, _-_, _%_}
+use Prim.Native.Nat.{ℕ, _+_, _*_}
 use native.Mathlib.Omega.{arith}
 use mathlib.Core.Path.{_≡_, sym, ap, _∙_}
-use mathlib.Core.List.{List}
 use borrow.Author.Tests.{leb-false}
 use borrow.Author.Needs.{needs}
 use lib.ListN.{length}
 use Rattle.cells.specs.declared.BitPlace.{BitPlace}
 use Rattle.fields.specs.Laws.{lies}
-use Rattle.files.specs.declared.Padding.{Padding}
 use Rattle.files.specs.Reading.{refused}
-use Rattle.files.specs.Entries.{toByte, zeroBits}
-use Rattle.files.specs.EntriesRead.{paddingTold}
 use Rattle.files.specs.EntriesSteps.{field-cut, field-read, field-within}
 use Rattle.linear.specs.LinearSteps.{padding-set, length-cut, code-cut, code-read, code-stops, code-ends}
 use Rattle.linear.proofs.read_code.Statement.{statement}
 use Rattle.linear.proofs.read_code.Tie as tie
-
--- the padding is what is left to the next byte
-padded : (s : List ℕ) (p : ℕ) {z : Padding} {k : ℕ} → z ≡ paddingTold (zeroBits s k p (tt {0})) → k ≡ (8 - p % 8) % 8 → z ≡ paddingTold (zeroBits s (toByte p) p (tt {0}))
-padded s p e f = e ∙ ap (λ (n : ℕ). paddingTold (zeroBits s n p (tt {0}))) f
 
 to-byte-requires : tie.Need-to-byte-requires
 to-byte-requires c κs = search needs
@@ -40,7 +32,7 @@ enum-told : tie.Need-enum-told
 enum-told c = search needs
 
 returns : tie.Need-returns
-returns c = code-stops _ _ _ (length-cut _ _ (padded (c .before .before .before .before .before .before .before .before .before .before .args .s .now) (c .before .before .before .before .before .before .before .before .before .before .args .at .0) (c .before .before .before .before .before .before .zero-bits .ensures) (c .before .before .before .before .before .before .before .to-byte .ensures)) (c .before .before .before .before .size .given .1) (field-cut _ _ _ (c .before .before .read-three .ensures) (c .enum-told .given .1)))
+returns c = code-stops _ _ _ (length-cut _ _ (rw (c .before .before .before .before .before .before .before .to-byte .ensures) at (c .before .before .before .before .before .before .zero-bits .ensures)) (c .before .before .before .before .size .given .1) (field-cut _ _ _ (c .before .before .read-three .ensures) (c .enum-told .given .1)))
 
 cast-bits : tie.Need-cast-bits
 cast-bits c = search needs
@@ -86,7 +78,7 @@ returns-2 c =
     let g = c .before .before .before .before .before .n .given .0 in
     let h = lies (c .before .before .before .before .before .before .before .before .before .before .before .before .before .before .before .args .s .now) (g .1 .0 .0) (8 * g .0) (c .before .before .before .within .ensures) (c .before .before .if1 .taken) in
     let q : _≡_ {A = BitPlace} (c .past .result) (record { 0 = g .1 .0 .0 + 8 * g .0 }) = ap (λ (x : ℕ). record { 0 = x }) (c .past .ensures) in
-    rw (q, c .before .byte .ensures) (code-ends _ _ _ _ _ _ h (code-read _ _ (padded (c .before .before .before .before .before .before .before .before .before .before .before .before .before .before .before .args .s .now) (c .before .before .before .before .before .before .before .before .before .before .before .before .before .before .before .args .at .0) (c .before .before .before .before .before .before .before .before .before .before .before .zero-bits .ensures) (c .before .before .before .before .before .before .before .before .before .before .before .before .to-byte .ensures)) (c .before .before .before .before .before .before .before .before .before .size .given .1) (field-read _ _ _ (c .before .before .before .before .before .before .before .read-three .ensures) (c .before .before .before .before .before .n .given .1)) h))
+    rw (q, c .before .byte .ensures) (code-ends _ _ _ _ _ _ h (code-read _ _ (rw (c .before .before .before .before .before .before .before .before .before .before .before .before .to-byte .ensures) at (c .before .before .before .before .before .before .before .before .before .before .before .zero-bits .ensures)) (c .before .before .before .before .before .before .before .before .before .size .given .1) (field-read _ _ _ (c .before .before .before .before .before .before .before .read-three .ensures) (c .before .before .before .before .before .n .given .1)) h))
 
 end-of-requires : tie.Need-end-of-requires
 end-of-requires c κs = search needs
@@ -99,11 +91,11 @@ returns-3 c =
     let g = c .before .before .before .before .n .given .0 in
     let s = c .before .before .before .before .before .before .before .before .before .before .before .before .before .before .args .s .now in
     let h = leb-false (g .1 .0 .0 + 8 * g .0) (8 * length s) (sym (c .before .before .within .ensures) ∙ c .before .if1 .left) in
-    let cut = code-cut _ _ (padded (c .before .before .before .before .before .before .before .before .before .before .before .before .before .before .args .s .now) (c .before .before .before .before .before .before .before .before .before .before .before .before .before .before .args .at .0) (c .before .before .before .before .before .before .before .before .before .before .zero-bits .ensures) (c .before .before .before .before .before .before .before .before .before .before .before .to-byte .ensures)) (c .before .before .before .before .before .before .before .before .size .given .1) (field-read _ _ _ (c .before .before .before .before .before .before .read-three .ensures) (c .before .before .before .before .n .given .1)) h in
+    let cut = code-cut _ _ (rw (c .before .before .before .before .before .before .before .before .before .before .before .to-byte .ensures) at (c .before .before .before .before .before .before .before .before .before .before .zero-bits .ensures)) (c .before .before .before .before .before .before .before .before .size .given .1) (field-read _ _ _ (c .before .before .before .before .before .before .read-three .ensures) (c .before .before .before .before .n .given .1)) h in
     code-stops _ _ _ (λ es. cut es ∙ ap (refused 2) (sym (c .end-of .ensures)))
 
 returns-4 : tie.Need-returns-4
-returns-4 c = code-stops _ _ _ (padding-set _ _ (padded (c .before .before .before .before .before .before .before .args .s .now) (c .before .before .before .before .before .before .before .args .at .0) (c .before .before .before .zero-bits .ensures) (c .before .before .before .before .to-byte .ensures)) (c .before .place .given .1))
+returns-4 c = code-stops _ _ _ (padding-set _ _ (rw (c .before .before .before .before .to-byte .ensures) at (c .before .before .before .zero-bits .ensures)) (c .before .place .given .1))
 
 pub read-code-spec : {M : Type 1} → statement M
 read-code-spec =

@@ -1,18 +1,10 @@
 -- `tree::read_end` meets its contract. Assumes nothing.
-use Prim.Native.Nat.{ℕ, _-_, _%_}
-use mathlib.Core.Path.{_≡_, sym, ap, _∙_}
-use mathlib.Core.List.{List}
-use Rattle.files.specs.declared.Padding.{Padding}
-use Rattle.files.specs.Entries.{toByte, zeroBits}
+use mathlib.Core.Path.{sym, ap, _∙_}
 use Rattle.files.specs.EntriesRead.{paddingTold}
 use Rattle.tree.specs.TreeSteps.{end-on, end-set}
 use borrow.Author.Needs.{needs}
 use Rattle.tree.proofs.read_end.Statement.{statement}
 use Rattle.tree.proofs.read_end.Tie as tie
-
--- the padding is what is left to the next byte
-padded : (s : List ℕ) (p : ℕ) {z : Padding} {k : ℕ} → z ≡ paddingTold (zeroBits s k p (tt {0})) → k ≡ (8 - p % 8) % 8 → z ≡ paddingTold (zeroBits s (toByte p) p (tt {0}))
-padded s p e f = e ∙ ap (λ (n : ℕ). paddingTold (zeroBits s n p (tt {0}))) f
 
 to-byte-requires : tie.Need-to-byte-requires
 to-byte-requires c κs = search needs
@@ -30,11 +22,11 @@ enum-known-place : tie.Need-enum-known-place
 enum-known-place c = search needs
 
 returns : tie.Need-returns
-returns c = c .nothing-more .ensures ∙ ap (paddingTold {A = Unit {0}}) (sym (end-on (tt {0}) _ _ (sym (padded (c .before .before .before .before .before .before .before .args .s .now) (c .before .before .before .before .before .before .before .args .at .0) (c .before .before .before .before .zero-bits .ensures) (c .before .before .before .before .before .to-byte .ensures)) ∙ c .before .before .past .given .1)))
+returns c = c .nothing-more .ensures ∙ ap (paddingTold {A = Unit {0}}) (sym (end-on (tt {0}) _ _ (sym (rw (c .before .before .before .before .before .to-byte .ensures) at (c .before .before .before .before .zero-bits .ensures)) ∙ c .before .before .past .given .1)))
 
 returns-2 : tie.Need-returns-2
 unfolding paddingTold
-returns-2 c = sym (ap (paddingTold {A = Unit {0}}) (end-set (tt {0}) _ _ (sym (padded (c .before .before .before .before .before .before .args .s .now) (c .before .before .before .before .before .before .args .at .0) (c .before .before .before .zero-bits .ensures) (c .before .before .before .before .to-byte .ensures)) ∙ c .before .place .given .1)))
+returns-2 c = sym (ap (paddingTold {A = Unit {0}}) (end-set (tt {0}) _ _ (sym (rw (c .before .before .before .before .to-byte .ensures) at (c .before .before .before .zero-bits .ensures)) ∙ c .before .place .given .1)))
 
 pub read-end-spec : {M : Type 1} → statement M
 read-end-spec =
