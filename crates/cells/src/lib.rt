@@ -1,6 +1,7 @@
 // Cells and code places (document 01, 'Cells'): each cell is made here and taken apart here.
 ghost use mathlib.Core.Path.{_≡_};
-ghost use Prim.Native.Nat.{_%_};
+ghost use Prim.Native.Nat.{_+_, _*_, _-_, _/_, _%_, _≤_, _<_};
+ghost use lib.Dec.{eqb, ltb, leb};
 ghost use Rattle.cells.specs.Cells.{tagOf, intCell, intOf, closureCell, closureOf, closureTemplate, closureEnv};
 ghost use Rattle.cells.specs.Cells.{pairCell, pairFirst, pairSecond, layerCell, layerParent, layerCount};
 ghost use Rattle.cells.specs.Cells.{frameCell, frameCount, frameTemplate, frameEnv, framePlace, startingGlobal, valueOf};
@@ -10,6 +11,177 @@ pub struct BitPlace(pub usize);
 
 // A code place in a linear file: a byte number within its template's code.
 pub struct BytePlace(pub usize);
+
+// Outside this crate no place is taken apart: what is to be known of one is asked here. Files are at most 262,144 bytes.
+impl BitPlace {
+    // n bits on.
+    pub fn past(self, n: usize) -> BitPlace
+        requires { ⌜ self .0 + n < 0x100000000 ⌝ }
+        ensures { λ r. ⌜ r .0 ≡ self .0 + n ⌝ }
+    {
+        BitPlace(self.0 + n)
+    }
+
+    // n bits back.
+    pub fn back(self, n: usize) -> BitPlace
+        requires { ⌜ n ≤ self .0 ⌝ }
+        ensures { λ r. ⌜ r .0 ≡ self .0 - n ⌝ }
+    {
+        BitPlace(self.0 - n)
+    }
+
+    // Whether it lies before another.
+    pub fn before(self, other: BitPlace) -> bool
+        ensures { λ r. ⌜ r ≡ ltb (self .0) (other .0) ⌝ }
+    {
+        self.0 < other.0
+    }
+
+    // How many bits lie between an earlier place and this one.
+    pub fn since(self, from: BitPlace) -> usize
+        requires { ⌜ from .0 ≤ self .0 ⌝ }
+        ensures { λ r. ⌜ r ≡ self .0 - from .0 ⌝ }
+    {
+        self.0 - from.0
+    }
+
+    // The byte of the file that it lies in.
+    pub fn byte(self) -> usize
+        ensures { λ r. ⌜ r ≡ self .0 / 8 ⌝ }
+    {
+        self.0 / 8
+    }
+
+    // Which bit of its byte it is, the most significant first.
+    pub fn bit(self) -> usize
+        ensures { λ r. ⌜ r ≡ self .0 % 8 ⌝ }
+    {
+        self.0 % 8
+    }
+
+    // How many bits it is from there to the next byte.
+    pub fn to_byte(self) -> usize
+        ensures { λ r. ⌜ r ≡ (8 - self .0 % 8) % 8 ⌝ }
+    {
+        (8 - self.0 % 8) % 8
+    }
+
+    // Whether the n bits there lie within a file of so many bytes.
+    pub fn within(self, n: usize, bytes: usize) -> bool
+        requires { ⌜ bytes ≤ 262144 ⌝ }
+        ensures { λ r. ⌜ r ≡ leb (self .0 + n) (8 * bytes) ⌝ }
+    {
+        let p = self.0;
+        let end = 8 * bytes;
+        if end < p {
+            return false;
+        }
+        if end - p < n {
+            return false;
+        }
+        true
+    }
+
+    // Whether a file of so many bytes ends there.
+    pub fn ends(self, bytes: usize) -> bool
+        requires { ⌜ bytes ≤ 262144 ⌝ }
+        ensures { λ r. ⌜ r ≡ eqb (self .0) (8 * bytes) ⌝ }
+    {
+        self.0 == 8 * bytes
+    }
+
+    // Where a file of so many bytes ends.
+    pub fn end_of(bytes: usize) -> BitPlace
+        requires { ⌜ bytes ≤ 262144 ⌝ }
+        ensures { λ r. ⌜ r .0 ≡ 8 * bytes ⌝ }
+    {
+        BitPlace(8 * bytes)
+    }
+
+    // Whether it is the file's first bit, where no code stands.
+    pub fn is_first(self) -> bool
+        ensures { λ r. ⌜ r ≡ eqb (self .0) 0 ⌝ }
+    {
+        self.0 == 0
+    }
+
+    // The number of it that a refusal tells.
+    pub fn number(self) -> usize
+        ensures { λ r. ⌜ r ≡ self .0 ⌝ }
+    {
+        self.0
+    }
+
+    // What a slot of a run's table holds of it, and back.
+    pub fn to_slot(self) -> u64
+        ensures { λ r. ⌜ r ≡ self .0 ⌝ }
+    {
+        self.0 as u64
+    }
+
+    pub fn from_slot(slot: u64) -> BitPlace
+        ensures { λ r. ⌜ r .0 ≡ slot ⌝ }
+    {
+        BitPlace(slot as usize)
+    }
+
+    // Its index in the links: two codes are at least 5 bits apart.
+    pub fn link_index(self) -> usize
+        ensures { λ r. ⌜ r ≡ self .0 / 5 ⌝ }
+    {
+        self.0 / 5
+    }
+
+    // What a link holds of it, and back.
+    pub fn to_link(self) -> u32
+        requires { ⌜ self .0 < 0x100000000 ⌝ }
+        ensures { λ r. ⌜ r ≡ self .0 ⌝ }
+    {
+        self.0 as u32
+    }
+
+    pub fn from_link(link: u32) -> BitPlace
+        ensures { λ r. ⌜ r .0 ≡ link ⌝ }
+    {
+        BitPlace(link as usize)
+    }
+}
+
+impl BytePlace {
+    // n bytes on.
+    pub fn past(self, n: usize) -> BytePlace
+        requires { ⌜ self .0 + n < 0x100000000 ⌝ }
+        ensures { λ r. ⌜ r .0 ≡ self .0 + n ⌝ }
+    {
+        BytePlace(self.0 + n)
+    }
+
+    // How many of the `len` bytes of a code are left there, none past its end.
+    pub fn left(self, len: usize) -> usize
+        ensures { λ r. ⌜ r ≡ len - self .0 ⌝ }
+    {
+        let p = self.0;
+        if len < p {
+            return 0;
+        }
+        len - p
+    }
+
+    // Its index in a file where the code begins at `start`.
+    pub fn index(self, start: usize) -> usize
+        requires { ⌜ start + self .0 < 0x100000000 ⌝ }
+        ensures { λ r. ⌜ r ≡ start + self .0 ⌝ }
+    {
+        start + self.0
+    }
+
+    // Whether it is the code's first byte.
+    pub fn is_first(self) -> bool
+        ensures { λ r. ⌜ r ≡ eqb (self .0) 0 ⌝ }
+    {
+        self.0 == 0
+    }
+}
 
 // What a closure cell holds.
 pub struct Closure {
@@ -136,7 +308,7 @@ pub fn layer_count(c: u64) -> u8
     (c / 0x10_0000_0000 % 0x100) as u8
 }
 
-// ---- 10: a frame. Its code place is a bit place or a byte place, and only the functions from here to `linear_place` unwrap either.
+// ---- 10: a frame. Its code place is a bit place or a byte place: what a frame is made of says which.
 
 // The place's lowest 24 bits are kept.
 fn frame_cell(n: u8, t: u8, e: u16, p: usize) -> u64

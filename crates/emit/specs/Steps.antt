@@ -2,7 +2,7 @@
 use Prim.Native.Nat.{ℕ, _+_, _*_, _-_, _≤_, _<_}
 use native.Mathlib.Numerals.{add-three}
 use native.Mathlib.Omega.{arith}
-use mathlib.Core.Path.{_≡_, refl, sym, ap, _∙_}
+use mathlib.Core.Path.{_≡_, refl, sym, ap, _∙_, subst}
 use mathlib.Core.Bool.{false}
 use mathlib.Core.List.{List, [], _∷_}
 use lib.ListN.{length, set}
@@ -143,8 +143,10 @@ module _ {s : List ℕ} {l p f b : ℕ} (w : ItemToWrite s l p f b) where
           room = omega (arith, item-room, ap length arms-front);
         }
 
-    pub arms-item : {r : Wrote} (o : List ℕ) {o′ : List ℕ} → ArmsDone item-arms r o o′ → ItemDone w r o o′
-    arms-item o h =
+    -- by what was done for the arms at q
+    pub arms-item : {q : ℕ} {r : Wrote} (o : List ℕ) {o′ : List ℕ} → q ≡ p + 5 → ((v : ArmsToWrite s (l - 1) q f b) → ArmsDone v r o o′) → ItemDone w r o o′
+    arms-item {q} {r} o {o′} is did =
+        let h : ArmsDone item-arms r o o′ = subst (λ (x : ℕ). (v : ArmsToWrite s (l - 1) x f b) → ArmsDone v r o o′) is did item-arms in
         let e : restBack w ≡ b = omega (arith, item-room, ap length arms-back) in
         rw (e, arms-back, arms-front) h
 
@@ -173,8 +175,11 @@ module _ {s : List ℕ} {l p f b : ℕ} (w : ItemToWrite s l p f b) where
         let fit = fits-saved (fieldAt s (p + 5) 8) (this .saved) (w .rest) (rw (this .is) at (w .fits)) in
         record { saved = this .saved; past = w .past; rest = length (flat (w .rest)); read = this .read-saved; fits-saved = fit .1; fits = fit .0; room = omega (arith, item-room, four-bytes, ap length saved-back) }
 
-    pub saved-item : {n : ℕ} {r : Wrote} (o : List ℕ) {o′ : List ℕ} → n ≡ fieldAt s (p + 5) 8 → SavedDone n item-saved r o o′ → ItemDone w r o o′
-    saved-item o e h = rw (saved-back, four-bytes, saved-front, ← e) h
+    -- by what was done for the saved list at q
+    pub saved-item : {n q : ℕ} {r : Wrote} (o : List ℕ) {o′ : List ℕ} → n ≡ fieldAt s (p + 5) 8 → q ≡ p + 13 → ((v : SavedToWrite s (l - 1) q f b) → SavedDone n v r o o′) → ItemDone w r o o′
+    saved-item {n} {q} {r} o {o′} e is did =
+        let h : SavedDone n item-saved r o o′ = subst (λ (x : ℕ). (v : SavedToWrite s (l - 1) x f b) → SavedDone n v r o o′) is did item-saved in
+        rw (saved-back, four-bytes, saved-front, ← e) h
 
   -- an instruction without lists
   module _ (not-four : shapeHere s l p ≡ 4 → ⊥) (not-five : shapeHere s l p ≡ 5 → ⊥) where
@@ -193,12 +198,13 @@ module _ {s : List ℕ} {l p f b : ℕ} (w : ItemToWrite s l p f b) where
     pub plain-room : f + 1 + (shapeHere s l p - 1) ≤ b
     plain-room = omega (arith, item-room, plain-length)
 
-    pub plain-item : {k : ℕ} (o : List ℕ) {o′ : List ℕ} → k ≡ shapeHere s l p - 1 → o′ ≡ sets o f (fieldAt s p 5 ∷ operandsAt s (p + 5) k) → ItemDone w (record { next = record { 0 = p + 5 + 8 * k }; front = f + 1 + k; back = b }) o o′
-    plain-item {k} o e h =
+    pub plain-item : {k : ℕ} {q : BitPlace} (o : List ℕ) {o′ : List ℕ} → k ≡ shapeHere s l p - 1 → q .0 ≡ p + (5 + 8 * k) → o′ ≡ sets o f (fieldAt s p 5 ∷ operandsAt s (p + 5) k)
+        → ItemDone w (record { next = q; front = f + 1 + k; back = b }) o o′
+    plain-item {k} {q} o e g h =
         let e₁ : restBack w ≡ b = omega (arith, item-room, ap length (plain-bytes .1)) in
-        let e₂ : p + 5 + 8 * k ≡ w .past = omega (arith, plain .4) in
+        let e₂ : q .0 ≡ w .past = omega (arith, plain .4) in
         let e₃ : f + 1 + k ≡ restFront w = omega (arith, plain-length) in
-        (wrote-eq (record { 0 = p + 5 + 8 * k }) e₂ e₃ (sym e₁), rw (plain-bytes .1, plain-bytes .0, ← e) h)
+        (wrote-eq q e₂ e₃ (sym e₁), rw (plain-bytes .1, plain-bytes .0, ← e) h)
 
 -- ---- a list, from p₀ on into o₀, of which what is left stands at p and goes into o
 to-write-same : {s : List ℕ} {l p f b : ℕ} (w v : ToWrite s l p f b) → (w .past ≡ v .past) × (w .code ≡ v .code)

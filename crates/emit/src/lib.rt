@@ -76,18 +76,18 @@ fn put_jump(out: &mut [u8], at: usize, closed: bool, size: usize)
     put_offset(out, at, 5, size);
 }
 
-// The code at p and n operands.
-fn write_simple(s: &[u8], p: usize, n: usize, out: &mut [u8], front: usize)
-    requires { ⌜ (length (now s) ≤ 65536) × (p + 5 + 8 * n ≤ 8 * length (now s)) × (front + 1 + n ≤ length (now out)) ⌝ }
-    ensures { λ _. ⌜ now (out .exit) ≡ sets (now (out .entry)) front (fieldAt (now (s .entry)) p 5 ∷ operandsAt (now (s .entry)) (p + 5) n) ⌝ }
+// The code at a place and n operands.
+fn write_simple(s: &[u8], at: BitPlace, n: usize, out: &mut [u8], front: usize)
+    requires { ⌜ (length (now s) ≤ 65536) × (at .0 + 5 + 8 * n ≤ 8 * length (now s)) × (front + 1 + n ≤ length (now out)) ⌝ }
+    ensures { λ _. ⌜ now (out .exit) ≡ sets (now (out .entry)) front (fieldAt (now (s .entry)) (at .0) 5 ∷ operandsAt (now (s .entry)) (at .0 + 5) n) ⌝ }
 {
-    out[front] = fields::bits_at(s, p, 5) as u8;
-    let mut at = p + 5;
+    out[front] = fields::bits_at(s, at, 5) as u8;
+    let mut here = at.past(5);
     let mut f = front + 1;
     let end = f + n;
     while f < end {
-        out[f] = fields::bits_at(s, at, 8) as u8;
-        at += 8;
+        out[f] = fields::bits_at(s, here, 8) as u8;
+        here = here.past(8);
         f += 1;
     }
 }
@@ -165,29 +165,18 @@ fn write_instr(
     requires { ⌜ (length (now s) ≤ 65536) × (length (now table) ≡ 16384) × (own < 64) × (back ≤ length (now out)) × ItemToWrite (now s) levels (at .0) front back ⌝ }
     ensures { λ r. ⌜ ((w : ItemToWrite (now (s .entry)) levels (at .0) front back) → ItemDone w r (now (out .entry)) (now (out .exit))) ⌝ }
 {
-    let p = at.0;
-    let shape = lists::shape_of(fields::bits_at(s, p, 5));
+    let shape = lists::shape_of(fields::bits_at(s, at, 5));
     match shape {
-        4 => write_conditional(s, table, own, BitPlace(p + 5), levels - 1, out, front, back),
+        4 => write_conditional(s, table, own, at.past(5), levels - 1, out, front, back),
         5 => {
-            let n = fields::bits_at(s, p + 5, 8);
-            write_make_cont(
-                s,
-                table,
-                own,
-                BitPlace(p + 13),
-                levels - 1,
-                out,
-                n,
-                front,
-                back,
-            )
+            let n = fields::bits_at(s, at.past(5), 8);
+            write_make_cont(s, table, own, at.past(13), levels - 1, out, n, front, back)
         }
         _ => {
             let n = (shape - 1) as usize;
-            write_simple(s, p, n, out, front);
+            write_simple(s, at, n, out, front);
             Wrote {
-                next: BitPlace(p + 5 + 8 * n),
+                next: at.past(5 + 8 * n),
                 front: front + 1 + n,
                 back,
             }
@@ -214,9 +203,8 @@ pub fn write_list(
     let mut f = front;
     let mut b = back;
     loop {
-        let p = here.0;
-        if lists::shape_of(fields::bits_at(s, p, 5)) == 0 {
-            return BitPlace(p + 5);
+        if lists::shape_of(fields::bits_at(s, here, 5)) == 0 {
+            return here.past(5);
         }
         let one = write_instr(s, table, own, here, levels, out, f, b);
         let next = one.next;

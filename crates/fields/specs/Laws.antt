@@ -27,6 +27,19 @@ module _ (s : List ℕ) (p w : ℕ) where
   unfolding fieldRead pickField
   whole h = rw (le-leb (p + w) (8 * length s) h) refl
 
+  -- by the answer b to whether it lies within the file
+  module _ {b : Bool} (asked : b ≡ leb (p + w) (8 * length s)) where
+    pub lies : b ≡ true → p + w ≤ 8 * length s
+    lies e = leb-true (p + w) (8 * length s) (sym asked ∙ e)
+
+    pub cut-by : b ≡ false → Cut ≡ fieldRead s p w
+    unfolding fieldRead pickField
+    cut-by e = rw (sym asked ∙ e) refl
+
+    pub whole-by : b ≡ true → {v : ℕ} {q : BitPlace} → v ≡ fieldAt s p w → q .0 ≡ p + w → Read v q ≡ fieldRead s p w
+    unfolding fieldRead pickField
+    whole-by e {v} {q} f g = rw (sym asked ∙ e, f) (ap (λ (x : ℕ). Read (fieldAt s p w) (record { 0 = x })) g)
+
   -- what holds of both holds of what is read
   pub read-cases : (P : Field → Type 0) → P Cut → (p + w ≤ 8 * length s → P (Read (fieldAt s p w) (record { 0 = p + w }))) → P (fieldRead s p w)
   unfolding fieldRead pickField

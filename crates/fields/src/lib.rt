@@ -31,21 +31,20 @@ fn two_at(s: &[u8], i: usize) -> u32
 }
 
 // The number that `width` bits are, at most 8: they lie in two bytes.
-pub fn bits_at(s: &[u8], p: usize, width: usize) -> u32
-    requires { ⌜ (length (now s) ≤ 262144) × ((width ≤ 8) × (p + width ≤ 8 * length (now s))) ⌝ }
-    ensures { λ r. ⌜ (r ≡ fieldAt (now (s .entry)) p width) × (r < 256) ⌝ }
+pub fn bits_at(s: &[u8], at: BitPlace, width: usize) -> u32
+    requires { ⌜ (length (now s) ≤ 262144) × ((width ≤ 8) × (at .0 + width ≤ 8 * length (now s))) ⌝ }
+    ensures { λ r. ⌜ (r ≡ fieldAt (now (s .entry)) (at .0) width) × (r < 256) ⌝ }
 {
-    let i = p / 8;
-    let two = two_at(s, i);
-    (two >> (16 - p % 8 - width)) % (1u32 << width)
+    let two = two_at(s, at.byte());
+    (two >> (16 - at.bit() - width)) % (1u32 << width)
 }
 
 // The number that 16 bits are.
-fn half_word_at(s: &[u8], p: usize) -> u32
-    requires { ⌜ (length (now s) ≤ 262144) × (p + 16 ≤ 8 * length (now s)) ⌝ }
-    ensures { λ r. ⌜ (r ≡ fieldAt (now (s .entry)) p 16) × (r < 65536) ⌝ }
+fn half_word_at(s: &[u8], at: BitPlace) -> u32
+    requires { ⌜ (length (now s) ≤ 262144) × (at .0 + 16 ≤ 8 * length (now s)) ⌝ }
+    ensures { λ r. ⌜ (r ≡ fieldAt (now (s .entry)) (at .0) 16) × (r < 65536) ⌝ }
 {
-    bits_at(s, p, 8) * 256 + bits_at(s, p + 8, 8)
+    bits_at(s, at, 8) * 256 + bits_at(s, at.past(8), 8)
 }
 
 // The field of `width` bits, at most 8, at a place.
@@ -53,15 +52,10 @@ pub fn read_field(s: &[u8], at: BitPlace, width: usize) -> Field
     requires { ⌜ (length (now s) ≤ 262144) × (width ≤ 8) ⌝ }
     ensures { λ r. ⌜ r ≡ fieldRead (now (s .entry)) (at .0) width ⌝ }
 {
-    let p = at.0;
-    let end = 8 * s.len();
-    if end < p {
-        return Field::Cut;
+    if at.within(width, s.len()) {
+        return Field::Read(bits_at(s, at, width), at.past(width));
     }
-    if end - p < width {
-        return Field::Cut;
-    }
-    Field::Read(bits_at(s, p, width), BitPlace(p + width))
+    Field::Cut
 }
 
 // The field of 32 bits at a place.
@@ -69,16 +63,11 @@ pub fn read_word(s: &[u8], at: BitPlace) -> Field
     requires { ⌜ length (now s) ≤ 262144 ⌝ }
     ensures { λ r. ⌜ r ≡ fieldRead (now (s .entry)) (at .0) 32 ⌝ }
 {
-    let p = at.0;
-    let end = 8 * s.len();
-    if end < p {
-        return Field::Cut;
+    if at.within(32, s.len()) {
+        let word = half_word_at(s, at) * 65536 + half_word_at(s, at.past(16));
+        return Field::Read(word, at.past(32));
     }
-    if end - p < 32 {
-        return Field::Cut;
-    }
-    let word = half_word_at(s, p) * 65536 + half_word_at(s, p + 16);
-    Field::Read(word, BitPlace(p + 32))
+    Field::Cut
 }
 
 // The field of 24 bits at a place.
@@ -86,14 +75,9 @@ pub fn read_three(s: &[u8], at: BitPlace) -> Field
     requires { ⌜ length (now s) ≤ 262144 ⌝ }
     ensures { λ r. ⌜ r ≡ fieldRead (now (s .entry)) (at .0) 24 ⌝ }
 {
-    let p = at.0;
-    let end = 8 * s.len();
-    if end < p {
-        return Field::Cut;
+    if at.within(24, s.len()) {
+        let three = bits_at(s, at, 8) * 65536 + half_word_at(s, at.past(8));
+        return Field::Read(three, at.past(24));
     }
-    if end - p < 24 {
-        return Field::Cut;
-    }
-    let three = bits_at(s, p, 8) * 65536 + half_word_at(s, p + 8);
-    Field::Read(three, BitPlace(p + 24))
+    Field::Cut
 }

@@ -127,15 +127,16 @@ pub fn zero_bits(s: &[u8], at: BitPlace, n: usize) -> Padding
     requires { ⌜ (length (now s) ≤ 262144) × (at .0 + n ≤ 8 * length (now s)) ⌝ }
     ensures { λ r. ⌜ r ≡ paddingTold (zeroBits (now (s .entry)) n (at .0) (tt {0})) ⌝ }
 {
-    let mut p = at.0;
-    let end = p + n;
-    while p < end {
-        if fields::bits_at(s, p, 1) != 0 {
-            return Padding::Refused(BitPlace(p));
+    let mut here = at;
+    let mut left = n;
+    while 0 < left {
+        if fields::bits_at(s, here, 1) != 0 {
+            return Padding::Refused(here);
         }
-        p += 1;
+        here = here.past(1);
+        left -= 1;
     }
-    Padding::Zero(BitPlace(p))
+    Padding::Zero(here)
 }
 
 // A place that must be the file's end.
@@ -143,7 +144,7 @@ pub fn nothing_more(s: &[u8], at: BitPlace) -> Padding
     requires { ⌜ length (now s) ≤ 262144 ⌝ }
     ensures { λ r. ⌜ r ≡ paddingTold (nothingMore (now (s .entry)) (at .0) (tt {0})) ⌝ }
 {
-    if at.0 == 8 * s.len() {
+    if at.ends(s.len()) {
         return Padding::Zero(at);
     }
     Padding::Refused(at)

@@ -29,9 +29,9 @@ fn first_byte(s: &[u8], p: usize, end: usize) -> u8
 {
     let n = end - p;
     if n < 8 {
-        return (fields::bits_at(s, p, n) << (8 - n)) as u8;
+        return (fields::bits_at(s, BitPlace(p), n) << (8 - n)) as u8;
     }
-    fields::bits_at(s, p, 8) as u8
+    fields::bits_at(s, BitPlace(p), 8) as u8
 }
 
 // The bits from p to `end` as bytes, with zero bits to the last byte.
@@ -75,7 +75,7 @@ fn write_template(
     let start = table[slot] as usize;
     let code = emit::measure(s, table, own, BitPlace(start), 15);
     let size = code.size;
-    out[front] = fields::bits_at(s, p, 8) as u8;
+    out[front] = fields::bits_at(s, BitPlace(p), 8) as u8;
     write_bits(s, p + 8, start, out, front + 1);
     let f = front + 1 + (start - (p + 8) + 7) / 8;
     put_length(out, f, size);

@@ -35,21 +35,17 @@ fn read_code(s: &[u8], table: &mut [u64], own: usize, at: BitPlace) -> Part
     ensures { λ r. ⌜ ((es : List Entry) → r ≡ partTold (paddedCode (now (s .entry)) es (at .0))) ⌝ }
     ensures { λ _. ⌜ ((es : List Entry) → now (table .exit) ≡ codeFilled own (paddedCode (now (s .entry)) es (at .0)) (now (table .entry))) ⌝ }
 {
-    let p = at.0;
-    match files::zero_bits(s, at, (8 - p % 8) % 8) {
+    match files::zero_bits(s, at, at.to_byte()) {
         Padding::Zero(size) => {
             let Field::Read(n, code) = fields::read_three(s, size) else {
                 return Part::Refused(2, size);
             };
-            let first = code.0;
             let bits = 8 * (n as usize);
-            let end = 8 * s.len();
-            if end - first < bits {
-                return Part::Refused(2, BitPlace(end));
+            if code.within(bits, s.len()) {
+                table[256 * own] = code.byte() as u64 + 0x1_0000_0000 * (n as u64);
+                return Part::Read(code.past(bits));
             }
-            table[256 * own] = (first / 8) as u64 + 0x1_0000_0000 * (n as u64);
-            let past = first + bits;
-            Part::Read(BitPlace(past))
+            Part::Refused(2, BitPlace::end_of(s.len()))
         }
         Padding::Refused(place) => Part::Refused(5, place),
     }
@@ -126,6 +122,6 @@ pub fn check_linear(s: &[u8]) -> Checked
     let mut table = [0u64; 16384];
     match read_linear(s, &mut table) {
         LinearFile::Read(_) => Checked::Accepted,
-        LinearFile::Refused(no, place) => Checked::Refused(no, place.0),
+        LinearFile::Refused(no, place) => Checked::Refused(no, place.number()),
     }
 }

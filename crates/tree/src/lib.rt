@@ -115,10 +115,10 @@ fn read_template(
     };
     match files::read_entries(s, table, own, count, n as usize, first) {
         Entries::Read(start) => {
-            table[256 * own] = start.0 as u64;
+            table[256 * own] = start.to_slot();
             match lists::read_list(s, table, own, start, 15) {
                 Listed::Done(past, facts) => {
-                    TemplateRead::Done(past, report_by(facts, start.0 - first.0))
+                    TemplateRead::Done(past, report_by(facts, start.since(first)))
                 }
                 Listed::Refused(no, place) => TemplateRead::Refused(no, place),
             }
@@ -162,7 +162,7 @@ fn read_end(s: &[u8], at: BitPlace) -> Padding
     requires { ⌜ (length (now s) ≤ 65536) × (at .0 ≤ 8 * length (now s)) ⌝ }
     ensures { λ r. ⌜ r ≡ paddingTold (paddedEnd (now (s .entry)) (tt {0}) (at .0)) ⌝ }
 {
-    match files::zero_bits(s, at, (8 - at.0 % 8) % 8) {
+    match files::zero_bits(s, at, at.to_byte()) {
         Padding::Zero(past) => files::nothing_more(s, past),
         Padding::Refused(place) => Padding::Refused(place),
     }
@@ -210,6 +210,6 @@ pub fn check_tree(s: &[u8]) -> Checked
             }
             Checked::Accepted
         }
-        TreeFile::Refused(no, place) => Checked::Refused(no, place.0),
+        TreeFile::Refused(no, place) => Checked::Refused(no, place.number()),
     }
 }

@@ -29,6 +29,7 @@ use Rattle.emit.proofs.+write_conditional+write_instr+write_list+write_
 use Rattle.emit.proofs.write_make_cont.Reads as write-make-cont
 use Rattle.emit.proofs.write_make_cont.Kinds as write-make-cont-kinds
 use Rattle.emit.proofs.+write_conditional+write_instr+write_list+write_make_cont.Lts-write_make_cont as write-make-cont-lts
+use Rattle.cells.proofs.BitPlace.past.Reads as past-reads
 use Rattle.emit.proofs.gap.Reads as gap-reads
 use Rattle.emit.proofs.measure.Reads as measure-reads
 use Rattle.emit.proofs.put_jump.Reads as put-jump-reads
@@ -103,10 +104,10 @@ abbrev write-conditional-calls : ℕ → write-conditional-lts.Claims
 write-conditional-calls t = (measure-reads.Asked, measure-reads.Learnt, gap-reads.Asked, gap-reads.Learnt, put-offset-reads.Asked, put-offset-reads.Learnt, write-list-below t, write-list.Post, put-jump-reads.Asked, put-jump-reads.Learnt)
 
 abbrev write-instr-calls : ℕ → write-instr-lts.Claims
-write-instr-calls t = (bits-at-reads.Asked, bits-at-reads.Learnt, shape-of-reads.Asked, shape-of-reads.Learnt, write-conditional-below t, write-conditional.Post, write-make-cont-below t, write-make-cont.Post, write-simple-reads.Asked, write-simple-reads.Learnt)
+write-instr-calls t = (bits-at-reads.Asked, bits-at-reads.Learnt, shape-of-reads.Asked, shape-of-reads.Learnt, past-reads.Asked, past-reads.Learnt, write-conditional-below t, write-conditional.Post, write-make-cont-below t, write-make-cont.Post, write-simple-reads.Asked, write-simple-reads.Learnt)
 
 abbrev write-list-calls : ℕ → write-list-lts.Claims
-write-list-calls t = (bits-at-reads.Asked, bits-at-reads.Learnt, shape-of-reads.Asked, shape-of-reads.Learnt, write-instr-below t, write-instr.Post)
+write-list-calls t = (bits-at-reads.Asked, bits-at-reads.Learnt, shape-of-reads.Asked, shape-of-reads.Learnt, past-reads.Asked, past-reads.Learnt, write-instr-below t, write-instr.Post)
 
 abbrev write-make-cont-calls : ℕ → write-make-cont-lts.Claims
 write-make-cont-calls t = (measure-reads.Asked, measure-reads.Learnt, put-offset-reads.Asked, put-offset-reads.Learnt, write-list-below t, write-list.Post)
@@ -177,29 +178,29 @@ write-instr-bits-at-requires t c κs = (omega (arith, c .before .before .before 
 write-instr-shape-of-requires : (t : ℕ) → write-instr-lts.Need-shape-of-requires (write-instr-calls t) (write-instr-at t) write-instr.Post
 write-instr-shape-of-requires t c κs = rw (c .bits-at .ensures .0) (field-small _ _ 5)
 
-write-instr-add-t15 : (t : ℕ) → write-instr-lts.Need-add-t15 (write-instr-calls t) (write-instr-at t) write-instr.Post
-write-instr-add-t15 t c = omega (arith, c .before .before .before .before .before .before .pre .1 .0, head-within _ _ _ (c .before .before .before .before .before .before .pre .1 .4 .read))
+write-instr-past-requires : (t : ℕ) → write-instr-lts.Need-past-requires (write-instr-calls t) (write-instr-at t) write-instr.Post
+write-instr-past-requires t c κs = omega (arith, c .before .before .before .before .before .before .pre .1 .0, head-within _ _ _ (c .before .before .before .before .before .before .pre .1 .4 .read))
 
 write-instr-sub-write-conditional : (t : ℕ) → write-instr-lts.Need-sub-write-conditional (write-instr-calls t) (write-instr-at t) write-instr.Post
-write-instr-sub-write-conditional t c = let k = deeper-arms (c .before .before .before .before .before .before .pre .1 .4) (ap shapeOf (sym (c .before .before .bits-at .ensures .0)) ∙ sym (c .before .shape-of .ensures) ∙ c .match .keys1) in omega arith
+write-instr-sub-write-conditional t c = let k = deeper-arms (c .before .before .before .before .before .before .before .pre .1 .4) (ap shapeOf (sym (c .before .before .before .bits-at .ensures .0)) ∙ sym (c .before .before .shape-of .ensures) ∙ c .before .match .keys1) in omega arith
 
 write-instr-write-conditional-requires : (t : ℕ) → write-instr-lts.Need-write-conditional-requires (write-instr-calls t) (write-instr-at t) write-instr.Post
-write-instr-write-conditional-requires t c κs = let k = deeper-arms (c .before .before .before .before .before .before .before .pre .1 .4) (ap shapeOf (sym (c .before .before .before .bits-at .ensures .0)) ∙ sym (c .before .before .shape-of .ensures) ∙ c .before .match .keys1) in (omega (arith, c .before .before .before .before .before .before .before .pre .0), (c .before .before .before .before .before .before .before .pre .1 .0, c .before .before .before .before .before .before .before .pre .1 .1, c .before .before .before .before .before .before .before .pre .1 .2, c .before .before .before .before .before .before .before .pre .1 .3, item-arms (c .before .before .before .before .before .before .before .pre .1 .4) (ap shapeOf (sym (c .before .before .before .bits-at .ensures .0)) ∙ sym (c .before .before .shape-of .ensures) ∙ c .before .match .keys1)))
+write-instr-write-conditional-requires t c κs = let k = deeper-arms (c .before .before .before .before .before .before .before .before .pre .1 .4) (ap shapeOf (sym (c .before .before .before .before .bits-at .ensures .0)) ∙ sym (c .before .before .before .shape-of .ensures) ∙ c .before .before .match .keys1) in (omega (arith, c .before .before .before .before .before .before .before .before .pre .0), (c .before .before .before .before .before .before .before .before .pre .1 .0, c .before .before .before .before .before .before .before .before .pre .1 .1, c .before .before .before .before .before .before .before .before .pre .1 .2, c .before .before .before .before .before .before .before .before .pre .1 .3, rw (c .before .past .ensures) (item-arms (c .before .before .before .before .before .before .before .before .pre .1 .4) (ap shapeOf (sym (c .before .before .before .before .bits-at .ensures .0)) ∙ sym (c .before .before .before .shape-of .ensures) ∙ c .before .before .match .keys1))))
 
-write-instr-add-bits-at : (t : ℕ) → write-instr-lts.Need-add-bits-at (write-instr-calls t) (write-instr-at t) write-instr.Post
-write-instr-add-bits-at t c = omega (arith, c .before .before .before .before .before .before .pre .1 .0, head-within _ _ _ (c .before .before .before .before .before .before .pre .1 .4 .read))
+write-instr-past-requires-2 : (t : ℕ) → write-instr-lts.Need-past-requires-2 (write-instr-calls t) (write-instr-at t) write-instr.Post
+write-instr-past-requires-2 t c κs = omega (arith, c .before .before .before .before .before .before .pre .1 .0, head-within _ _ _ (c .before .before .before .before .before .before .pre .1 .4 .read))
 
 write-instr-bits-at-requires-2 : (t : ℕ) → write-instr-lts.Need-bits-at-requires-2 (write-instr-calls t) (write-instr-at t) write-instr.Post
-write-instr-bits-at-requires-2 t c κs = let k = deeper-saved (c .before .before .before .before .before .before .pre .1 .4) (ap shapeOf (sym (c .before .before .bits-at .ensures .0)) ∙ sym (c .before .shape-of .ensures) ∙ c .match .keys2) in (omega (arith, c .before .before .before .before .before .before .pre .1 .0), (search needs, omega arith))
+write-instr-bits-at-requires-2 t c κs = let k = deeper-saved (c .before .before .before .before .before .before .before .pre .1 .4) (ap shapeOf (sym (c .before .before .before .bits-at .ensures .0)) ∙ sym (c .before .before .shape-of .ensures) ∙ c .before .match .keys2) in (omega (arith, c .before .before .before .before .before .before .before .pre .1 .0), (search needs, omega (arith, c .past2 .ensures)))
 
-write-instr-add-t20 : (t : ℕ) → write-instr-lts.Need-add-t20 (write-instr-calls t) (write-instr-at t) write-instr.Post
-write-instr-add-t20 t c = let k = deeper-saved (c .before .before .before .before .before .before .before .pre .1 .4) (ap shapeOf (sym (c .before .before .before .bits-at .ensures .0)) ∙ sym (c .before .before .shape-of .ensures) ∙ c .before .match .keys2) in omega (arith, c .before .before .before .before .before .before .before .pre .1 .0)
+write-instr-past-requires-3 : (t : ℕ) → write-instr-lts.Need-past-requires-3 (write-instr-calls t) (write-instr-at t) write-instr.Post
+write-instr-past-requires-3 t c κs = let k = deeper-saved (c .before .before .before .before .before .before .before .before .pre .1 .4) (ap shapeOf (sym (c .before .before .before .before .bits-at .ensures .0)) ∙ sym (c .before .before .before .shape-of .ensures) ∙ c .before .before .match .keys2) in omega (arith, c .before .before .before .before .before .before .before .before .pre .1 .0)
 
 write-instr-sub-write-make-cont : (t : ℕ) → write-instr-lts.Need-sub-write-make-cont (write-instr-calls t) (write-instr-at t) write-instr.Post
-write-instr-sub-write-make-cont t c = let k = deeper-saved (c .before .before .before .before .before .before .before .pre .1 .4) (ap shapeOf (sym (c .before .before .before .bits-at .ensures .0)) ∙ sym (c .before .before .shape-of .ensures) ∙ c .before .match .keys2) .0 in omega arith
+write-instr-sub-write-make-cont t c = let k = deeper-saved (c .before .before .before .before .before .before .before .before .before .pre .1 .4) (ap shapeOf (sym (c .before .before .before .before .before .bits-at .ensures .0)) ∙ sym (c .before .before .before .before .shape-of .ensures) ∙ c .before .before .before .match .keys2) .0 in omega arith
 
 write-instr-write-make-cont-requires : (t : ℕ) → write-instr-lts.Need-write-make-cont-requires (write-instr-calls t) (write-instr-at t) write-instr.Post
-write-instr-write-make-cont-requires t c κs = let k = deeper-saved (c .before .before .before .before .before .before .before .before .pre .1 .4) (ap shapeOf (sym (c .before .before .before .before .bits-at .ensures .0)) ∙ sym (c .before .before .before .shape-of .ensures) ∙ c .before .before .match .keys2) .0 in (omega (arith, c .before .before .before .before .before .before .before .before .pre .0), (c .before .before .before .before .before .before .before .before .pre .1 .0, c .before .before .before .before .before .before .before .before .pre .1 .1, c .before .before .before .before .before .before .before .before .pre .1 .2, c .before .bits-at2 .ensures .1, c .before .before .before .before .before .before .before .before .pre .1 .3, item-saved (c .before .before .before .before .before .before .before .before .pre .1 .4) (ap shapeOf (sym (c .before .before .before .before .bits-at .ensures .0)) ∙ sym (c .before .before .before .shape-of .ensures) ∙ c .before .before .match .keys2)))
+write-instr-write-make-cont-requires t c κs = let k = deeper-saved (c .before .before .before .before .before .before .before .before .before .before .pre .1 .4) (ap shapeOf (sym (c .before .before .before .before .before .before .bits-at .ensures .0)) ∙ sym (c .before .before .before .before .before .shape-of .ensures) ∙ c .before .before .before .before .match .keys2) .0 in (omega (arith, c .before .before .before .before .before .before .before .before .before .before .pre .0), (c .before .before .before .before .before .before .before .before .before .before .pre .1 .0, c .before .before .before .before .before .before .before .before .before .before .pre .1 .1, c .before .before .before .before .before .before .before .before .before .before .pre .1 .2, c .before .before .bits-at2 .ensures .1, c .before .before .before .before .before .before .before .before .before .before .pre .1 .3, rw (c .before .past3 .ensures) (item-saved (c .before .before .before .before .before .before .before .before .before .before .pre .1 .4) (ap shapeOf (sym (c .before .before .before .before .before .before .bits-at .ensures .0)) ∙ sym (c .before .before .before .before .before .shape-of .ensures) ∙ c .before .before .before .before .match .keys2))))
 
 write-instr-sub-n : (t : ℕ) → write-instr-lts.Need-sub-n (write-instr-calls t) (write-instr-at t) write-instr.Post
 write-instr-sub-n t c = let k = plain (c .before .before .before .before .before .before .pre .1 .4) (λ e. c .match .rest .0 .1 (c .before .shape-of .ensures ∙ ap shapeOf (c .before .before .bits-at .ensures .0) ∙ e)) (λ e. c .match .rest .1 (c .before .shape-of .ensures ∙ ap shapeOf (c .before .before .bits-at .ensures .0) ∙ e)) in let e = c .before .shape-of .ensures ∙ ap shapeOf (c .before .before .bits-at .ensures .0) in omega arith
@@ -210,38 +211,38 @@ write-instr-cast-n t c = search needs
 write-instr-write-simple-requires : (t : ℕ) → write-instr-lts.Need-write-simple-requires (write-instr-calls t) (write-instr-at t) write-instr.Post
 write-instr-write-simple-requires t c κs = let k = plain (c .before .before .before .before .before .before .before .pre .1 .4) (λ e. c .before .match .rest .0 .1 (c .before .before .shape-of .ensures ∙ ap shapeOf (c .before .before .before .bits-at .ensures .0) ∙ e)) (λ e. c .before .match .rest .1 (c .before .before .shape-of .ensures ∙ ap shapeOf (c .before .before .before .bits-at .ensures .0) ∙ e)) in let e = c .before .before .shape-of .ensures ∙ ap shapeOf (c .before .before .before .bits-at .ensures .0) in let r = plain-room (c .before .before .before .before .before .before .before .pre .1 .4) (λ e. c .before .match .rest .0 .1 (c .before .before .shape-of .ensures ∙ ap shapeOf (c .before .before .before .bits-at .ensures .0) ∙ e)) (λ e. c .before .match .rest .1 (c .before .before .shape-of .ensures ∙ ap shapeOf (c .before .before .before .bits-at .ensures .0) ∙ e)) in (c .before .before .before .before .before .before .before .pre .1 .0, omega (arith), omega (arith, c .before .before .before .before .before .before .before .pre .1 .3))
 
+write-instr-mul-past : (t : ℕ) → write-instr-lts.Need-mul-past (write-instr-calls t) (write-instr-at t) write-instr.Post
+write-instr-mul-past t c = let k = plain (c .before .before .before .before .before .before .before .before .before .before .pre .1 .4) (λ e. c .before .before .before .before .match .rest .0 .1 (c .before .before .before .before .before .shape-of .ensures ∙ ap shapeOf (c .before .before .before .before .before .before .bits-at .ensures .0) ∙ e)) (λ e. c .before .before .before .before .match .rest .1 (c .before .before .before .before .before .shape-of .ensures ∙ ap shapeOf (c .before .before .before .before .before .before .bits-at .ensures .0) ∙ e)) in let e = c .before .before .before .before .before .shape-of .ensures ∙ ap shapeOf (c .before .before .before .before .before .before .bits-at .ensures .0) in let r = plain-room (c .before .before .before .before .before .before .before .before .before .before .pre .1 .4) (λ e. c .before .before .before .before .match .rest .0 .1 (c .before .before .before .before .before .shape-of .ensures ∙ ap shapeOf (c .before .before .before .before .before .before .bits-at .ensures .0) ∙ e)) (λ e. c .before .before .before .before .match .rest .1 (c .before .before .before .before .before .shape-of .ensures ∙ ap shapeOf (c .before .before .before .before .before .before .bits-at .ensures .0) ∙ e)) in omega (arith, c .before .before .before .before .before .before .before .before .before .before .pre .1, c .before .before .before .before .before .before .before .before .before .before .good)
+
+write-instr-add-past : (t : ℕ) → write-instr-lts.Need-add-past (write-instr-calls t) (write-instr-at t) write-instr.Post
+write-instr-add-past t c = let k = plain (c .before .before .before .before .before .before .before .before .before .before .pre .1 .4) (λ e. c .before .before .before .before .match .rest .0 .1 (c .before .before .before .before .before .shape-of .ensures ∙ ap shapeOf (c .before .before .before .before .before .before .bits-at .ensures .0) ∙ e)) (λ e. c .before .before .before .before .match .rest .1 (c .before .before .before .before .before .shape-of .ensures ∙ ap shapeOf (c .before .before .before .before .before .before .bits-at .ensures .0) ∙ e)) in let e = c .before .before .before .before .before .shape-of .ensures ∙ ap shapeOf (c .before .before .before .before .before .before .bits-at .ensures .0) in let r = plain-room (c .before .before .before .before .before .before .before .before .before .before .pre .1 .4) (λ e. c .before .before .before .before .match .rest .0 .1 (c .before .before .before .before .before .shape-of .ensures ∙ ap shapeOf (c .before .before .before .before .before .before .bits-at .ensures .0) ∙ e)) (λ e. c .before .before .before .before .match .rest .1 (c .before .before .before .before .before .shape-of .ensures ∙ ap shapeOf (c .before .before .before .before .before .before .bits-at .ensures .0) ∙ e)) in omega (arith, c .before .before .before .before .before .before .before .before .before .before .pre .1, c .before .before .before .before .before .before .before .before .before .before .good)
+
+write-instr-past-requires-4 : (t : ℕ) → write-instr-lts.Need-past-requires-4 (write-instr-calls t) (write-instr-at t) write-instr.Post
+write-instr-past-requires-4 t c κs = let k = plain (c .before .before .before .before .before .before .before .before .before .before .pre .1 .4) (λ e. c .before .before .before .before .match .rest .0 .1 (c .before .before .before .before .before .shape-of .ensures ∙ ap shapeOf (c .before .before .before .before .before .before .bits-at .ensures .0) ∙ e)) (λ e. c .before .before .before .before .match .rest .1 (c .before .before .before .before .before .shape-of .ensures ∙ ap shapeOf (c .before .before .before .before .before .before .bits-at .ensures .0) ∙ e)) in let e = c .before .before .before .before .before .shape-of .ensures ∙ ap shapeOf (c .before .before .before .before .before .before .bits-at .ensures .0) in let r = plain-room (c .before .before .before .before .before .before .before .before .before .before .pre .1 .4) (λ e. c .before .before .before .before .match .rest .0 .1 (c .before .before .before .before .before .shape-of .ensures ∙ ap shapeOf (c .before .before .before .before .before .before .bits-at .ensures .0) ∙ e)) (λ e. c .before .before .before .before .match .rest .1 (c .before .before .before .before .before .shape-of .ensures ∙ ap shapeOf (c .before .before .before .before .before .before .bits-at .ensures .0) ∙ e)) in omega (arith, c .before .before .before .before .before .before .before .before .before .before .pre .1, c .before .before .before .before .before .before .before .before .before .before .good)
+
 write-instr-add-t29 : (t : ℕ) → write-instr-lts.Need-add-t29 (write-instr-calls t) (write-instr-at t) write-instr.Post
-write-instr-add-t29 t c = let k = plain (c .before .before .before .before .before .before .before .before .before .before .pre .1 .4) (λ e. c .before .before .before .before .match .rest .0 .1 (c .before .before .before .before .before .shape-of .ensures ∙ ap shapeOf (c .before .before .before .before .before .before .bits-at .ensures .0) ∙ e)) (λ e. c .before .before .before .before .match .rest .1 (c .before .before .before .before .before .shape-of .ensures ∙ ap shapeOf (c .before .before .before .before .before .before .bits-at .ensures .0) ∙ e)) in let e = c .before .before .before .before .before .shape-of .ensures ∙ ap shapeOf (c .before .before .before .before .before .before .bits-at .ensures .0) in let r = plain-room (c .before .before .before .before .before .before .before .before .before .before .pre .1 .4) (λ e. c .before .before .before .before .match .rest .0 .1 (c .before .before .before .before .before .shape-of .ensures ∙ ap shapeOf (c .before .before .before .before .before .before .bits-at .ensures .0) ∙ e)) (λ e. c .before .before .before .before .match .rest .1 (c .before .before .before .before .before .shape-of .ensures ∙ ap shapeOf (c .before .before .before .before .before .before .bits-at .ensures .0) ∙ e)) in omega (arith, c .before .before .before .before .before .before .before .before .before .before .pre .1, c .before .before .before .before .before .before .before .before .before .before .good)
+write-instr-add-t29 t c = let k = plain (c .before .before .before .before .before .before .before .before .before .before .before .pre .1 .4) (λ e. c .before .before .before .before .before .match .rest .0 .1 (c .before .before .before .before .before .before .shape-of .ensures ∙ ap shapeOf (c .before .before .before .before .before .before .before .bits-at .ensures .0) ∙ e)) (λ e. c .before .before .before .before .before .match .rest .1 (c .before .before .before .before .before .before .shape-of .ensures ∙ ap shapeOf (c .before .before .before .before .before .before .before .bits-at .ensures .0) ∙ e)) in let e = c .before .before .before .before .before .before .shape-of .ensures ∙ ap shapeOf (c .before .before .before .before .before .before .before .bits-at .ensures .0) in let r = plain-room (c .before .before .before .before .before .before .before .before .before .before .before .pre .1 .4) (λ e. c .before .before .before .before .before .match .rest .0 .1 (c .before .before .before .before .before .before .shape-of .ensures ∙ ap shapeOf (c .before .before .before .before .before .before .before .bits-at .ensures .0) ∙ e)) (λ e. c .before .before .before .before .before .match .rest .1 (c .before .before .before .before .before .before .shape-of .ensures ∙ ap shapeOf (c .before .before .before .before .before .before .before .bits-at .ensures .0) ∙ e)) in omega (arith, c .before .before .before .before .before .before .before .before .before .before .before .pre .1, c .before .before .before .before .before .before .before .before .before .before .before .good)
 
-write-instr-mul-t30 : (t : ℕ) → write-instr-lts.Need-mul-t30 (write-instr-calls t) (write-instr-at t) write-instr.Post
-write-instr-mul-t30 t c = let k = plain (c .before .before .before .before .before .before .before .before .before .before .pre .1 .4) (λ e. c .before .before .before .before .match .rest .0 .1 (c .before .before .before .before .before .shape-of .ensures ∙ ap shapeOf (c .before .before .before .before .before .before .bits-at .ensures .0) ∙ e)) (λ e. c .before .before .before .before .match .rest .1 (c .before .before .before .before .before .shape-of .ensures ∙ ap shapeOf (c .before .before .before .before .before .before .bits-at .ensures .0) ∙ e)) in let e = c .before .before .before .before .before .shape-of .ensures ∙ ap shapeOf (c .before .before .before .before .before .before .bits-at .ensures .0) in let r = plain-room (c .before .before .before .before .before .before .before .before .before .before .pre .1 .4) (λ e. c .before .before .before .before .match .rest .0 .1 (c .before .before .before .before .before .shape-of .ensures ∙ ap shapeOf (c .before .before .before .before .before .before .bits-at .ensures .0) ∙ e)) (λ e. c .before .before .before .before .match .rest .1 (c .before .before .before .before .before .shape-of .ensures ∙ ap shapeOf (c .before .before .before .before .before .before .bits-at .ensures .0) ∙ e)) in omega (arith, c .before .before .before .before .before .before .before .before .before .before .pre .1, c .before .before .before .before .before .before .before .before .before .before .good)
-
-write-instr-add-t31 : (t : ℕ) → write-instr-lts.Need-add-t31 (write-instr-calls t) (write-instr-at t) write-instr.Post
-write-instr-add-t31 t c = let k = plain (c .before .before .before .before .before .before .before .before .before .before .pre .1 .4) (λ e. c .before .before .before .before .match .rest .0 .1 (c .before .before .before .before .before .shape-of .ensures ∙ ap shapeOf (c .before .before .before .before .before .before .bits-at .ensures .0) ∙ e)) (λ e. c .before .before .before .before .match .rest .1 (c .before .before .before .before .before .shape-of .ensures ∙ ap shapeOf (c .before .before .before .before .before .before .bits-at .ensures .0) ∙ e)) in let e = c .before .before .before .before .before .shape-of .ensures ∙ ap shapeOf (c .before .before .before .before .before .before .bits-at .ensures .0) in let r = plain-room (c .before .before .before .before .before .before .before .before .before .before .pre .1 .4) (λ e. c .before .before .before .before .match .rest .0 .1 (c .before .before .before .before .before .shape-of .ensures ∙ ap shapeOf (c .before .before .before .before .before .before .bits-at .ensures .0) ∙ e)) (λ e. c .before .before .before .before .match .rest .1 (c .before .before .before .before .before .shape-of .ensures ∙ ap shapeOf (c .before .before .before .before .before .before .bits-at .ensures .0) ∙ e)) in omega (arith, c .before .before .before .before .before .before .before .before .before .before .pre .1, c .before .before .before .before .before .before .before .before .before .before .good)
-
-write-instr-add-t33 : (t : ℕ) → write-instr-lts.Need-add-t33 (write-instr-calls t) (write-instr-at t) write-instr.Post
-write-instr-add-t33 t c = let k = plain (c .before .before .before .before .before .before .before .before .before .before .pre .1 .4) (λ e. c .before .before .before .before .match .rest .0 .1 (c .before .before .before .before .before .shape-of .ensures ∙ ap shapeOf (c .before .before .before .before .before .before .bits-at .ensures .0) ∙ e)) (λ e. c .before .before .before .before .match .rest .1 (c .before .before .before .before .before .shape-of .ensures ∙ ap shapeOf (c .before .before .before .before .before .before .bits-at .ensures .0) ∙ e)) in let e = c .before .before .before .before .before .shape-of .ensures ∙ ap shapeOf (c .before .before .before .before .before .before .bits-at .ensures .0) in let r = plain-room (c .before .before .before .before .before .before .before .before .before .before .pre .1 .4) (λ e. c .before .before .before .before .match .rest .0 .1 (c .before .before .before .before .before .shape-of .ensures ∙ ap shapeOf (c .before .before .before .before .before .before .bits-at .ensures .0) ∙ e)) (λ e. c .before .before .before .before .match .rest .1 (c .before .before .before .before .before .shape-of .ensures ∙ ap shapeOf (c .before .before .before .before .before .before .bits-at .ensures .0) ∙ e)) in omega (arith, c .before .before .before .before .before .before .before .before .before .before .pre .1, c .before .before .before .before .before .before .before .before .before .before .good)
-
-write-instr-add-t34 : (t : ℕ) → write-instr-lts.Need-add-t34 (write-instr-calls t) (write-instr-at t) write-instr.Post
-write-instr-add-t34 t c = let k = plain (c .before .before .before .before .before .before .before .before .before .before .pre .1 .4) (λ e. c .before .before .before .before .match .rest .0 .1 (c .before .before .before .before .before .shape-of .ensures ∙ ap shapeOf (c .before .before .before .before .before .before .bits-at .ensures .0) ∙ e)) (λ e. c .before .before .before .before .match .rest .1 (c .before .before .before .before .before .shape-of .ensures ∙ ap shapeOf (c .before .before .before .before .before .before .bits-at .ensures .0) ∙ e)) in let e = c .before .before .before .before .before .shape-of .ensures ∙ ap shapeOf (c .before .before .before .before .before .before .bits-at .ensures .0) in let r = plain-room (c .before .before .before .before .before .before .before .before .before .before .pre .1 .4) (λ e. c .before .before .before .before .match .rest .0 .1 (c .before .before .before .before .before .shape-of .ensures ∙ ap shapeOf (c .before .before .before .before .before .before .bits-at .ensures .0) ∙ e)) (λ e. c .before .before .before .before .match .rest .1 (c .before .before .before .before .before .shape-of .ensures ∙ ap shapeOf (c .before .before .before .before .before .before .bits-at .ensures .0) ∙ e)) in omega (arith, c .before .before .before .before .before .before .before .before .before .before .pre .1, c .before .before .before .before .before .before .before .before .before .before .good)
+write-instr-add-t30 : (t : ℕ) → write-instr-lts.Need-add-t30 (write-instr-calls t) (write-instr-at t) write-instr.Post
+write-instr-add-t30 t c = let k = plain (c .before .before .before .before .before .before .before .before .before .before .before .pre .1 .4) (λ e. c .before .before .before .before .before .match .rest .0 .1 (c .before .before .before .before .before .before .shape-of .ensures ∙ ap shapeOf (c .before .before .before .before .before .before .before .bits-at .ensures .0) ∙ e)) (λ e. c .before .before .before .before .before .match .rest .1 (c .before .before .before .before .before .before .shape-of .ensures ∙ ap shapeOf (c .before .before .before .before .before .before .before .bits-at .ensures .0) ∙ e)) in let e = c .before .before .before .before .before .before .shape-of .ensures ∙ ap shapeOf (c .before .before .before .before .before .before .before .bits-at .ensures .0) in let r = plain-room (c .before .before .before .before .before .before .before .before .before .before .before .pre .1 .4) (λ e. c .before .before .before .before .before .match .rest .0 .1 (c .before .before .before .before .before .before .shape-of .ensures ∙ ap shapeOf (c .before .before .before .before .before .before .before .bits-at .ensures .0) ∙ e)) (λ e. c .before .before .before .before .before .match .rest .1 (c .before .before .before .before .before .before .shape-of .ensures ∙ ap shapeOf (c .before .before .before .before .before .before .before .bits-at .ensures .0) ∙ e)) in omega (arith, c .before .before .before .before .before .before .before .before .before .before .before .pre .1, c .before .before .before .before .before .before .before .before .before .before .before .good)
 
 write-instr-same-length : (t : ℕ) → write-instr-lts.Need-same-length (write-instr-calls t) (write-instr-at t) write-instr.Post
 write-instr-same-length t c = c .before .before .write-conditional .kept .1 .1 .1 .1 .1 .0
 
 write-instr-returns : (t : ℕ) → write-instr-lts.Need-returns (write-instr-calls t) (write-instr-at t) write-instr.Post
-write-instr-returns t c = λ w. arms-item w (ap shapeOf (sym (c .before .before .before .before .before .before .bits-at .ensures .0)) ∙ sym (c .before .before .before .before .before .shape-of .ensures) ∙ c .before .before .before .before .match .keys1) _ (c .before .before .write-conditional .ensures (item-arms w (ap shapeOf (sym (c .before .before .before .before .before .before .bits-at .ensures .0)) ∙ sym (c .before .before .before .before .before .shape-of .ensures) ∙ c .before .before .before .before .match .keys1)))
+write-instr-returns t c = λ w. arms-item w (ap shapeOf (sym (c .before .before .before .before .before .before .before .bits-at .ensures .0)) ∙ sym (c .before .before .before .before .before .before .shape-of .ensures) ∙ c .before .before .before .before .before .match .keys1) _ (c .before .before .before .before .past .ensures) (c .before .before .write-conditional .ensures)
 
 write-instr-same-length-2 : (t : ℕ) → write-instr-lts.Need-same-length-2 (write-instr-calls t) (write-instr-at t) write-instr.Post
 write-instr-same-length-2 t c = c .before .before .write-make-cont .kept .1 .1 .1 .1 .1 .0
 
 write-instr-returns-2 : (t : ℕ) → write-instr-lts.Need-returns-2 (write-instr-calls t) (write-instr-at t) write-instr.Post
-write-instr-returns-2 t c = λ w. saved-item w (ap shapeOf (sym (c .before .before .before .before .before .before .before .bits-at .ensures .0)) ∙ sym (c .before .before .before .before .before .before .shape-of .ensures) ∙ c .before .before .before .before .before .match .keys2) _ (c .before .before .before .before .bits-at2 .ensures .0) (c .before .before .write-make-cont .ensures (item-saved w (ap shapeOf (sym (c .before .before .before .before .before .before .before .bits-at .ensures .0)) ∙ sym (c .before .before .before .before .before .before .shape-of .ensures) ∙ c .before .before .before .before .before .match .keys2)))
+write-instr-returns-2 t c = λ w. saved-item w (ap shapeOf (sym (c .before .before .before .before .before .before .before .before .before .bits-at .ensures .0)) ∙ sym (c .before .before .before .before .before .before .before .before .shape-of .ensures) ∙ c .before .before .before .before .before .before .before .match .keys2) _ (rw (c .before .before .before .before .before .before .past2 .ensures) at (c .before .before .before .before .before .bits-at2 .ensures .0)) (c .before .before .before .before .past3 .ensures) (c .before .before .write-make-cont .ensures)
 
 write-instr-same-length-3 : (t : ℕ) → write-instr-lts.Need-same-length-3 (write-instr-calls t) (write-instr-at t) write-instr.Post
-write-instr-same-length-3 t c = c .before .before .write-simple .kept .1 .1 .1 .0
+write-instr-same-length-3 t c = c .before .before .before .write-simple .kept .1 .1 .1 .0
 
 write-instr-returns-3 : (t : ℕ) → write-instr-lts.Need-returns-3 (write-instr-calls t) (write-instr-at t) write-instr.Post
-write-instr-returns-3 t c = λ w. plain-item w (λ e. c .before .before .before .before .match .rest .0 .1 (c .before .before .before .before .before .shape-of .ensures ∙ ap shapeOf (c .before .before .before .before .before .before .bits-at .ensures .0) ∙ e)) (λ e. c .before .before .before .before .match .rest .1 (c .before .before .before .before .before .shape-of .ensures ∙ ap shapeOf (c .before .before .before .before .before .before .bits-at .ensures .0) ∙ e)) _ (ap (λ (n : ℕ). n - 1) (c .before .before .before .before .before .shape-of .ensures ∙ ap shapeOf (c .before .before .before .before .before .before .bits-at .ensures .0))) (c .before .before .write-simple .ensures)
+write-instr-returns-3 t c = λ w. plain-item w (λ e. c .before .before .before .before .before .match .rest .0 .1 (c .before .before .before .before .before .before .shape-of .ensures ∙ ap shapeOf (c .before .before .before .before .before .before .before .bits-at .ensures .0) ∙ e)) (λ e. c .before .before .before .before .before .match .rest .1 (c .before .before .before .before .before .before .shape-of .ensures ∙ ap shapeOf (c .before .before .before .before .before .before .before .bits-at .ensures .0) ∙ e)) _ (ap (λ (n : ℕ). n - 1) (c .before .before .before .before .before .before .shape-of .ensures ∙ ap shapeOf (c .before .before .before .before .before .before .before .bits-at .ensures .0))) (c .past4 .ensures) (c .before .before .before .write-simple .ensures)
 
 abbrev write-list-Inv-loop : write-list-lts.InvT-loop
 write-list-Inv-loop s table own levels out₀ front back here₀ f₀ b₀ out here f b = (b ≤ length out) × (length out ≡ length out₀) × Left s levels (here₀ .0) front back (here .0) f b out₀ out
@@ -258,14 +259,14 @@ write-list-bits-at-requires t c κs = (omega (arith, c .before .before .before .
 write-list-shape-of-requires : (t : ℕ) → write-list-lts.Need-shape-of-requires (write-list-calls t) (write-list-at t) write-list.Post write-list-Inv-loop write-list-μ-loop
 write-list-shape-of-requires t c κs = rw (c .bits-at .ensures .0) (field-small _ _ 5)
 
-write-list-add-t18 : (t : ℕ) → write-list-lts.Need-add-t18 (write-list-calls t) (write-list-at t) write-list.Post write-list-Inv-loop write-list-μ-loop
-write-list-add-t18 t c = omega (arith, c .before .before .before .before .before .before .before .pre .1 .0, left-within _ _ _ _ _ _ _ _ _ _ (c .before .before .before .loop .inv .2))
+write-list-past-requires : (t : ℕ) → write-list-lts.Need-past-requires (write-list-calls t) (write-list-at t) write-list.Post write-list-Inv-loop write-list-μ-loop
+write-list-past-requires t c κs = omega (arith, c .before .before .before .before .before .before .before .pre .1 .0, left-within _ _ _ _ _ _ _ _ _ _ (c .before .before .before .loop .inv .2))
 
 write-list-same-length : (t : ℕ) → write-list-lts.Need-same-length (write-list-calls t) (write-list-at t) write-list.Post write-list-Inv-loop write-list-μ-loop
-write-list-same-length t c = c .before .before .before .loop .inv .1
+write-list-same-length t c = c .before .before .before .before .loop .inv .1
 
 write-list-returns : (t : ℕ) → write-list-lts.Need-returns (write-list-calls t) (write-list-at t) write-list.Post write-list-Inv-loop write-list-μ-loop
-write-list-returns t c = left-none _ _ _ _ _ _ _ _ _ _ (c .before .before .before .loop .inv .2) (ap shapeOf (sym (c .before .before .bits-at .ensures .0)) ∙ sym (c .before .shape-of .ensures) ∙ c .if1 .taken)
+write-list-returns t c = λ w. let l = left-none _ _ _ _ _ _ _ _ _ _ (c .before .before .before .before .loop .inv .2) (ap shapeOf (sym (c .before .before .before .bits-at .ensures .0)) ∙ sym (c .before .before .shape-of .ensures) ∙ c .before .if1 .taken) w in (c .past .ensures ∙ l .0, l .1)
 
 write-list-write-instr-requires : (t : ℕ) → write-list-lts.Need-write-instr-requires (write-list-calls t) (write-list-at t) write-list.Post write-list-Inv-loop write-list-μ-loop
 write-list-write-instr-requires t c κs = (omega (arith, c .before .before .before .before .before .before .before .before .pre .0), (c .before .before .before .before .before .before .before .before .pre .1 .0, c .before .before .before .before .before .before .before .before .pre .1 .1, c .before .before .before .before .before .before .before .before .pre .1 .2, c .before .before .before .before .loop .inv .0, left-item _ _ _ _ _ _ _ _ _ _ (c .before .before .before .before .loop .inv .2) (λ e. c .before .if1 .left (c .before .before .shape-of .ensures ∙ ap shapeOf (c .before .before .before .bits-at .ensures .0) ∙ e))))
@@ -340,22 +341,22 @@ pub +write-conditional+write-instr+write-list+write-make-cont-spec : {M : Type 1
     write-instr.Post
     (write-instr-bits-at-requires t)
     (write-instr-shape-of-requires t)
-    (write-instr-add-t15 t)
+    (write-instr-past-requires t)
     (write-instr-sub-write-conditional t)
     (write-instr-write-conditional-requires t)
-    (write-instr-add-bits-at t)
+    (write-instr-past-requires-2 t)
     (write-instr-bits-at-requires-2 t)
-    (write-instr-add-t20 t)
+    (write-instr-past-requires-3 t)
     (write-instr-sub-write-make-cont t)
     (write-instr-write-make-cont-requires t)
     (write-instr-sub-n t)
     (write-instr-cast-n t)
     (write-instr-write-simple-requires t)
+    (write-instr-mul-past t)
+    (write-instr-add-past t)
+    (write-instr-past-requires-4 t)
     (write-instr-add-t29 t)
-    (write-instr-mul-t30 t)
-    (write-instr-add-t31 t)
-    (write-instr-add-t33 t)
-    (write-instr-add-t34 t)
+    (write-instr-add-t30 t)
     (write-instr-same-length t)
     (write-instr-returns t)
     (write-instr-same-length-2 t)
@@ -370,7 +371,7 @@ pub +write-conditional+write-instr+write-list+write-make-cont-spec : {M : Type 1
     (write-list-loop-holds t)
     (write-list-bits-at-requires t)
     (write-list-shape-of-requires t)
-    (write-list-add-t18 t)
+    (write-list-past-requires t)
     (write-list-same-length t)
     (write-list-returns t)
     (write-list-write-instr-requires t)

@@ -1,14 +1,22 @@
 -- `fields::bits_at` meets its contract: the two bytes, shifted and cut, are the field. Assumes nothing.
-use mathlib.Core.Path.{refl}
+use Prim.Native.Nat.{ℕ, _+_}
+use mathlib.Core.Path.{ap}
 use native.Mathlib.Omega.{arith}
+use lib.ListN.{getD}
 use lib.Pow.{pow-pos}
 use Rattle.fields.specs.Laws.{shl-one, shifted}
 use borrow.Author.Needs.{needs}
 use Rattle.fields.proofs.bits_at.Statement.{statement}
 use Rattle.fields.proofs.bits_at.Tie as tie
 
+byte-requires : tie.Need-byte-requires
+byte-requires c κs = search needs
+
 two-at-requires : tie.Need-two-at-requires
 two-at-requires c κs = search needs
+
+bit-requires : tie.Need-bit-requires
+bit-requires c κs = search needs
 
 sub-result : tie.Need-sub-result
 sub-result c = search needs
@@ -29,19 +37,23 @@ shl-result : tie.Need-shl-result
 shl-result c = search needs
 
 rem-result : tie.Need-rem-result
-rem-result c = rw (shl-one (c .before .before .args .width) (omega arith)) (pow-pos (c .before .before .args .width))
+rem-result c = let w = c .before .before .before .before .args .width in rw (shl-one w (omega arith)) (pow-pos w)
 
 returns : tie.Need-returns
 returns c =
-    let a = c .before .before .args in
-    let e = c .two-at .ensures in
-    rw (e .0) (shifted (a .s .now) (a .p) (a .width) _ _ refl refl (e .1) (c .before .before .pre .1 .0))
+    let a = c .before .before .before .before .args in
+    let s = a .s .now in
+    let e = c .before .two-at .ensures in
+    let y = c .before .before .byte .ensures in
+    rw (e .0, c .bit .ensures) (shifted s (a .at .0) (a .width) _ _ (ap (λ (i : ℕ). getD s i 0) y) (ap (λ (i : ℕ). getD s (i + 1) 0) y) (e .1) (c .before .before .before .before .pre .1 .0))
 
 pub bits-at-spec : {M : Type 1} → statement M
 bits-at-spec =
     tie.close
     (tie.spec
+    byte-requires
     two-at-requires
+    bit-requires
     sub-result
     sub-result-2
     cast-result

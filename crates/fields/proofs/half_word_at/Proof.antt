@@ -1,5 +1,8 @@
 -- `fields::half_word_at` meets its contract: the two bytes are the field's two parts. Assumes nothing.
+use mathlib.Core.Path.{ap, _∙_}
+use Prim.Native.Nat.{ℕ}
 use borrow.Author.Needs.{needs}
+use Rattle.fields.specs.Field.{fieldAt}
 use Rattle.fields.specs.Laws.{joined, field-small}
 use Rattle.fields.proofs.half_word_at.Statement.{statement}
 use Rattle.fields.proofs.half_word_at.Tie as tie
@@ -10,8 +13,8 @@ bits-at-requires c κs = search needs
 mul-result : tie.Need-mul-result
 mul-result c = search needs
 
-add-bits-at : tie.Need-add-bits-at
-add-bits-at c = search needs
+past-requires : tie.Need-past-requires
+past-requires c κs = search needs
 
 bits-at-requires-2 : tie.Need-bits-at-requires-2
 bits-at-requires-2 c κs = search needs
@@ -21,11 +24,12 @@ add-result c = search needs
 
 returns : tie.Need-returns
 returns c =
-    let a = c .before .before .before .args in
-    let e = joined (a .s .now) (a .p) 8 8 _ _ (c .before .bits-at .ensures .0) (c .bits-at2 .ensures .0) in
-    (e, rw e (field-small (a .s .now) (a .p) 16))
+    let a = c .before .before .before .before .args in
+    let second = c .bits-at2 .ensures .0 ∙ ap (λ (p : ℕ). fieldAt (a .s .now) p 8) (c .before .past .ensures) in
+    let e = joined (a .s .now) (a .at .0) 8 8 _ _ (c .before .before .bits-at .ensures .0) second in
+    (e, rw e (field-small (a .s .now) (a .at .0) 16))
 
 pub half-word-at-spec : {M : Type 1} → statement M
 half-word-at-spec =
     tie.close
-    (tie.spec bits-at-requires mul-result add-bits-at bits-at-requires-2 add-result returns)
+    (tie.spec bits-at-requires mul-result past-requires bits-at-requires-2 add-result returns)

@@ -1,27 +1,24 @@
 -- `fields::read_field` meets its contract. Assumes nothing.
-use borrow.Author.Needs.{needs}
 use native.Mathlib.Omega.{arith}
-use Rattle.fields.specs.Laws.{cut, whole}
+use borrow.Author.Needs.{needs}
+use Rattle.fields.specs.Laws.{lies, cut-by, whole-by}
 use Rattle.fields.proofs.read_field.Statement.{statement}
 use Rattle.fields.proofs.read_field.Tie as tie
 
-mul-end : tie.Need-mul-end
-mul-end c = search needs
-
-returns : tie.Need-returns
-returns c = cut _ _ _ (omega arith)
-
-returns-2 : tie.Need-returns-2
-returns-2 c = cut _ _ _ (omega arith)
+within-requires : tie.Need-within-requires
+within-requires c κs = search needs
 
 bits-at-requires : tie.Need-bits-at-requires
-bits-at-requires c κs = search needs
+bits-at-requires c κs = let a = c .before .before .before .args in let h = lies (a .s .now) (a .at .0) (a .width) (c .before .within .ensures) (c .if1 .taken) in (search needs, (search needs, h))
 
-add-t6 : tie.Need-add-t6
-add-t6 c = search needs
+past-requires : tie.Need-past-requires
+past-requires c κs = let a = c .before .before .before .before .args in let h = lies (a .s .now) (a .at .0) (a .width) (c .before .before .within .ensures) (c .before .if1 .taken) in omega (arith, h)
 
-returns-3 : tie.Need-returns-3
-returns-3 c = rw (c .bits-at .ensures .0) (whole _ _ _ (omega arith))
+returns : tie.Need-returns
+returns c = whole-by _ _ _ (c .before .before .before .within .ensures) (c .before .before .if1 .taken) (c .before .bits-at .ensures .0) (c .past .ensures)
+
+returns-2 : tie.Need-returns-2
+returns-2 c = cut-by _ _ _ (c .before .within .ensures) (c .if1 .left)
 
 pub read-field-spec : {M : Type 1} → statement M
-read-field-spec = tie.close (tie.spec mul-end returns returns-2 bits-at-requires add-t6 returns-3)
+read-field-spec = tie.close (tie.spec within-requires bits-at-requires past-requires returns returns-2)

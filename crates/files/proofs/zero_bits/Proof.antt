@@ -1,8 +1,8 @@
 -- `files::zero_bits` meets its contract. The bits that are left, from here, are read as the whole is from the start. Assumes nothing.
-use Prim.Native.Nat.{_*_, _-_, _≤_}
+use Prim.Native.Nat.{ℕ, _+_, _*_, _-_, _≤_}
 use native.Mathlib.Nat.{add-sub-cancel-left}
 use native.Mathlib.Omega.{arith}
-use mathlib.Core.Path.{_≡_, sym, _∙_}
+use mathlib.Core.Path.{_≡_, sym, ap, _∙_}
 use borrow.Author.Needs.{needs}
 use lib.ListN.{length}
 use Rattle.files.specs.Entries.{zeroBits}
@@ -12,13 +12,11 @@ use Rattle.files.proofs.zero_bits.Statement.{statement}
 use Rattle.files.proofs.zero_bits.Tie as tie
 
 abbrev Inv-loop : tie.InvT-loop
-Inv-loop s n p₀ end p = (p ≤ end) × (end ≤ 8 * length s) × (paddingTold (zeroBits s n p₀ (tt {0})) ≡ paddingTold (zeroBits s (end - p) p (tt {0})))
+Inv-loop s n here₀ left₀ here left = (here .0 + left ≡ here₀ .0 + n) × (here₀ .0 + n ≤ 8 * length s)
+    × (paddingTold (zeroBits s n (here₀ .0) (tt {0})) ≡ paddingTold (zeroBits s (here₀ .0 + n - here .0) (here .0) (tt {0})))
 
 abbrev μ-loop : tie.MeasureT-loop
-μ-loop s n p₀ end p = end - p
-
-add-end : tie.Need-add-end Inv-loop μ-loop
-add-end c = search needs
+μ-loop s n here₀ left₀ here left = left
 
 loop-holds : tie.Need-loop-holds Inv-loop μ-loop
 loop-holds c = (search needs, search needs, simp add-sub-cancel-left)
@@ -27,19 +25,28 @@ bits-at-requires : tie.Need-bits-at-requires Inv-loop μ-loop
 bits-at-requires c κs = search needs
 
 returns : tie.Need-returns Inv-loop μ-loop
-returns c = bits-stop _ _ _ _ (c .before .before .loop-test .taken) (c .before .bits-at .ensures .0) (λ e. omega arith) ∙ sym (c .before .before .before .loop .inv .2)
+returns c =
+    let i = c .before .before .before .loop .inv in
+    bits-stop _ _ _ _ (omega (arith, i .0, c .before .before .loop-test .taken)) (c .before .bits-at .ensures .0) (λ e. omega arith) ∙ sym (i .2)
 
-add-p : tie.Need-add-p Inv-loop μ-loop
-add-p c = search needs
+past-requires : tie.Need-past-requires Inv-loop μ-loop
+past-requires c κs = search needs
+
+sub-left : tie.Need-sub-left Inv-loop μ-loop
+sub-left c = search needs
 
 loop-less : tie.Need-loop-less Inv-loop μ-loop
 loop-less c = search needs
 
 loop-again : tie.Need-loop-again Inv-loop μ-loop
-loop-again c = (search needs, search needs, c .before .before .before .loop .inv .2 ∙ bits-on _ _ _ _ (c .before .before .loop-test .taken) (c .before .bits-at .ensures .0) (c .if1 .left))
+loop-again c =
+    let i = c .before .before .before .before .loop .inv in
+    let a = c .before .before .before .before .before .before .args in
+    let on = bits-on (a .s .now) (a .at .0 + a .n) (c .before .before .before .before .loop .here .0) _ (omega (arith, i .0, c .before .before .before .loop-test .taken)) (c .before .before .bits-at .ensures .0) (c .before .if1 .left) in
+    (search needs, search needs, i .2 ∙ on ∙ ap (λ (p : ℕ). paddingTold (zeroBits (a .s .now) (a .at .0 + a .n - p) p (tt {0}))) (sym (c .past .ensures)))
 
 returns-2 : tie.Need-returns-2 Inv-loop μ-loop
-returns-2 c = no-bits _ _ _ (c .loop-test .left) ∙ sym (c .before .loop .inv .2)
+returns-2 c = let i = c .before .loop .inv in no-bits _ _ _ (omega (arith, i .0, c .loop-test .left)) ∙ sym (i .2)
 
 pub zero-bits-spec : {M : Type 1} → statement M
 zero-bits-spec =
@@ -47,11 +54,11 @@ zero-bits-spec =
     (tie.spec
     Inv-loop
     μ-loop
-    add-end
     loop-holds
     bits-at-requires
     returns
-    add-p
+    past-requires
+    sub-left
     loop-less
     loop-again
     returns-2)

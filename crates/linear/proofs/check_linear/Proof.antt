@@ -17,11 +17,14 @@ enum-told c = search needs
 enum-known-no : tie.Need-enum-known-no
 enum-known-no c = search needs
 
+number-requires : tie.Need-number-requires
+number-requires c κs = search needs
+
 returns : tie.Need-returns
 returns c = checked-read _ (sym (c .before .before .before .read-linear .ensures .0) ∙ c .enum-told .given .1)
 
 returns-2 : tie.Need-returns-2
-returns-2 c = checked-refused _ (sym (c .before .before .before .before .read-linear .ensures .0) ∙ c .before .no .given .1)
+returns-2 c = rw (c .number .ensures) (checked-refused _ (sym (c .before .before .before .before .before .read-linear .ensures .0) ∙ c .before .before .no .given .1))
 
 pub check-linear-spec : {M : Type 1} → statement M
 check-linear-spec =
@@ -31,5 +34,6 @@ check-linear-spec =
     read-linear-requires
     enum-told
     enum-known-no
+    number-requires
     returns
     returns-2)

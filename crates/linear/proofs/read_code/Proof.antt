@@ -1,13 +1,20 @@
 -- `linear::read_code` meets its contract: each answer leads to its case of `paddedCode`. Assumes nothing.
+use Prim.Native.Nat.{ℕ, _+_, _*_}
 use native.Mathlib.Omega.{arith}
+use mathlib.Core.Path.{_≡_, sym, ap, _∙_}
+use borrow.Author.Tests.{leb-false}
 use borrow.Author.Needs.{needs}
+use lib.ListN.{length}
+use Rattle.cells.specs.declared.BitPlace.{BitPlace}
+use Rattle.fields.specs.Laws.{lies}
+use Rattle.files.specs.Reading.{refused}
 use Rattle.files.specs.EntriesSteps.{field-cut, field-read, field-within}
 use Rattle.linear.specs.LinearSteps.{padding-set, length-cut, code-cut, code-read, code-stops, code-ends}
 use Rattle.linear.proofs.read_code.Statement.{statement}
 use Rattle.linear.proofs.read_code.Tie as tie
 
-sub-zero-bits : tie.Need-sub-zero-bits
-sub-zero-bits c = search needs
+to-byte-requires : tie.Need-to-byte-requires
+to-byte-requires c κs = search needs
 
 zero-bits-requires : tie.Need-zero-bits-requires
 zero-bits-requires c κs = search needs
@@ -25,7 +32,7 @@ enum-told : tie.Need-enum-told
 enum-told c = search needs
 
 returns : tie.Need-returns
-returns c = code-stops _ _ _ (length-cut _ _ (c .before .before .before .before .before .before .zero-bits .ensures) (c .before .before .before .before .size .given .1) (field-cut _ _ _ (c .before .before .read-three .ensures) (c .enum-told .given .1)))
+returns c = code-stops _ _ _ (length-cut _ _ (rw (c .before .before .before .before .before .before .before .to-byte .ensures) at (c .before .before .before .before .before .before .zero-bits .ensures)) (c .before .before .before .before .size .given .1) (field-cut _ _ _ (c .before .before .read-three .ensures) (c .enum-told .given .1)))
 
 cast-bits : tie.Need-cast-bits
 cast-bits c = search needs
@@ -33,16 +40,11 @@ cast-bits c = search needs
 mul-bits : tie.Need-mul-bits
 mul-bits c = search needs
 
-mul-end : tie.Need-mul-end
-mul-end c = search needs
+within-requires : tie.Need-within-requires
+within-requires c κs = search needs
 
-sub-if1 : tie.Need-sub-if1
-sub-if1 c = field-within _ _ _ (c .before .before .before .read-three .ensures) (c .before .n .given .1)
-
-returns-2 : tie.Need-returns-2
-returns-2 c =
-    let h = field-within _ _ _ (c .before .before .before .before .read-three .ensures) (c .before .before .n .given .1) in
-    code-stops _ _ _ (code-cut _ _ (c .before .before .before .before .before .before .before .before .zero-bits .ensures) (c .before .before .before .before .before .before .size .given .1) (field-read _ _ _ (c .before .before .before .before .read-three .ensures) (c .before .before .n .given .1)) (omega arith))
+byte-requires : tie.Need-byte-requires
+byte-requires c κs = search needs
 
 cast-table : tie.Need-cast-table
 cast-table c = search needs
@@ -51,7 +53,7 @@ mul-table : tie.Need-mul-table
 mul-table c = search needs
 
 add-table : tie.Need-add-table
-add-table c = search needs
+add-table c = let h = field-within _ _ _ (c .before .before .before .before .before .before .read-three .ensures) (c .before .before .before .before .n .given .1) in omega (arith, h, c .byte .ensures)
 
 mul-table-2 : tie.Need-mul-table-2
 mul-table-2 c = search needs
@@ -62,30 +64,44 @@ mul-table-3 c = search needs
 slice-write-table : tie.Need-slice-write-table
 slice-write-table c = search needs
 
-add-past : tie.Need-add-past
-add-past c =
-    let h = field-within _ _ _ (c .before .before .before .before .read-three .ensures) (c .before .before .n .given .1) in
-    omega arith
-
-enum-known-place : tie.Need-enum-known-place
-enum-known-place c = search needs
+past-requires : tie.Need-past-requires
+past-requires c κs =
+    let g = c .before .before .before .before .n .given .0 in
+    let h = lies (c .before .before .before .before .before .before .before .before .before .before .before .before .before .before .args .s .now) (g .1 .0 .0) (8 * g .0) (c .before .before .within .ensures) (c .before .if1 .taken) in
+    omega (arith, h)
 
 same-length : tie.Need-same-length
 same-length c = search needs
 
+returns-2 : tie.Need-returns-2
+returns-2 c =
+    let g = c .before .before .before .before .before .n .given .0 in
+    let h = lies (c .before .before .before .before .before .before .before .before .before .before .before .before .before .before .before .args .s .now) (g .1 .0 .0) (8 * g .0) (c .before .before .before .within .ensures) (c .before .before .if1 .taken) in
+    let q : _≡_ {A = BitPlace} (c .past .result) (record { 0 = g .1 .0 .0 + 8 * g .0 }) = ap (λ (x : ℕ). record { 0 = x }) (c .past .ensures) in
+    rw (q, c .before .byte .ensures) (code-ends _ _ _ _ _ _ h (code-read _ _ (rw (c .before .before .before .before .before .before .before .before .before .before .before .before .to-byte .ensures) at (c .before .before .before .before .before .before .before .before .before .before .before .zero-bits .ensures)) (c .before .before .before .before .before .before .before .before .before .size .given .1) (field-read _ _ _ (c .before .before .before .before .before .before .before .read-three .ensures) (c .before .before .before .before .before .n .given .1)) h))
+
+end-of-requires : tie.Need-end-of-requires
+end-of-requires c κs = search needs
+
+enum-known-place : tie.Need-enum-known-place
+enum-known-place c = search needs
+
 returns-3 : tie.Need-returns-3
 returns-3 c =
-    let h = field-within _ _ _ (c .before .before .before .before .read-three .ensures) (c .before .before .n .given .1) in
-    code-ends _ _ _ _ _ _ (omega arith) (code-read _ _ (c .before .before .before .before .before .before .before .before .zero-bits .ensures) (c .before .before .before .before .before .before .size .given .1) (field-read _ _ _ (c .before .before .before .before .read-three .ensures) (c .before .before .n .given .1)) (omega arith))
+    let g = c .before .before .before .before .n .given .0 in
+    let s = c .before .before .before .before .before .before .before .before .before .before .before .before .before .before .args .s .now in
+    let h = leb-false (g .1 .0 .0 + 8 * g .0) (8 * length s) (sym (c .before .before .within .ensures) ∙ c .before .if1 .left) in
+    let cut = code-cut _ _ (rw (c .before .before .before .before .before .before .before .before .before .before .before .to-byte .ensures) at (c .before .before .before .before .before .before .before .before .before .before .zero-bits .ensures)) (c .before .before .before .before .before .before .before .before .size .given .1) (field-read _ _ _ (c .before .before .before .before .before .before .read-three .ensures) (c .before .before .before .before .n .given .1)) h in
+    code-stops _ _ _ (λ es. cut es ∙ ap (refused 2) (sym (c .end-of .ensures)))
 
 returns-4 : tie.Need-returns-4
-returns-4 c = code-stops _ _ _ (padding-set _ _ (c .before .before .before .zero-bits .ensures) (c .before .place .given .1))
+returns-4 c = code-stops _ _ _ (padding-set _ _ (rw (c .before .before .before .before .to-byte .ensures) at (c .before .before .before .zero-bits .ensures)) (c .before .place .given .1))
 
 pub read-code-spec : {M : Type 1} → statement M
 read-code-spec =
     tie.close
     (tie.spec
-    sub-zero-bits
+    to-byte-requires
     zero-bits-requires
     enum-known-size
     read-three-requires
@@ -94,17 +110,18 @@ read-code-spec =
     returns
     cast-bits
     mul-bits
-    mul-end
-    sub-if1
-    returns-2
+    within-requires
+    byte-requires
     cast-table
     mul-table
     add-table
     mul-table-2
     mul-table-3
     slice-write-table
-    add-past
-    enum-known-place
+    past-requires
     same-length
+    returns-2
+    end-of-requires
+    enum-known-place
     returns-3
     returns-4)

@@ -32,13 +32,16 @@ returns-2 c = sym (ap checkedTold (judged-misnamed _ (sym (c .before .before .be
 enum-known-no : tie.Need-enum-known-no
 enum-known-no c = search needs
 
+number-requires : tie.Need-number-requires
+number-requires c κs = search needs
+
 returns-3 : tie.Need-returns-3
 unfolding checkedTold
 returns-3 c = sym (ap checkedTold (judged-good _ (sym (c .before .before .before .before .before .before .before .before .read-tree .ensures .0) ∙ c .before .before .before .before .before .sum .given .1) (c .before .before .if1 .left) (c .if2 .left)))
 
 returns-4 : tie.Need-returns-4
 unfolding checkedTold
-returns-4 c = sym (ap checkedTold (checked-refused _ (sym (c .before .before .before .before .read-tree .ensures .0) ∙ c .before .no .given .1)))
+returns-4 c = rw (c .number .ensures) (sym (ap checkedTold (checked-refused _ (sym (c .before .before .before .before .before .read-tree .ensures .0) ∙ c .before .before .no .given .1))))
 
 pub check-tree-spec : {M : Type 1} → statement M
 check-tree-spec =
@@ -52,5 +55,6 @@ check-tree-spec =
     cast-t12
     returns-2
     enum-known-no
+    number-requires
     returns-3
     returns-4)

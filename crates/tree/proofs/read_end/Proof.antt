@@ -6,8 +6,8 @@ use borrow.Author.Needs.{needs}
 use Rattle.tree.proofs.read_end.Statement.{statement}
 use Rattle.tree.proofs.read_end.Tie as tie
 
-sub-zero-bits : tie.Need-sub-zero-bits
-sub-zero-bits c = search needs
+to-byte-requires : tie.Need-to-byte-requires
+to-byte-requires c κs = search needs
 
 zero-bits-requires : tie.Need-zero-bits-requires
 zero-bits-requires c κs = search needs
@@ -22,17 +22,17 @@ enum-known-place : tie.Need-enum-known-place
 enum-known-place c = search needs
 
 returns : tie.Need-returns
-returns c = c .nothing-more .ensures ∙ ap (paddingTold {A = Unit {0}}) (sym (end-on (tt {0}) _ _ (sym (c .before .before .before .before .zero-bits .ensures) ∙ c .before .before .past .given .1)))
+returns c = c .nothing-more .ensures ∙ ap (paddingTold {A = Unit {0}}) (sym (end-on (tt {0}) _ _ (sym (rw (c .before .before .before .before .before .to-byte .ensures) at (c .before .before .before .before .zero-bits .ensures)) ∙ c .before .before .past .given .1)))
 
 returns-2 : tie.Need-returns-2
 unfolding paddingTold
-returns-2 c = sym (ap (paddingTold {A = Unit {0}}) (end-set (tt {0}) _ _ (sym (c .before .before .before .zero-bits .ensures) ∙ c .before .place .given .1)))
+returns-2 c = sym (ap (paddingTold {A = Unit {0}}) (end-set (tt {0}) _ _ (sym (rw (c .before .before .before .before .to-byte .ensures) at (c .before .before .before .zero-bits .ensures)) ∙ c .before .place .given .1)))
 
 pub read-end-spec : {M : Type 1} → statement M
 read-end-spec =
     tie.close
     (tie.spec
-    sub-zero-bits
+    to-byte-requires
     zero-bits-requires
     enum-known-past
     nothing-more-requires

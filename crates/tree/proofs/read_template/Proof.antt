@@ -32,6 +32,9 @@ read-entries-requires c κs = let p = c .before .before .before .before .before 
 enum-known-start : tie.Need-enum-known-start
 enum-known-start c = search needs
 
+to-slot-requires : tie.Need-to-slot-requires
+to-slot-requires c κs = search needs
+
 mul-table : tie.Need-mul-table
 mul-table c = search needs
 
@@ -42,19 +45,20 @@ slice-write-table : tie.Need-slice-write-table
 slice-write-table c = search needs
 
 read-list-requires : tie.Need-read-list-requires
-read-list-requires c κs = let p = c .before .before .before .before .before .before .before .before .before .before .before .before .before .before .pre in (p .0, simp length-set (c .before .before .before .before .before .before .read-entries .kept .1 .0 ∙ p .1 .1 .1 .0), omega (arith, p .1 .0))
+read-list-requires c κs = let p = c .before .before .before .before .before .before .before .before .before .before .before .before .before .before .before .pre in (p .0, simp length-set (c .before .before .before .before .before .before .before .read-entries .kept .1 .0 ∙ p .1 .1 .1 .0), omega (arith, p .1 .0))
 
 enum-known-past : tie.Need-enum-known-past
 enum-known-past c = search needs
 
-sub-report-by : tie.Need-sub-report-by
-sub-report-by c = let e = entries-told _ (sym (c .before .before .before .before .before .before .before .before .before .before .before .before .read-entries .ensures .0) ∙ c .before .before .before .before .before .before .before .before .start .given .1) in omega (arith, entries-read _ _ _ (c .before .before .before .before .before .before .before .before .before .before .before .before .before .before .before .before .before .before .before .before .pre .1 .1 .0) _ _ (e .is) .past)
+since-requires : tie.Need-since-requires
+since-requires c κs = let e = entries-told _ (sym (c .before .before .before .before .before .before .before .before .before .before .before .read-entries .ensures .0) ∙ c .before .before .before .before .before .before .before .start .given .1) in omega (arith, entries-read _ _ _ (c .before .before .before .before .before .before .before .before .before .before .before .before .before .before .before .before .before .before .before .pre .1 .1 .0) _ _ (e .is) .past)
 
 report-by-requires : tie.Need-report-by-requires
 report-by-requires c κs =
     let e = entries-told _ (sym (c .before .before .before .before .before .before .before .before .before .before .before .before .read-entries .ensures .0) ∙ c .before .before .before .before .before .before .before .before .start .given .1) in
-    let l = listed-done _ _ _ _ _ (sym (c .before .before .before .before .before .read-list .ensures) ∙ c .before .before .before .past .given .1) in
-    (listed-size _ _ _ _ _ _ _ (c .before .before .before .before .before .before .before .before .before .before .before .before .before .before .before .before .before .before .before .before .pre .0) (sym (c .before .before .before .before .before .read-list .ensures) ∙ c .before .before .before .past .given .1), omega (arith, c .before .before .before .before .before .before .before .before .before .before .before .before .before .before .before .before .before .before .before .before .pre .0, list-bits _ _ _ _ _ (l .1)))
+    let l = listed-done _ _ _ _ _ (sym (c .before .before .before .before .read-list .ensures) ∙ c .before .before .past .given .1) in
+    let p = c .before .before .before .before .before .before .before .before .before .before .before .before .before .before .before .before .before .before .before .before .pre .0 in
+    (listed-size _ _ _ _ _ _ _ p (sym (c .before .before .before .before .read-list .ensures) ∙ c .before .before .past .given .1), omega (arith, p, c .since .ensures, list-bits _ _ _ _ _ (l .1)))
 
 enum-known-no : tie.Need-enum-known-no
 enum-known-no c = search needs
@@ -68,17 +72,21 @@ same-length c = search needs
 returns-2 : tie.Need-returns-2
 returns-2 c =
     let e = entries-told _ (sym (c .before .before .before .before .before .before .before .before .before .before .before .before .before .read-entries .ensures .0) ∙ c .before .before .before .before .before .before .before .before .before .start .given .1) in
-    let l = listed-done _ _ _ _ _ (sym (c .before .before .before .before .before .before .read-list .ensures) ∙ c .before .before .before .before .past .given .1) in
+    let slot = c .before .before .before .before .before .before .before .to-slot .ensures in
+    let l = listed-done _ _ _ _ _ (sym (rw slot at (c .before .before .before .before .before .read-list .ensures)) ∙ c .before .before .before .past .given .1) in
     let p = c .before .before .before .before .before .before .before .before .before .before .before .before .before .before .before .before .before .before .before .before .before .pre in
-    list-done _ _ _ _ _ (field-read _ _ _ (c .before .before .before .before .before .before .before .before .before .before .before .before .before .before .before .before .before .before .read-field .ensures) (c .before .before .before .before .before .before .before .before .before .before .before .before .before .before .before .before .n .given .1)) (c .before .before .before .before .before .before .before .before .before .before .before .before .before .read-entries .ensures .1) (e .is) (p .1 .1 .0) (field-below _ _ _ (c .before .before .before .before .before .before .before .before .before .before .before .before .before .before .before .before .before .before .read-field .ensures) (c .before .before .before .before .before .before .before .before .before .before .before .before .before .before .before .before .n .given .1)) (p .1 .0) (p .1 .1 .1) (l .1) (sym (l .2)) (c .report-by .ensures)
+    let field = c .before .before .before .before .before .before .before .before .before .before .before .before .before .before .before .before .before .before .read-field .ensures in
+    let number = c .before .before .before .before .before .before .before .before .before .before .before .before .before .before .before .before .n .given .1 in
+    rw slot (list-done _ _ _ _ _ (field-read _ _ _ field number) (c .before .before .before .before .before .before .before .before .before .before .before .before .before .read-entries .ensures .1) (e .is) (p .1 .1 .0) (field-below _ _ _ field number) (p .1 .0) (p .1 .1 .1) (l .1) (sym (l .2)) (rw (c .before .since .ensures) at (c .report-by .ensures)))
 
 same-length-2 : tie.Need-same-length-2
 same-length-2 c = search needs
 
 returns-3 : tie.Need-returns-3
 returns-3 c =
-    let e = entries-told _ (sym (c .before .before .before .before .before .before .before .before .before .before .read-entries .ensures .0) ∙ c .before .before .before .before .before .before .start .given .1) in
-    list-stop _ _ _ _ _ (field-read _ _ _ (c .before .before .before .before .before .before .before .before .before .before .before .before .before .before .before .read-field .ensures) (c .before .before .before .before .before .before .before .before .before .before .before .before .before .n .given .1)) (c .before .before .before .before .before .before .before .before .before .before .read-entries .ensures .1) (e .is) (listed-refused _ _ _ _ _ (sym (c .before .before .before .read-list .ensures) ∙ c .before .no .given .1))
+    let e = entries-told _ (sym (c .before .before .before .before .before .before .before .before .before .before .before .read-entries .ensures .0) ∙ c .before .before .before .before .before .before .before .start .given .1) in
+    let slot = c .before .before .before .before .before .to-slot .ensures in
+    rw slot (list-stop _ _ _ _ _ (field-read _ _ _ (c .before .before .before .before .before .before .before .before .before .before .before .before .before .before .before .before .read-field .ensures) (c .before .before .before .before .before .before .before .before .before .before .before .before .before .before .n .given .1)) (c .before .before .before .before .before .before .before .before .before .before .before .read-entries .ensures .1) (e .is) (listed-refused _ _ _ _ _ (sym (rw slot at (c .before .before .before .read-list .ensures)) ∙ c .before .no .given .1)))
 
 same-length-3 : tie.Need-same-length-3
 same-length-3 c = search needs
@@ -97,12 +105,13 @@ read-template-spec =
     cast-read-entries
     read-entries-requires
     enum-known-start
+    to-slot-requires
     mul-table
     mul-table-2
     slice-write-table
     read-list-requires
     enum-known-past
-    sub-report-by
+    since-requires
     report-by-requires
     enum-known-no
     enum-known-no-2
