@@ -21,7 +21,6 @@ run-linear-requires : tie.Need-run-linear-requires
 run-linear-requires c κs = search needs
 
 returns : tie.Need-returns
-unfolding runOf
 returns c = ap runOf (c .before .before .before .before .run-linear .ensures)
 
 pub flat-run-spec : {M : Type 1} → statement M

@@ -21,7 +21,6 @@ run-tree-requires : tie.Need-run-tree-requires
 run-tree-requires c κs = search needs
 
 returns : tie.Need-returns
-unfolding runOf
 returns c = ap runOf (c .before .before .before .before .run-tree .ensures)
 
 pub tabular-run-spec : {M : Type 1} → statement M
