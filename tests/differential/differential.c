@@ -446,6 +446,7 @@ static bool all_ends_came_up(uint64_t tally[4][32], bool tree)
     bool all = tally[HALTED][0] > 0 && tally[OUT_OF_BUDGET][19] > 0;
     for (unsigned n = 10; n <= 18; n++)
         all = all && (tally[WRONG][n] > 0 || (tree && n == 16));
+    all = all && tally[WRONG][23] > 0;
     for (unsigned i = 0; i < (tree ? 10 : 7); i++)
         all = all && tally[REFUSED][refusals[i]] > 0;
     return all;

@@ -229,11 +229,12 @@ static bool write_make_env(Writer *w, Path *p)
 static bool write_primitive(Writer *w, Path *p, unsigned code)
 {
     bool fits = code == ADD ? p->depth >= 1 && p->integers
+        : code >= SUB && code <= FLOOR_DIV ? p->depth == 2 && p->integers
         : code == CAR || code == CDR ? p->depth >= 1 && p->top == PAIR : p->depth >= 2;
     if (!fits && !slip(w))
         return false;
     put0(&w->sheet, code);
-    now_empty(p, code == ADD ? INTEGER : code == CONS ? PAIR : ANYTHING);
+    now_empty(p, code == ADD || code == SUB || code == FLOOR_DIV ? INTEGER : code == CONS ? PAIR : ANYTHING);
     return true;
 }
 
@@ -299,6 +300,7 @@ static bool write_neutral_of(Writer *w, Path *p, unsigned choice)
     case 20: return write_primitive(w, p, CAR);
     case 21: return write_primitive(w, p, CDR);
     case 22: return write_primitive(w, p, EQV);
+    case 23: return write_primitive(w, p, SUB + below(w->random, 3));
     default: return write_primitive(w, p, ADD);
     }
 }
@@ -308,7 +310,7 @@ static void write_neutral(Writer *w, Path *p)
     if (w->size > 0)
         w->size--;
     for (unsigned tries = 0; tries < 4; tries++)
-        if (write_neutral_of(w, p, below(w->random, 24)))
+        if (write_neutral_of(w, p, below(w->random, 25)))
             return;
     write_literal(w, p);
 }
@@ -620,7 +622,7 @@ static void write_chain(Random *random, Sheet *s)
 
 static void write_full_stack(Random *random, Sheet *s)
 {
-    static const uint8_t last[] = { MAKE_ENV, CHECKARGS, MAKE_CONT, CONS, EQV, ADD, RETURN };
+    static const uint8_t last[] = { MAKE_ENV, CHECKARGS, MAKE_CONT, CONS, EQV, ADD, SUB, LESS, FLOOR_DIV, RETURN };
     unsigned code = last[below(random, sizeof last)], pushes = 250 + below(random, 8);
     sheet_begin(s, 1);
     put_field(s, 8, 1);
@@ -668,6 +670,29 @@ static void write_sum(Random *random, Sheet *s)
         put0(s, PUSH);
     }
     put0(s, ADD);
+    put_end(s);
+}
+
+/* Two numbers, or one or three, or no numbers, subtracted, compared and divided: at the range's ends and about zero. */
+static void write_retime(Random *random, Sheet *s)
+{
+    unsigned rounds = 1 + below(random, 12);
+    sheet_begin(s, 1);
+    put_field(s, 8, 9);
+    for (unsigned i = 0; i < 7; i++)
+        put_integer(s, i == 0 ? 0 : i < 3 ? (int32_t)below(random, 7) - 3 : some_integer(random));
+    put_constant(s, below(random, 4));
+    put_number(s, GLOBAL_ENTRY, below(random, 8));
+    for (unsigned round = 0; round < rounds; round++) {
+        for (unsigned n = chance(random, 95) ? 2 : below(random, 4); n > 0; n--) {
+            if (round == 0 || n > 1 || chance(random, 60))
+                put1(s, LITERAL, chance(random, 97) ? 1 + below(random, 7) : 8);
+            put0(s, PUSH);
+        }
+        put0(s, SUB + below(random, 3));
+        if (chance(random, 30))
+            put1(s, SET_GLOBAL, 9);
+    }
     put_end(s);
 }
 
@@ -815,7 +840,8 @@ static void write_longest(Random *random, Sheet *s)
 static void write_any_list(Random *random, Sheet *s, unsigned level, unsigned *left)
 {
     static const uint8_t codes[] = { RETURN, CALL, UNLESS_FALSE, MAKE_CONT, LITERAL, CLOSURE, GLOBAL, SET_GLOBAL, LOCAL,
-                                     SET_LOCAL, PUSH, MAKE_ENV, UNSPECIFIED, CHECKARGS, CONS, CAR, CDR, EQV, ADD };
+                                     SET_LOCAL, PUSH, MAKE_ENV, UNSPECIFIED, CHECKARGS, CONS, CAR, CDR, EQV, ADD, SUB, LESS,
+                                     FLOOR_DIV };
     for (unsigned count = below(random, 4); count > 0 && *left > 0; count--) {
         unsigned code = codes[below(random, sizeof codes)];
         (*left)--;
@@ -877,6 +903,8 @@ static void write_sheet(Random *random, Sheet *s)
         write_layers(random, s);
     else if (choice < 370)
         write_values(random, s);
+    else if (choice < 385)
+        write_retime(random, s);
     else if (choice < 400)
         write_any(random, s);
     else if (choice < 410)
@@ -968,7 +996,7 @@ static void add_linear_instruction(Random *random, File *file)
 {
     static const uint8_t codes[] = { RETURN, CALL, UNLESS_FALSE, UNLESS_FALSE, MAKE_CONT, MAKE_CONT, MAKE_CONT, JUMP, JUMP,
                                      LITERAL, LITERAL, CLOSURE, CLOSURE, GLOBAL, SET_GLOBAL, LOCAL, SET_LOCAL, PUSH, PUSH, MAKE_ENV,
-                                     UNSPECIFIED, CHECKARGS, CONS, CAR, CDR, EQV, ADD };
+                                     UNSPECIFIED, CHECKARGS, CONS, CAR, CDR, EQV, ADD, SUB, LESS, FLOOR_DIV };
     unsigned code = chance(random, 2) ? below(random, 256) : codes[below(random, sizeof codes)];
     add_byte(file, code);
     switch (code) {
@@ -991,6 +1019,7 @@ static void add_linear_line(Random *random, File *file)
 {
     static const uint8_t lines[][8] = {
         { 6, LITERAL, 1, PUSH, LITERAL, 1, ADD }, { 5, PUSH, CONS, 0, 0, 0 }, { 5, LITERAL, 1, PUSH, PUSH, EQV },
+        { 5, LITERAL, 1, PUSH, PUSH, SUB }, { 5, LITERAL, 1, PUSH, PUSH, LESS }, { 5, LITERAL, 1, PUSH, PUSH, FLOOR_DIV },
         { 5, PUSH, MAKE_ENV, 1, CLOSURE, 3 }, { 4, CLOSURE, 3, CALL, 0 }, { 4, CLOSURE, 3, SET_GLOBAL, 2 },
         { 4, GLOBAL, 2, CALL, 0 }, { 5, PUSH, PUSH, CONS, PUSH, CDR }, { 4, MAKE_CONT, 0, 1, 0 },
         { 3, LITERAL, 1, PUSH }, { 3, LOCAL, 0, 0 }, { 3, SET_LOCAL, 0, 0 }

@@ -6,7 +6,7 @@
 enum {
     END = 0, RETURN, CALL, CONDITIONAL, MAKE_CONT, JUMP, LITERAL, CLOSURE, GLOBAL, SET_GLOBAL, LOCAL, SET_LOCAL, PUSH, MAKE_ENV,
     UNSPECIFIED = 15, CHECKARGS,
-    CONS = 18, CAR, CDR, EQV, ADD, LAST_CODE = ADD
+    CONS = 18, CAR, CDR, EQV, ADD, SUB, LESS, FLOOR_DIV, LAST_CODE = FLOOR_DIV
 };
 
 enum { NO_KIND, CONSTANT, GLOBAL_NUMBER, TEMPLATE_NUMBER };
@@ -23,7 +23,7 @@ static const uint8_t linear_size[LAST_CODE + 1] = {
     [RETURN] = 1, [CALL] = 2, [CONDITIONAL] = 3, [MAKE_CONT] = 4, [JUMP] = 3,
     [LITERAL] = 2, [CLOSURE] = 2, [GLOBAL] = 2, [SET_GLOBAL] = 2, [LOCAL] = 3, [SET_LOCAL] = 3,
     [PUSH] = 1, [MAKE_ENV] = 2, [UNSPECIFIED] = 1, [CHECKARGS] = 2,
-    [CONS] = 1, [CAR] = 1, [CDR] = 1, [EQV] = 1, [ADD] = 1
+    [CONS] = 1, [CAR] = 1, [CDR] = 1, [EQV] = 1, [ADD] = 1, [SUB] = 1, [LESS] = 1, [FLOOR_DIV] = 1
 };
 
 /* The kind of entry that an instruction names. */
@@ -687,6 +687,16 @@ RULE unsigned eqv(Machine *m)
     return 0;
 }
 
+/* An integer as a primitive's value; 15 out of range. */
+RULE unsigned integer_result(Machine *m, int64_t value)
+{
+    if (value < INT32_MIN || value > INT32_MAX)
+        return 15;
+    m->v = integer_cell((uint32_t)value);
+    empty_stack(m);
+    return 0;
+}
+
 RULE unsigned add(Machine *m)
 {
     int64_t total = 0;
@@ -697,11 +707,52 @@ RULE unsigned add(Machine *m)
             return 14;
         total += integer_value(m->stack[i]);
     }
-    if (total < INT32_MIN || total > INT32_MAX)
-        return 15;
-    m->v = integer_cell((uint32_t)total);
+    return integer_result(m, total);
+}
+
+/* Exactly two integers, the left operand below the top. */
+RULE unsigned two_integers(const Machine *m, int64_t *left, int64_t *right)
+{
+    if (m->on_stack != 2)
+        return 10;
+    if (tag_of(m->stack[0]) != INTEGER_TAG || tag_of(m->stack[1]) != INTEGER_TAG)
+        return 14;
+    *left = integer_value(m->stack[0]);
+    *right = integer_value(m->stack[1]);
+    return 0;
+}
+
+RULE unsigned sub(Machine *m)
+{
+    int64_t left = 0, right = 0;
+    unsigned wrong = two_integers(m, &left, &right);
+    return wrong != 0 ? wrong : integer_result(m, left - right);
+}
+
+RULE unsigned less(Machine *m)
+{
+    int64_t left = 0, right = 0;
+    unsigned wrong = two_integers(m, &left, &right);
+    if (wrong != 0)
+        return wrong;
+    m->v = tagged(left < right ? TRUE_TAG : FALSE_TAG);
     empty_stack(m);
     return 0;
+}
+
+/* Toward minus infinity: the remainder has the divisor's sign. */
+RULE unsigned floor_div(Machine *m)
+{
+    int64_t left = 0, right = 0;
+    unsigned wrong = two_integers(m, &left, &right);
+    if (wrong != 0)
+        return wrong;
+    if (right == 0)
+        return 23;
+    int64_t remainder = left % right;
+    if (remainder != 0 && (remainder < 0) != (right < 0))
+        remainder += right;
+    return integer_result(m, (left - remainder) / right);
 }
 
 RULE unsigned enter_closure(Machine *m, unsigned n)
@@ -815,6 +866,9 @@ static void run_tree(Machine *machine, uint64_t budget)
         case CDR: wrong = part_of_pair(&m, 28); break;
         case EQV: wrong = eqv(&m); break;
         case ADD: wrong = add(&m); break;
+        case SUB: wrong = sub(&m); break;
+        case LESS: wrong = less(&m); break;
+        case FLOOR_DIV: wrong = floor_div(&m); break;
         }
         if (wrong != 0) {
             m.end = WRONG;
@@ -909,6 +963,9 @@ static void run_linear(Machine *machine, uint64_t budget)
         case CDR: position += 1; wrong = part_of_pair(&m, 28); break;
         case EQV: position += 1; wrong = eqv(&m); break;
         case ADD: position += 1; wrong = add(&m); break;
+        case SUB: position += 1; wrong = sub(&m); break;
+        case LESS: position += 1; wrong = less(&m); break;
+        case FLOOR_DIV: position += 1; wrong = floor_div(&m); break;
         }
         if (wrong != 0) {
             m.end = WRONG;

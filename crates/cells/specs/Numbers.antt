@@ -40,7 +40,7 @@ abbrev pub shortOutput : ℕ
 shortOutput = 9
 
 -- ---- 'Rules': wrong ends
--- 10 the stack does not hold so many: makeEnvRule, checkArgsRule, callRule, keepRule, consRule, partRule, eqvRule, addRule (rules, Rules)
+-- 10 the stack does not hold so many: makeEnvRule, checkArgsRule, callRule, keepRule, consRule, partRule, eqvRule, addRule, twoIntegers (rules, Rules)
 abbrev pub wrongCount : ℕ
 wrongCount = 10
 
@@ -56,13 +56,17 @@ undefined = 12
 abbrev pub beyondLayers : ℕ
 beyondLayers = 13
 
--- 14 no pair, or not all integers: partRule, addRule (rules, Rules)
+-- 14 no pair, or not all integers: partRule, addRule, twoIntegers (rules, Rules)
 abbrev pub wrongKind : ℕ
 wrongKind = 14
 
--- 15 the exact total is not within 32 bits signed: addRule (rules, Rules)
+-- 15 the exact result is not within 32 bits signed: integerRule (rules, Rules)
 abbrev pub outOfRange : ℕ
 outOfRange = 15
+
+-- 23 a zero divisor: divided (rules, Rules); in a step after 12 and before 15 (request 1)
+abbrev pub zeroDivisor : ℕ
+zeroDivisor = 23
 
 -- 16 a linear code position outside the code, an invalid byte, a cut instruction or an unfit entry: act (machines, Machine), of `bad`
 abbrev pub badCode : ℕ

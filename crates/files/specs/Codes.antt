@@ -76,10 +76,13 @@ codes =
     ∷ row 0 0 rest
     -- 22 %%add
     ∷ row 0 0 rest
-    -- 23 to 31 are no instructions
-    ∷ row 0 0 none
-    ∷ row 0 0 none
-    ∷ row 0 0 none
+    -- 23 %%sub
+    ∷ row 0 0 rest
+    -- 24 %%less
+    ∷ row 0 0 rest
+    -- 25 %%floor-div
+    ∷ row 0 0 rest
+    -- 26 to 31 are no instructions
     ∷ row 0 0 none
     ∷ row 0 0 none
     ∷ row 0 0 none

@@ -93,6 +93,9 @@ no-rule named op a b h =
       other 20 refl,
       other 21 refl,
       other 22 refl,
+      other 23 refl,
+      other 24 refl,
+      other 25 refl,
     )
   where
     other : (k : ℕ) → isNeutral k ≡ true → eqb op k ≡ false

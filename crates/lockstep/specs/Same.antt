@@ -13,7 +13,7 @@ use Rattle.rules.specs.Rules.{Data}
 use Rattle.rules.specs.declared.Regs.{Regs}
 use Rattle.rules.specs.declared.Plain.{Plain}
 use Rattle.rules.specs.declared.Plain.the-variants.{Literal, Closure, Global, SetGlobal, Local, SetLocal, Push, Unspecified, MakeEnv, CheckArgs, Cons}
-use Rattle.rules.specs.declared.Plain.the-variants.{Car, Cdr, Eqv, Add}
+use Rattle.rules.specs.declared.Plain.the-variants.{Car, Cdr, Eqv, Add, Sub, Less, FloorDiv}
 use Rattle.machines.specs.Runs.{startState}
 use Rattle.lockstep.specs.Lockstep.{Kin}
 use Rattle.lockstep.specs.Likeness.{Likeness, Each, noneE, moreE, each-of}
@@ -70,6 +70,9 @@ itself G Car w = sameI tt
 itself G Cdr w = sameI tt
 itself G Eqv w = sameI tt
 itself G Add w = sameI tt
+itself G Sub w = sameI tt
+itself G Less w = sameI tt
+itself G FloorDiv w = sameI tt
 
 pub equal : {l l′ : List ℕ} → Each (λ a b. a ≡ b) l l′ → l ≡ l′
 equal noneE = refl

@@ -26,9 +26,9 @@ coded slot op k a b x e h = rw e h
 
 pub no-code : (slot : ℕ → ℕ) (op a b : ℕ) → (op ≡ 6 → ⊥) → (op ≡ 7 → ⊥) → (op ≡ 8 → ⊥) → (op ≡ 9 → ⊥) → (op ≡ 10 → ⊥) → (op ≡ 11 → ⊥) → (op ≡ 12 → ⊥)
     → (op ≡ 13 → ⊥) → (op ≡ 15 → ⊥) → (op ≡ 16 → ⊥) → (op ≡ 18 → ⊥) → (op ≡ 19 → ⊥) → (op ≡ 20 → ⊥) → (op ≡ 21 → ⊥) → (op ≡ 22 → ⊥)
-    → Answers slot op a b Unfit
+    → (op ≡ 23 → ⊥) → (op ≡ 24 → ⊥) → (op ≡ 25 → ⊥) → Answers slot op a b Unfit
 unfolding slotResolve ruleOf resolvedAs
-no-code slot op a b h₁ h₂ h₃ h₄ h₅ h₆ h₇ h₈ h₉ i₁ i₂ i₃ i₄ i₅ i₆ =
+no-code slot op a b h₁ h₂ h₃ h₄ h₅ h₆ h₇ h₈ h₉ i₁ i₂ i₃ i₄ i₅ i₆ i₇ i₈ i₉ =
     rw (
       ne-eqb op 6 h₁,
       ne-eqb op 7 h₂,
@@ -45,6 +45,9 @@ no-code slot op a b h₁ h₂ h₃ h₄ h₅ h₆ h₇ h₈ h₉ i₁ i₂ i₃ 
       ne-eqb op 20 i₄,
       ne-eqb op 21 i₅,
       ne-eqb op 22 i₆,
+      ne-eqb op 23 i₇,
+      ne-eqb op 24 i₈,
+      ne-eqb op 25 i₉,
     )
 
 -- ---- what a slot x names, under the tag that it was looked at for

@@ -13,7 +13,7 @@ use Rattle.files.specs.Tree.{Template}
 use Rattle.files.specs.Linear.{Linear}
 use Rattle.files.specs.Table.{constantCell}
 use Rattle.rules.specs.declared.Plain.{Plain}
-use Rattle.rules.specs.declared.Plain.the-variants.{Literal, Closure, Global, SetGlobal, Local, SetLocal, Push, Unspecified, MakeEnv, CheckArgs, Cons, Car, Cdr, Eqv, Add}
+use Rattle.rules.specs.declared.Plain.the-variants.{Literal, Closure, Global, SetGlobal, Local, SetLocal, Push, Unspecified, MakeEnv, CheckArgs, Cons, Car, Cdr, Eqv, Add, Sub, Less, FloorDiv}
 
 -- the places in it are where to go on
 pub data Fetched : Type 0 where
@@ -79,7 +79,10 @@ ruleOf named op a b =
     (cond (eqb op 19) (some Car)
     (cond (eqb op 20) (some Cdr)
     (cond (eqb op 21) (some Eqv)
-    (cond (eqb op 22) (some Add) none))))))))))))))
+    (cond (eqb op 22) (some Add)
+    (cond (eqb op 23) (some Sub)
+    (cond (eqb op 24) (some Less)
+    (cond (eqb op 25) (some FloorDiv) none)))))))))))))))))
 
 -- by the template's entries
 unfoldable pub resolve : List Entry → ℕ → List ℕ → Option Plain

@@ -47,17 +47,17 @@ global-suits f n h k (some (constant t x)) e = no-test (sym h ∙ e)
 global-suits f n h k (some (global g)) e = resolves
 global-suits f n h k (some (template t)) e = no-test (sym k ∙ e)
 
--- no code from 23 on is neutral
-high : (op : ℕ) → 23 ≤ op → isNeutral op ≡ true → ⊥
+-- no code from 26 on is neutral
+high : (op : ℕ) → 26 ≤ op → isNeutral op ≡ true → ⊥
 unfolding isNeutral shapeOf
 high op h e =
     let x : leb (getD shapes op 6) 3 ≡ true = and-eq-true-iff (leb 6 op) (leb (getD shapes op 6) 3) .0 e .1 in
-    let i : 23 + (op - 23) ≡ op = omega arith in
-    let y : getD shapes op 6 ≡ 6 = rw i at (sym (getD-drop 23 shapes (op - 23) 6) ∙ six (op - 23)) in
+    let i : 26 + (op - 26) ≡ op = omega arith in
+    let y : getD shapes op 6 ≡ 6 = rw i at (sym (getD-drop 26 shapes (op - 26) 6) ∙ six (op - 26)) in
     omega (arith, leb-true (getD shapes op 6) 3 x)
   where
-    six : (k : ℕ) → getD {A = ℕ} (replicate 9 6) k 6 ≡ 6
-    six k = by-lt k 9 (λ l. getD-replicate {A = ℕ} 9 k 6 6 l) (λ l. List·getD-eq-default {A = ℕ} (replicate 9 6) 6 l)
+    six : (k : ℕ) → getD {A = ℕ} (replicate 6 6) k 6 ≡ 6
+    six k = by-lt k 6 (λ l. getD-replicate {A = ℕ} 6 k 6 6 l) (λ l. List·getD-eq-default {A = ℕ} (replicate 6 6) 6 l)
 
 module _ (es : List Entry) (op : ℕ) (ns : List ℕ) (neutral : isNeutral op ≡ true) (fits : indexFits es op (getD ns 0 0) ≡ true) where
   -- the code is n, or a higher one
@@ -97,4 +97,7 @@ module _ (es : List Entry) (op : ℕ) (ns : List ℕ) (neutral : isNeutral op �
       (λ l. or 20 _ _ l (λ e. resolves)
       (λ l. or 21 _ _ l (λ e. resolves)
       (λ l. or 22 _ _ l (λ e. resolves)
-      (λ l. absurd (high op l neutral))))))))))))))))
+      (λ l. or 23 _ _ l (λ e. resolves)
+      (λ l. or 24 _ _ l (λ e. resolves)
+      (λ l. or 25 _ _ l (λ e. resolves)
+      (λ l. absurd (high op l neutral)))))))))))))))))))

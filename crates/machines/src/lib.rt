@@ -191,6 +191,9 @@ pub fn resolve(table: &[u64], template: u8, op: u8, a: u8, b: u8) -> Resolved
         20 => Resolved::Fit(Plain::Cdr),
         21 => Resolved::Fit(Plain::Eqv),
         22 => Resolved::Fit(Plain::Add),
+        23 => Resolved::Fit(Plain::Sub),
+        24 => Resolved::Fit(Plain::Less),
+        25 => Resolved::Fit(Plain::FloorDiv),
         _ => Resolved::Unfit,
     }
 }

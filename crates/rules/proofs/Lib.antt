@@ -1,3 +1,2 @@
 -- Laws of the crate rules.
 pub mod Laws
-pub mod Adding

@@ -1,14 +1,19 @@
 -- What the functions answer.
-use mathlib.Core.Bool.{cond}
-use mathlib.Core.List.{List}
+use mathlib.Core.Bool.{cond, _&&_}
 use mathlib.Core.Option.{Option, none, some}
-use Prim.Native.Nat.{ℕ}
-use Rattle.rules.specs.Total.{totalOf, within32, bits32, allIntegers}
+use Prim.Native.Nat.{ℕ, _<_}
+use lib.Dec.{eqb}
+use Rattle.cells.specs.Cells.{tagOf, intCell, intOf}
+use Rattle.integers.specs.Integers.{full}
+use Rattle.integers.specs.declared.Ranged.{Ranged}
+use Rattle.integers.specs.declared.Ranged.the-variants.{Within, Over}
 use Rattle.rules.specs.declared.Found.{Found}
 use Rattle.rules.specs.declared.Found.the-variants.{Cell, Beyond}
-use Rattle.rules.specs.declared.Sum.{Sum}
-use Rattle.rules.specs.declared.Sum.the-variants.{Within, Over, NotIntegers}
+use Rattle.rules.specs.declared.Operands.{Operands}
+use Rattle.rules.specs.declared.Operands.the-variants.{Two}
+use Rattle.rules.specs.declared.Operands.the-variants as two
 use Rattle.rules.specs.State.{Mem, Held, Res, ok, wrong, Out, told}
+use Rattle.rules.specs.Rules.{top, under, emptied}
 use Rattle.rules.specs.declared.Regs.{Regs}
 use Rattle.rules.specs.declared.Called.{Called}
 use Rattle.rules.specs.declared.Called.the-variants as call
@@ -22,9 +27,26 @@ unfoldable pub foundAt : Option ℕ → Found
 foundAt none = Beyond 13
 foundAt (some l) = Cell l
 
--- the 32 bits of the exact total, where all are integers and the total is within 32 bits
-unfoldable pub sumOf : List ℕ → Sum
-sumOf cs = cond (allIntegers cs) (cond (within32 (totalOf cs)) (Within (bits32 (totalOf cs))) Over) NotIntegers
+-- ---- integers
+-- v is the integer of these bits; 15 where it is out of range
+unfoldable pub integerBy : Ranged → Mem → Regs → Res Held
+integerBy (Within x) m r = emptied (intCell x) m r
+integerBy Over m r = wrong 15
+
+abbrev pub RangedFits : Ranged → Type 0
+RangedFits (Within x) = x < full
+RangedFits Over = Unit {0}
+
+-- the bits of exactly two integers
+unfoldable pub operandsOf : Mem → Regs → Operands
+operandsOf m r =
+    cond (eqb (r .sp) 2)
+    (cond (eqb (tagOf (under m r)) 6 && eqb (tagOf (top m r)) 6) (Two (intOf (under m r)) (intOf (top m r))) (two.Wrong 14))
+    (two.Wrong 10)
+
+abbrev pub OperandsFit : Operands → Type 0
+OperandsFit (Two a b) = (a < full) × (b < full)
+OperandsFit (two.Wrong n) = Unit {0}
 
 -- how a call ends
 unfoldable pub calledTo : Res (ℕ × Regs) → Called

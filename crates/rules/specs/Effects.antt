@@ -1,12 +1,13 @@
 -- What the plain rules leave, in eight cases: what holds in each of them holds of every plain rule that goes on. Assumes nothing.
 use mathlib.Core.Path.{_≡_, refl}
-use mathlib.Core.Bool.{Bool, true, false, cond, not}
+use mathlib.Core.Bool.{Bool, true, false, cond, not, _&&_}
 use mathlib.Core.List.{[], _∷_, reverse}
 use mathlib.Core.Option.{Option, none, some}
 use mathlib.Core.Logic.{_⊎_, inl, inr}
 use Prim.Native.Nat.{ℕ, _+_, _-_, _<_, _≤_, _^_}
 use native.Mathlib.Omega.{arith}
-use lib.IntN.{ℤ, pos, negsuc}
+use lib.IntN.{ℤ, _-ℤ_}
+use lib.Signed.{ltZ}
 use lib.ListN.{getD, set, take}
 use lib.Seq.{sets}
 use lib.Dec.{ltb, leb, eqb}
@@ -14,13 +15,15 @@ use borrow.Author.Tests.{ltb-true, leb-true, eqb-true, eqb-false, not-true}
 use Rattle.runs.specs.Runs.{zeroed}
 use Rattle.cells.specs.Cells.{tagOf, trueCell, falseCell, unspecifiedCell, undefinedCell, intCell, closureCell, pairCell, pairFirst, pairSecond, layerCell, ValueCell, cellOf, Fits}
 use Rattle.cells.specs.declared.Value.{Value}
-use Rattle.rules.specs.Total.{totalOf, within32, bits32, allIntegers}
+use Rattle.integers.specs.Integers.{within, intBits, totalOf, allIntegers, isZero, floorQuotient}
+use Rattle.integers.specs.Laws.{bits-fit}
 use Rattle.rules.specs.State.{Mem, mem, regs, Held, Res, ok, wrong, need}
-use Rattle.rules.specs.Rules.{value, found, walk, top, under, partRule, plainRule}
-use Rattle.rules.specs.Rules.{literalRule, closureRule, heldRule, globalRule, setGlobalRule, localRule, setLocalRule, pushRule, makeEnvRule, checkArgsRule, consRule, carRule, cdrRule, eqvRule, addRule}
+use Rattle.rules.specs.Rules.{value, found, walk, top, under, partRule, integerRule, twoIntegers, subtracted, compared, divided, plainRule}
+use Rattle.rules.specs.Rules.{literalRule, closureRule, heldRule, globalRule, setGlobalRule, localRule, setLocalRule, pushRule, makeEnvRule, checkArgsRule}
+use Rattle.rules.specs.Rules.{consRule, carRule, cdrRule, eqvRule, addRule, subRule, lessRule, floorDivRule}
 use Rattle.rules.specs.declared.Regs.{Regs}
 use Rattle.rules.specs.declared.Plain.{Plain}
-use Rattle.rules.specs.declared.Plain.the-variants.{Literal, Closure, Global, SetGlobal, Local, SetLocal, Push, Unspecified, MakeEnv, CheckArgs, Cons, Car, Cdr, Eqv, Add}
+use Rattle.rules.specs.declared.Plain.the-variants.{Literal, Closure, Global, SetGlobal, Local, SetLocal, Push, Unspecified, MakeEnv, CheckArgs, Cons, Car, Cdr, Eqv, Add, Sub, Less, FloorDiv}
 
 -- ---- P of what a rule leaves, where it goes on
 abbrev pub Leaves : {A : Type 0} → (A → Type 0) → Res A → Type 0
@@ -73,11 +76,6 @@ pub record Effects (i : Plain) (m : Mem) (r : Regs) (P : Held → Type 0) : Type
       → P (held (regs (pairCell (r .st) (r .st + 1)) (r .env) 0 (r .st + 2))
       (mem (m .globals) (zeroed (m .stack) 0 (r .sp)) (sets (m .store) (r .st) (under m r ∷ top m r ∷ []))))
 
-bits-fit : (z : ℤ) → within32 z ≡ true → bits32 z < 2 ^ 32
-unfolding within32 bits32
-bits-fit (pos n) h = let k : n < 0x80000000 = ltb-true n 0x80000000 h in omega arith
-bits-fit (negsuc n) h = omega arith
-
 -- ---- constants
 pub unspecified-constant : ConstantCell unspecifiedCell
 unfolding cellOf Fits
@@ -98,8 +96,14 @@ module _ (m : Mem) (r : Regs) (P : Held → Type 0) where
   part-effect i location w f =
       checked P (leb 1 (r .sp)) 10 _ (λ k. checked P (eqb (tagOf (top m r)) 8) 14 _ (λ t. f .primitive _ (from-pair _ (leb-true 1 _ k) (eqb-true _ 8 t) w refl)))
 
+  integer-effect : (i : Plain) (z : ℤ) → Effects i m r P → Leaves P (integerRule z m r)
+  integer-effect i z f = checked P (within z) 15 _ (λ w. f .primitive _ (from-constant (integer-constant (intBits z) (bits-fit z w))))
+
+  two-effect : (f : ℤ → ℤ → Mem → Regs → Res Held) → ((a b : ℤ) → Leaves P (f a b m r)) → Leaves P (twoIntegers f m r)
+  two-effect f h = checked P (eqb (r .sp) 2) 10 _ (λ k. checked P (eqb (tagOf (under m r)) 6 && eqb (tagOf (top m r)) 6) 14 _ (λ l. h _ _))
+
   pub effect : (i : Plain) → Effects i m r P → Leaves P (plainRule i m r)
-  unfolding plainRule literalRule closureRule heldRule globalRule setGlobalRule localRule setLocalRule pushRule makeEnvRule checkArgsRule consRule carRule cdrRule eqvRule addRule
+  unfolding plainRule literalRule closureRule heldRule globalRule setGlobalRule localRule setLocalRule pushRule makeEnvRule checkArgsRule consRule carRule cdrRule eqvRule addRule subRule lessRule floorDivRule
   effect (Literal c) f = f .valued c (from-literal refl)
   effect (Closure t) f = checked P (leb (r .st + 1) 2048) 18 _ (λ k. f .closed t refl (leb-true _ 2048 k))
   effect (Global g) f = checked P (not (eqb (getD (m .globals) g 0) undefinedCell)) 12 _ (λ k. f .valued _ (from-global g refl (eqb-false _ undefinedCell (not-true _ k)) refl))
@@ -119,7 +123,7 @@ module _ (m : Mem) (r : Regs) (P : Held → Type 0) where
   effect Eqv f = checked P (leb 2 (r .sp)) 10 _ (λ k. f .primitive _ (from-constant (truth-constant (eqb (top m r) (under m r)))))
   effect Add f =
       let cs = take (r .sp) (m .stack) in
-      checked P (leb 1 (r .sp)) 10 _
-      (λ k. checked P (allIntegers cs) 14 _
-      (λ t. checked P (within32 (totalOf cs)) 15 _
-      (λ w. f .primitive _ (from-constant (integer-constant (bits32 (totalOf cs)) (bits-fit (totalOf cs) w))))))
+      checked P (leb 1 (r .sp)) 10 _ (λ k. checked P (allIntegers cs) 14 _ (λ t. integer-effect Add _ f))
+  effect Sub f = two-effect subtracted (λ a b. integer-effect Sub (a -ℤ b) f)
+  effect Less f = two-effect compared (λ a b. f .primitive _ (from-constant (truth-constant (ltZ a b))))
+  effect FloorDiv f = two-effect divided (λ a b. checked P (not (isZero b)) 23 (integerRule (floorQuotient a b) m r) (λ k. integer-effect FloorDiv (floorQuotient a b) f))

@@ -1,6 +1,5 @@
 -- The specs of the crate rules.
 pub mod State
-pub mod Total
 pub mod Lists
 pub mod Rules
 pub mod Fit

@@ -1,21 +1,24 @@
--- The rules (document 01, 'Rules'), one clause each, without their code places. Checks in a step: count (10), kind (11, 14), 13, 12, 15,
+-- The rules (document 01, 'Rules'), one clause each, without their code places. Checks in a step: count (10), kind (11, 14), 13, 12, 23, 15,
 -- room (17, 18).
-use mathlib.Core.Bool.{Bool, cond, not}
+use mathlib.Core.Bool.{Bool, cond, not, _&&_}
 use mathlib.Core.List.{List, [], _∷_, reverse}
 use mathlib.Core.Option.{Option, none, some}
 use Prim.Native.Nat.{ℕ, zero, suc, _+_, _-_}
 use lib.ListN.{getD, set, take}
 use lib.Seq.{sets}
 use lib.Dec.{ltb, leb, eqb}
+use lib.IntN.{ℤ, _-ℤ_}
+use lib.Signed.{ltZ}
 use Rattle.runs.specs.Runs.{zeroed, part}
-use Rattle.cells.specs.Cells.{tagOf, falseCell, trueCell, unspecifiedCell, undefinedCell, intCell, closureCell, closureTemplate, closureEnv}
+use Rattle.cells.specs.Cells.{tagOf, falseCell, trueCell, unspecifiedCell, undefinedCell, intCell, intOf, closureCell, closureTemplate}
+use Rattle.cells.specs.Cells.{closureEnv}
 use Rattle.cells.specs.Cells.{pairCell, pairFirst, pairSecond, layerCell, layerParent, layerCount, frameCell, frameCount, frameTemplate, frameEnv, framePlace}
-use Rattle.cells.specs.Numbers.{wrongCount, noClosure, undefined, beyondLayers, wrongKind, outOfRange, stackFull, noRoom}
-use Rattle.rules.specs.Total.{totalOf, within32, bits32, allIntegers}
+use Rattle.integers.specs.Integers.{signed, within, intBits, allIntegers, totalOf, isZero, floorQuotient}
+use Rattle.cells.specs.Numbers.{wrongCount, noClosure, undefined, beyondLayers, wrongKind, outOfRange, stackFull, noRoom, zeroDivisor}
 use Rattle.rules.specs.State.{Mem, mem, regs, Held, Res, ok, wrong, on, need}
 use Rattle.rules.specs.declared.Regs.{Regs}
 use Rattle.rules.specs.declared.Plain.{Plain}
-use Rattle.rules.specs.declared.Plain.the-variants.{Literal, Closure, Global, SetGlobal, Local, SetLocal, Push, Unspecified, MakeEnv, CheckArgs, Cons, Car, Cdr, Eqv, Add}
+use Rattle.rules.specs.declared.Plain.the-variants.{Literal, Closure, Global, SetGlobal, Local, SetLocal, Push, Unspecified, MakeEnv, CheckArgs, Cons, Car, Cdr, Eqv, Add, Sub, Less, FloorDiv}
 
 -- v is c
 abbrev pub value : ℕ → Regs → Regs
@@ -110,12 +113,39 @@ cdrRule m r = partRule pairSecond m r
 unfoldable pub eqvRule : Mem → Regs → Res Held
 eqvRule m r = need (leb 2 (r .sp)) wrongCount (emptied (cond (eqb (top m r) (under m r)) trueCell falseCell) m r)
 
+-- v is the integer z, within its range
+abbrev pub integerRule : ℤ → Mem → Regs → Res Held
+integerRule z m r = need (within z) outOfRange (emptied (intCell (intBits z)) m r)
+
 unfoldable pub addRule : Mem → Regs → Res Held
 addRule m r =
-    need (leb 1 (r .sp)) wrongCount
-    (need (allIntegers (take (r .sp) (m .stack))) wrongKind
-    (need (within32 (totalOf (take (r .sp) (m .stack)))) outOfRange
-    (emptied (intCell (bits32 (totalOf (take (r .sp) (m .stack))))) m r)))
+    need (leb 1 (r .sp)) wrongCount (need (allIntegers (take (r .sp) (m .stack))) wrongKind (integerRule (totalOf (take (r .sp) (m .stack))) m r))
+
+-- exactly two integers, the left operand below the top
+abbrev pub twoIntegers : (ℤ → ℤ → Mem → Regs → Res Held) → Mem → Regs → Res Held
+twoIntegers f m r =
+    need (eqb (r .sp) 2) wrongCount
+    (need (eqb (tagOf (under m r)) 6 && eqb (tagOf (top m r)) 6) wrongKind
+    (f (signed (intOf (under m r))) (signed (intOf (top m r))) m r))
+
+abbrev pub subtracted : ℤ → ℤ → Mem → Regs → Res Held
+subtracted a b = integerRule (a -ℤ b)
+
+abbrev pub compared : ℤ → ℤ → Mem → Regs → Res Held
+compared a b = emptied (cond (ltZ a b) trueCell falseCell)
+
+-- toward minus infinity
+abbrev pub divided : ℤ → ℤ → Mem → Regs → Res Held
+divided a b m r = need (not (isZero b)) zeroDivisor (integerRule (floorQuotient a b) m r)
+
+unfoldable pub subRule : Mem → Regs → Res Held
+subRule m r = twoIntegers subtracted m r
+
+unfoldable pub lessRule : Mem → Regs → Res Held
+lessRule m r = twoIntegers compared m r
+
+unfoldable pub floorDivRule : Mem → Regs → Res Held
+floorDivRule m r = twoIntegers divided m r
 
 -- ---- the plain instructions together
 unfoldable pub plainRule : Plain → Mem → Regs → Res Held
@@ -134,6 +164,9 @@ plainRule Car m r = carRule m r
 plainRule Cdr m r = cdrRule m r
 plainRule Eqv m r = eqvRule m r
 plainRule Add m r = addRule m r
+plainRule Sub m r = subRule m r
+plainRule Less m r = lessRule m r
+plainRule FloorDiv m r = floorDivRule m r
 
 -- ---- call: the closure's template, and its environment
 unfoldable pub callRule : ℕ → Regs → Res (ℕ × Regs)

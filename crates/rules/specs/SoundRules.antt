@@ -20,7 +20,7 @@ use Rattle.rules.specs.Sound.{Layer, EnvOk, layer, Spot, ValueIn, StoreC
 use Rattle.rules.specs.Sound.{value-no-layer, constant-in, spot-value, Grows, grown, more-used, set-case, replaced, lower, env-moved, value-moved, frames-moved, store-moved, inside}
 use Rattle.rules.specs.declared.Regs.{Regs}
 use Rattle.rules.specs.declared.Plain.{Plain}
-use Rattle.rules.specs.declared.Plain.the-variants.{Literal, Closure, Global, SetGlobal, Local, SetLocal, Push, Unspecified, MakeEnv, CheckArgs, Cons, Car, Cdr, Eqv, Add}
+use Rattle.rules.specs.declared.Plain.the-variants.{Literal, Closure, Global, SetGlobal, Local, SetLocal, Push, Unspecified, MakeEnv, CheckArgs, Cons, Car, Cdr, Eqv, Add, Sub, Less, FloorDiv}
 
 -- ---- what a plain instruction is like: a literal is a constant's cell, and numbers are bytes
 abbrev pub PlainOk : Plain → Type 0
@@ -39,6 +39,9 @@ PlainOk Car = Unit {0}
 PlainOk Cdr = Unit {0}
 PlainOk Eqv = Unit {0}
 PlainOk Add = Unit {0}
+PlainOk Sub = Unit {0}
+PlainOk Less = Unit {0}
+PlainOk FloorDiv = Unit {0}
 
 -- ---- lists
 -- P of each element

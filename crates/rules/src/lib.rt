@@ -6,11 +6,14 @@ ghost use lib.ListN.{length, getD, set, take};
 ghost use Rattle.runs.specs.Runs.{zeroed};
 ghost use Rattle.rules.specs.State.{Mem, mem, regs, out};
 ghost use Rattle.rules.specs.Fit.{Fit, EndFit, CallFit};
-ghost use Rattle.rules.specs.Answers.{ends, foundAt, sumOf, calledTo};
+ghost use Rattle.rules.specs.Answers.{ends, foundAt, integerBy, RangedFits, operandsOf, OperandsFit, calledTo};
 ghost use Rattle.rules.specs.Rules.{literalRule, closureRule, heldRule, globalRule, setGlobalRule, walk, localRule, setLocalRule};
-ghost use Rattle.rules.specs.Rules.{pushRule, makeEnvRule, checkArgsRule, consRule, top, partRule, carRule, cdrRule, eqvRule, addRule, plainRule, callRule};
+ghost use Rattle.rules.specs.Rules.{pushRule, makeEnvRule, checkArgsRule, consRule, top, partRule, carRule, cdrRule, eqvRule, addRule, subRule, lessRule, floorDivRule};
+ghost use Rattle.rules.specs.Rules.{plainRule, callRule};
 use cells::pair_first;
 use cells::pair_second;
+use integers::Ranged;
+use integers::Total;
 use runs::copy_down;
 
 // The value, the environment, and how many cells of the stack and of the store are in use.
@@ -44,6 +47,9 @@ pub enum Plain {
     Cdr,
     Eqv,
     Add,
+    Sub,
+    Less,
+    FloorDiv,
 }
 
 // How a call ends: on with a template's code and these registers, or wrong with its number and nothing changed.
@@ -58,11 +64,10 @@ enum Found {
     Beyond(u8),
 }
 
-// The 32 bits of an exact total that is within 32 bits.
-enum Sum {
-    Within(u32),
-    Over,
-    NotIntegers,
+// The bits of two integers, the left one below the top; or wrong with its number.
+enum Operands {
+    Two(u64, u64),
+    Wrong(u8),
 }
 
 // The cell at a place, 0 past the end.
@@ -348,32 +353,14 @@ fn eqv(stack: &mut [u64], r: Regs) -> Stepped
     }
 }
 
-// The sum is exact: partial sums may be out of range. A negative integer's 32 bits are 2 ^ 32 more than it is.
-fn sum_up(s: &[u64], n: usize) -> Sum
-    requires { ⌜ (n ≤ length (now s)) × (n ≤ 256) ⌝ }
-    ensures { λ x. ⌜ x ≡ sumOf (take n (now (s .entry))) ⌝ }
+// v is an integer; 15 where it is out of range.
+fn integer(stack: &mut [u64], x: Ranged, r: Regs) -> Stepped
+    requires { ⌜ (length (now stack) ≡ 256) × Fit r × RangedFits x ⌝ }
+    ensures { λ y. ⌜ ((g t : List ℕ) → out y (mem g (now (stack .exit)) t) ≡ ends (integerBy x) (mem g (now (stack .entry)) t) r) ⌝ }
 {
-    let mut raw: u64 = 0;
-    let mut negatives: u64 = 0;
-    let mut i: usize = 0;
-    while i < n {
-        let c = s[i];
-        if cells::tag_of(c) != 6 {
-            return Sum::NotIntegers;
-        }
-        let x = cells::int_of(c);
-        raw = raw + x as u64;
-        negatives = negatives + (x / 0x8000_0000) as u64;
-        i = i + 1;
-    }
-    let more = 0x1_0000_0000 * negatives;
-    if raw + 0x8000_0000 < more {
-        return Sum::Over;
-    }
-    if raw < more + 0x8000_0000 {
-        Sum::Within((raw % 0x1_0000_0000) as u32)
-    } else {
-        Sum::Over
+    match x {
+        Ranged::Within(bits) => Stepped::Next(emptied(stack, cells::int_cell(bits as u32), r)),
+        Ranged::Over => Stepped::Wrong(15),
     }
 }
 
@@ -385,10 +372,71 @@ fn add(stack: &mut [u64], r: Regs) -> Stepped
     if sp < 1 {
         return Stepped::Wrong(10);
     }
-    match sum_up(stack, sp) {
-        Sum::NotIntegers => Stepped::Wrong(14),
-        Sum::Over => Stepped::Wrong(15),
-        Sum::Within(x) => Stepped::Next(emptied(stack, cells::int_cell(x), r)),
+    match integers::sum_up(stack, sp) {
+        Total::NotIntegers => Stepped::Wrong(14),
+        Total::Exactly(x) => integer(stack, x, r),
+    }
+}
+
+// The bits of exactly two integers.
+fn two_integers(stack: &[u64], r: Regs) -> Operands
+    requires { ⌜ (length (now stack) ≡ 256) × Fit r ⌝ }
+    ensures { λ x. ⌜ ((g t : List ℕ) → x ≡ operandsOf (mem g (now (stack .entry)) t) r) ⌝ }
+    ensures fits { λ x. ⌜ OperandsFit x ⌝ }
+{
+    let sp = r.sp;
+    if sp != 2 {
+        return Operands::Wrong(10);
+    }
+    let left = stack[sp - 2];
+    let right = stack[sp - 1];
+    if cells::tag_of(left) != 6 {
+        return Operands::Wrong(14);
+    }
+    if cells::tag_of(right) != 6 {
+        return Operands::Wrong(14);
+    }
+    Operands::Two(cells::int_of(left) as u64, cells::int_of(right) as u64)
+}
+
+fn sub(stack: &mut [u64], r: Regs) -> Stepped
+    requires { ⌜ (length (now stack) ≡ 256) × Fit r ⌝ }
+    ensures { λ x. ⌜ ((g t : List ℕ) → out x (mem g (now (stack .exit)) t) ≡ ends subRule (mem g (now (stack .entry)) t) r) ⌝ }
+{
+    match two_integers(stack, r) {
+        Operands::Two(a, b) => integer(stack, integers::difference(a, b), r),
+        Operands::Wrong(n) => Stepped::Wrong(n),
+    }
+}
+
+fn less(stack: &mut [u64], r: Regs) -> Stepped
+    requires { ⌜ (length (now stack) ≡ 256) × Fit r ⌝ }
+    ensures { λ x. ⌜ ((g t : List ℕ) → out x (mem g (now (stack .exit)) t) ≡ ends lessRule (mem g (now (stack .entry)) t) r) ⌝ }
+{
+    match two_integers(stack, r) {
+        Operands::Two(a, b) => {
+            if integers::less(a, b) {
+                Stepped::Next(emptied(stack, cells::TRUE, r))
+            } else {
+                Stepped::Next(emptied(stack, cells::FALSE, r))
+            }
+        }
+        Operands::Wrong(n) => Stepped::Wrong(n),
+    }
+}
+
+fn floor_div(stack: &mut [u64], r: Regs) -> Stepped
+    requires { ⌜ (length (now stack) ≡ 256) × Fit r ⌝ }
+    ensures { λ x. ⌜ ((g t : List ℕ) → out x (mem g (now (stack .exit)) t) ≡ ends floorDivRule (mem g (now (stack .entry)) t) r) ⌝ }
+{
+    match two_integers(stack, r) {
+        Operands::Two(a, b) => {
+            if b == 0 {
+                return Stepped::Wrong(23);
+            }
+            integer(stack, integers::floor_div(a, b), r)
+        }
+        Operands::Wrong(n) => Stepped::Wrong(n),
     }
 }
 
@@ -421,6 +469,9 @@ pub fn plain_rule(
         Plain::Cdr => cdr(stack, store, r),
         Plain::Eqv => eqv(stack, r),
         Plain::Add => add(stack, r),
+        Plain::Sub => sub(stack, r),
+        Plain::Less => less(stack, r),
+        Plain::FloorDiv => floor_div(stack, r),
     }
 }
 

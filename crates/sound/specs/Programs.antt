@@ -123,7 +123,10 @@ module _ (own T : ℕ) (es : List Entry) (fit : EntriesOk own T es) where
       (or 19 _ _ tt
       (or 20 _ _ tt
       (or 21 _ _ tt
-      (or 22 _ _ tt tt))))))))))))))
+      (or 22 _ _ tt
+      (or 23 _ _ tt
+      (or 24 _ _ tt
+      (or 25 _ _ tt tt)))))))))))))))))
     where
       or : (n : ℕ) (x y : Option Plain) → ResolvedOk x → ResolvedOk y → ResolvedOk (cond (eqb op n) x y)
       or n x y h k = either ResolvedOk (eqb op n) x y h k

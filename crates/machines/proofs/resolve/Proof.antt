@@ -165,7 +165,25 @@ returns-18 c =
     coded (slotAt (p .table .now) (p .template)) _ 22 (p .a) (p .b) _ (c .match .keys15) refl
 
 returns-19 : tie.Need-returns-19
-returns-19 c = let n = c .match .rest in no-code _ _ _ _ (n .0 .0 .0 .0 .0 .0 .0 .0 .0 .0 .0 .0 .0 .0 .1) (n .0 .0 .0 .0 .0 .0 .0 .0 .0 .0 .0 .0 .0 .1) (n .0 .0 .0 .0 .0 .0 .0 .0 .0 .0 .0 .0 .1) (n .0 .0 .0 .0 .0 .0 .0 .0 .0 .0 .0 .1) (n .0 .0 .0 .0 .0 .0 .0 .0 .0 .0 .1) (n .0 .0 .0 .0 .0 .0 .0 .0 .0 .1) (n .0 .0 .0 .0 .0 .0 .0 .0 .1) (n .0 .0 .0 .0 .0 .0 .0 .1) (n .0 .0 .0 .0 .0 .0 .1) (n .0 .0 .0 .0 .0 .1) (n .0 .0 .0 .0 .1) (n .0 .0 .0 .1) (n .0 .0 .1) (n .0 .1) (n .1)
+unfolding slotResolve ruleOf resolvedAs
+returns-19 c =
+    let p = c .before .before .args in
+    coded (slotAt (p .table .now) (p .template)) _ 23 (p .a) (p .b) _ (c .match .keys16) refl
+
+returns-20 : tie.Need-returns-20
+unfolding slotResolve ruleOf resolvedAs
+returns-20 c =
+    let p = c .before .before .args in
+    coded (slotAt (p .table .now) (p .template)) _ 24 (p .a) (p .b) _ (c .match .keys17) refl
+
+returns-21 : tie.Need-returns-21
+unfolding slotResolve ruleOf resolvedAs
+returns-21 c =
+    let p = c .before .before .args in
+    coded (slotAt (p .table .now) (p .template)) _ 25 (p .a) (p .b) _ (c .match .keys18) refl
+
+returns-22 : tie.Need-returns-22
+returns-22 c = let n = c .match .rest in no-code _ _ _ _ (n .0 .0 .0 .0 .0 .0 .0 .0 .0 .0 .0 .0 .0 .0 .0 .0 .0 .1) (n .0 .0 .0 .0 .0 .0 .0 .0 .0 .0 .0 .0 .0 .0 .0 .0 .1) (n .0 .0 .0 .0 .0 .0 .0 .0 .0 .0 .0 .0 .0 .0 .0 .1) (n .0 .0 .0 .0 .0 .0 .0 .0 .0 .0 .0 .0 .0 .0 .1) (n .0 .0 .0 .0 .0 .0 .0 .0 .0 .0 .0 .0 .0 .1) (n .0 .0 .0 .0 .0 .0 .0 .0 .0 .0 .0 .0 .1) (n .0 .0 .0 .0 .0 .0 .0 .0 .0 .0 .0 .1) (n .0 .0 .0 .0 .0 .0 .0 .0 .0 .0 .1) (n .0 .0 .0 .0 .0 .0 .0 .0 .0 .1) (n .0 .0 .0 .0 .0 .0 .0 .0 .1) (n .0 .0 .0 .0 .0 .0 .0 .1) (n .0 .0 .0 .0 .0 .0 .1) (n .0 .0 .0 .0 .0 .1) (n .0 .0 .0 .0 .1) (n .0 .0 .0 .1) (n .0 .0 .1) (n .0 .1) (n .1)
 
 pub resolve-spec : {M : Type 1} → statement M
 resolve-spec =
@@ -203,4 +221,7 @@ resolve-spec =
     returns-16
     returns-17
     returns-18
-    returns-19)
+    returns-19
+    returns-20
+    returns-21
+    returns-22)

@@ -2,9 +2,10 @@
 use borrow.Author.Needs.{needs}
 use borrow.Author.Tests.{lt-leb}
 use denote.Ref.{now}
+use mathlib.Core.Path.{sym, ap, _∙_}
 use Rattle.rules.specs.Rules.{addRule}
 use Rattle.rules.specs.State.{mem, told}
-use Rattle.rules.proofs.Laws.{added, add-by-sum}
+use Rattle.rules.proofs.Laws.{added, add-by-sum, sum-fits}
 use Rattle.rules.proofs.add.Statement.{statement}
 use Rattle.rules.proofs.add.Tie as tie
 
@@ -18,17 +19,11 @@ sum-up-requires c κs = search needs
 enum-told : tie.Need-enum-told
 enum-told c = search needs
 
-enum-told-2 : tie.Need-enum-told-2
-enum-told-2 c = search needs
-
 enum-known-x : tie.Need-enum-known-x
 enum-known-x c = search needs
 
-int-cell-requires : tie.Need-int-cell-requires
-int-cell-requires c κs = search needs
-
-emptied-requires : tie.Need-emptied-requires
-emptied-requires c κs = search needs
+integer-requires : tie.Need-integer-requires
+integer-requires c κs = (c .before .before .before .before .before .before .before .before .pre .0, c .before .before .before .before .before .before .before .before .pre .1, sum-fits _ _ (sym (c .before .before .before .before .sum-up .ensures) ∙ c .before .before .x .given .1))
 
 same-length : tie.Need-same-length
 same-length c = search needs
@@ -42,14 +37,7 @@ same-length-2 c = search needs
 
 returns-3 : tie.Need-returns-3
 unfolding told added
-returns-3 c = λ g t. rw (add-by-sum (mem g (now (c .before .before .before .before .before .before .args .stack)) t) (c .before .before .before .before .before .before .args .r) (c .before .before .before .before .if1 .left), ← c .before .before .sum-up .ensures, c .enum-told2 .given .1)
-
-same-length-3 : tie.Need-same-length-3
-same-length-3 c = search needs
-
-returns-4 : tie.Need-returns-4
-unfolding told added
-returns-4 c = λ g t. rw (add-by-sum (mem g (now (c .before .before .before .before .before .before .before .before .before .before .before .before .args .stack)) t) (c .before .before .before .before .before .before .before .before .before .before .before .before .args .r) (c .before .before .before .before .before .before .before .before .before .before .if1 .left), ← c .before .before .before .before .before .before .before .before .sum-up .ensures, c .before .before .before .before .before .before .x .given .1, c .before .before .emptied .ensures .0, c .before .before .emptied .ensures .1, c .before .before .before .int-cell .ensures)
+returns-3 c = λ g t. rw (add-by-sum (mem g (now (c .before .before .before .before .before .before .before .before .before .before .before .args .stack)) t) (c .before .before .before .before .before .before .before .before .before .before .before .args .r) (c .before .before .before .before .before .before .before .before .before .if1 .left), ← c .before .before .before .before .before .before .before .sum-up .ensures, c .before .before .before .before .before .x .given .1) (c .before .before .integer .ensures g t)
 
 pub add-spec : {M : Type 1} → statement M
 add-spec =
@@ -58,13 +46,9 @@ add-spec =
     returns
     sum-up-requires
     enum-told
-    enum-told-2
     enum-known-x
-    int-cell-requires
-    emptied-requires
+    integer-requires
     same-length
     returns-2
     same-length-2
-    returns-3
-    same-length-3
-    returns-4)
+    returns-3)

@@ -95,6 +95,24 @@ enum-told-7 c = search needs
 add-requires : tie.Need-add-requires
 add-requires c κs = search needs
 
+enum-told-8 : tie.Need-enum-told-8
+enum-told-8 c = search needs
+
+sub-requires : tie.Need-sub-requires
+sub-requires c κs = search needs
+
+enum-told-9 : tie.Need-enum-told-9
+enum-told-9 c = search needs
+
+less-requires : tie.Need-less-requires
+less-requires c κs = search needs
+
+enum-told-10 : tie.Need-enum-told-10
+enum-told-10 c = search needs
+
+floor-div-requires : tie.Need-floor-div-requires
+floor-div-requires c κs = search needs
+
 returns : tie.Need-returns
 unfolding plainRule
 returns c = ended _ _ _ _ (c .before .before .before .before .before .before .before .args .r) _ (c .before .before .i .given .1) (c .before .before .before .before .before .before .before .pre .3) (c .literal .ensures _)
@@ -203,6 +221,27 @@ returns-15 : tie.Need-returns-15
 unfolding plainRule
 returns-15 c = ended _ _ _ _ (c .before .before .before .before .before .before .before .before .before .args .r) _ (c .before .before .before .before .enum-told7 .given .1) (c .before .before .before .before .before .before .before .before .before .pre .3) (c .before .before .add .ensures _ _)
 
+same-length-17 : tie.Need-same-length-17
+same-length-17 c = search needs
+
+returns-16 : tie.Need-returns-16
+unfolding plainRule
+returns-16 c = ended _ _ _ _ (c .before .before .before .before .before .before .before .before .before .args .r) _ (c .before .before .before .before .enum-told8 .given .1) (c .before .before .before .before .before .before .before .before .before .pre .3) (c .before .before .sub .ensures _ _)
+
+same-length-18 : tie.Need-same-length-18
+same-length-18 c = search needs
+
+returns-17 : tie.Need-returns-17
+unfolding plainRule
+returns-17 c = ended _ _ _ _ (c .before .before .before .before .before .before .before .before .before .args .r) _ (c .before .before .before .before .enum-told9 .given .1) (c .before .before .before .before .before .before .before .before .before .pre .3) (c .before .before .less .ensures _ _)
+
+same-length-19 : tie.Need-same-length-19
+same-length-19 c = search needs
+
+returns-18 : tie.Need-returns-18
+unfolding plainRule
+returns-18 c = ended _ _ _ _ (c .before .before .before .before .before .before .before .before .before .args .r) _ (c .before .before .before .before .enum-told10 .given .1) (c .before .before .before .before .before .before .before .before .before .pre .3) (c .before .before .floor-div .ensures _ _)
+
 pub plain-rule-spec : {M : Type 1} → statement M
 plain-rule-spec =
     tie.close
@@ -237,6 +276,12 @@ plain-rule-spec =
     eqv-requires
     enum-told-7
     add-requires
+    enum-told-8
+    sub-requires
+    enum-told-9
+    less-requires
+    enum-told-10
+    floor-div-requires
     returns
     same-length
     returns-2
@@ -267,4 +312,10 @@ plain-rule-spec =
     same-length-15
     returns-14
     same-length-16
-    returns-15)
+    returns-15
+    same-length-17
+    returns-16
+    same-length-18
+    returns-17
+    same-length-19
+    returns-18)

@@ -1,0 +1,4 @@
+-- Laws of the crate integers.
+pub mod Exact
+pub mod Adding
+pub mod Dividing

@@ -1,0 +1,29 @@
+-- `integers::floor_div` meets its contract. Assumes nothing.
+use borrow.Author.Needs.{needs}
+use mathlib.Core.Path.{_∙_}
+use Rattle.integers.proofs.Dividing.{asked, floor-value}
+use Rattle.integers.proofs.floor_div.Statement.{statement}
+use Rattle.integers.proofs.floor_div.Tie as tie
+
+signed-value-requires : tie.Need-signed-value-requires
+signed-value-requires c κs = search needs
+
+signed-value-requires-2 : tie.Need-signed-value-requires-2
+signed-value-requires-2 c κs = search needs
+
+floor-quotient-requires : tie.Need-floor-quotient-requires
+floor-quotient-requires c κs =
+    asked _ _ _ _ (c .before .signed-value .ensures) (c .signed-value2 .ensures) (c .before .before .pre .1) (c .before .before .pre .2)
+
+in-range-requires : tie.Need-in-range-requires
+in-range-requires c κs = search needs
+
+returns : tie.Need-returns
+returns c =
+    c .in-range .ensures
+    ∙ rw
+    (floor-value _ _ _ _ (c .before .before .before .signed-value .ensures) (c .before .before .signed-value2 .ensures) _
+    (c .before .floor-quotient .ensures))
+
+pub floor-div-spec : {M : Type 1} → statement M
+floor-div-spec = tie.close (tie.spec signed-value-requires signed-value-requires-2 floor-quotient-requires in-range-requires returns)

@@ -1,0 +1,92 @@
+-- `integers::sum_up` meets its contract. The invariant: the sum from here, of what is left, is that of all. Assumes nothing.
+use borrow.Author.Needs.{needs}
+use mathlib.Core.Path.{_≡_, sym, _∙_}
+use Prim.Native.Nat.{_-_, _≤_}
+use native.Mathlib.Omega.{arith}
+use lib.ListN.{take}
+use lib.Seq.{slice}
+use mir.Syntax.{w64}
+use mir.Val.{toZ}
+use Rattle.integers.specs.Answers.{sumOf}
+use Rattle.integers.proofs.Adding.{Near, sumFrom, sum-start, sum-on, sum-other, sum-done, sum-fits, sum-is, sum-near}
+use Rattle.integers.proofs.sum_up.Statement.{statement}
+use Rattle.integers.proofs.sum_up.Tie as tie
+
+abbrev Inv-loop : tie.InvT-loop
+Inv-loop s n total₀ i₀ total i = (i ≤ n) × Near total i × (sumFrom (toZ w64 total) (slice i n s) ≡ sumOf (take n s))
+
+abbrev μ-loop : tie.MeasureT-loop
+μ-loop s n total₀ i₀ total i = n - i
+
+loop-holds : tie.Need-loop-holds Inv-loop μ-loop
+loop-holds c = (omega arith, record { bound = omega arith }, sum-start _)
+
+mul-c : tie.Need-mul-c Inv-loop μ-loop
+mul-c c = search needs
+
+shared-slice-read-c : tie.Need-shared-slice-read-c Inv-loop μ-loop
+shared-slice-read-c c = search needs
+
+tag-of-requires : tie.Need-tag-of-requires Inv-loop μ-loop
+tag-of-requires c κs = search needs
+
+returns : tie.Need-returns Inv-loop μ-loop
+returns c =
+    sym (sum-other _ _ _ _ (c .before .before .before .loop-test .taken) (c .before .before .before .before .before .before .pre .0) (λ k. c .if1 .taken (c .before .tag-of .ensures ∙ k)))
+    ∙ c .before .before .before .before .loop .inv .2
+
+int-of-requires : tie.Need-int-of-requires Inv-loop μ-loop
+int-of-requires c κs = search needs
+
+cast-signed-value : tie.Need-cast-signed-value Inv-loop μ-loop
+cast-signed-value c = search needs
+
+signed-value-requires : tie.Need-signed-value-requires Inv-loop μ-loop
+signed-value-requires c κs = omega (arith, c .int-of .ensures)
+
+add-total : tie.Need-add-total Inv-loop μ-loop
+add-total c =
+    sum-fits (c .before .before .before .before .before .before .loop .inv .1) (omega arith) _ _ (c .signed-value .ensures)
+
+add-i : tie.Need-add-i Inv-loop μ-loop
+add-i c = search needs
+
+loop-less : tie.Need-loop-less Inv-loop μ-loop
+loop-less c = search needs
+
+loop-again : tie.Need-loop-again Inv-loop μ-loop
+loop-again c = (
+  search needs,
+  sum-near (c .before .before .before .before .before .before .loop .inv .1) (omega arith) _ _ (c .signed-value .ensures),
+  rw (sum-is (c .before .before .before .before .before .before .loop .inv .1) (omega arith) _ _ (c .signed-value .ensures), c .before .int-of .ensures)
+      (sym (sum-on _ _ _ _ (c .before .before .before .before .before .loop-test .taken) (c .before .before .before .before .before .before .before .before .pre .0) (sym (c .before .before .before .tag-of .ensures) ∙ c .before .before .if1 .left))
+      ∙ c .before .before .before .before .before .before .loop .inv .2),
+)
+
+in-range-requires : tie.Need-in-range-requires Inv-loop μ-loop
+in-range-requires c κs = search needs
+
+returns-2 : tie.Need-returns-2 Inv-loop μ-loop
+returns-2 c =
+    rw (c .in-range .ensures, ← c .before .before .loop .inv .2, sum-done _ _ _ _ (c .before .before .loop .inv .0) (c .before .loop-test .left))
+
+pub sum-up-spec : {M : Type 1} → statement M
+sum-up-spec =
+    tie.close
+    (tie.spec
+    Inv-loop
+    μ-loop
+    loop-holds
+    mul-c
+    shared-slice-read-c
+    tag-of-requires
+    returns
+    int-of-requires
+    cast-signed-value
+    signed-value-requires
+    add-total
+    add-i
+    loop-less
+    loop-again
+    in-range-requires
+    returns-2)

@@ -1,0 +1,63 @@
+-- `rules::floor_div` meets its contract: the rule goes by the two operands, and by whether the right one is zero. Assumes nothing.
+use borrow.Author.Needs.{needs}
+use denote.Ref.{now}
+use borrow.Author.Tests.{eq-eqb, ne-eqb}
+use mathlib.Core.Path.{sym, ap, _∙_}
+use mathlib.Core.Bool.{not}
+use Rattle.rules.specs.State.{mem, told}
+use Rattle.rules.specs.Rules.{divided, floorDivRule}
+use Rattle.rules.proofs.Laws.{two-are, two-wrong, integer-of, fits-of, by-zero, by-other}
+use Rattle.rules.proofs.floor_div.Statement.{statement}
+use Rattle.rules.proofs.floor_div.Tie as tie
+
+two-integers-requires : tie.Need-two-integers-requires
+two-integers-requires c κs = search needs
+
+enum-known-a : tie.Need-enum-known-a
+enum-known-a c = search needs
+
+same-length : tie.Need-same-length
+same-length c = search needs
+
+returns : tie.Need-returns
+unfolding told floorDivRule
+returns c = λ g t. ap (told (mem g (now (c .before .before .before .before .before .before .before .args .stack)) t)) (by-zero _ _ (mem g (now (c .before .before .before .before .before .before .before .args .stack)) t) (c .before .before .before .before .before .before .before .args .r) ((rw (c .before .before .a .given .1) at (c .before .before .before .before .two-integers .ensures .1)) .1) (c .if1 .taken) ∙ two-are divided (mem g (now (c .before .before .before .before .before .before .before .args .stack)) t) (c .before .before .before .before .before .before .before .args .r) _ (c .before .before .before .before .two-integers .ensures .0 g t) _ _ (c .before .before .a .given .1))
+
+floor-div-requires : tie.Need-floor-div-requires
+floor-div-requires c κs = let h = rw (c .before .before .before .a .given .1) at (c .before .before .before .before .before .two-integers .ensures .1) in (h .0, h .1, c .before .if1 .left)
+
+integer-requires : tie.Need-integer-requires
+integer-requires c κs = (c .before .before .before .before .before .before .before .before .before .pre .0, c .before .before .before .before .before .before .before .before .before .pre .1, fits-of _ _ (c .floor-div .ensures))
+
+enum-known-n : tie.Need-enum-known-n
+enum-known-n c = search needs
+
+same-length-2 : tie.Need-same-length-2
+same-length-2 c = search needs
+
+returns-2 : tie.Need-returns-2
+unfolding floorDivRule
+returns-2 c = λ g t. c .before .before .integer .ensures g t ∙ ap (told (mem g (now (c .before .before .before .before .before .before .before .before .before .before .before .before .args .stack)) t)) (integer-of _ _ _ _ (c .before .before .before .floor-div .ensures) ∙ by-other _ _ (mem g (now (c .before .before .before .before .before .before .before .before .before .before .before .before .args .stack)) t) (c .before .before .before .before .before .before .before .before .before .before .before .before .args .r) ((rw (c .before .before .before .before .before .before .before .a .given .1) at (c .before .before .before .before .before .before .before .before .before .two-integers .ensures .1)) .1) (c .before .before .before .before .before .if1 .left) ∙ two-are divided (mem g (now (c .before .before .before .before .before .before .before .before .before .before .before .before .args .stack)) t) (c .before .before .before .before .before .before .before .before .before .before .before .before .args .r) _ (c .before .before .before .before .before .before .before .before .before .two-integers .ensures .0 g t) _ _ (c .before .before .before .before .before .before .before .a .given .1))
+
+same-length-3 : tie.Need-same-length-3
+same-length-3 c = search needs
+
+returns-3 : tie.Need-returns-3
+unfolding told floorDivRule
+returns-3 c = λ g t. ap (told (mem g (now (c .before .before .before .before .before .before .args .stack)) t)) (two-wrong divided (mem g (now (c .before .before .before .before .before .before .args .stack)) t) (c .before .before .before .before .before .before .args .r) _ (c .before .before .before .two-integers .ensures .0 g t) _ (c .before .n .given .1))
+
+pub floor-div-spec : {M : Type 1} → statement M
+floor-div-spec =
+    tie.close
+    (tie.spec
+    two-integers-requires
+    enum-known-a
+    same-length
+    returns
+    floor-div-requires
+    integer-requires
+    enum-known-n
+    same-length-2
+    returns-2
+    same-length-3
+    returns-3)

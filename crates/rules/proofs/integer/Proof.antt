@@ -1,0 +1,46 @@
+-- `rules::integer` meets its contract: the rule goes by whether the number is in range. Assumes nothing.
+use borrow.Author.Needs.{needs}
+use native.Mathlib.Omega.{arith}
+use Rattle.rules.specs.Answers.{integerBy}
+use Rattle.rules.specs.State.{told}
+use Rattle.rules.proofs.integer.Statement.{statement}
+use Rattle.rules.proofs.integer.Tie as tie
+
+enum-known-x : tie.Need-enum-known-x
+enum-known-x c = search needs
+
+cast-int-cell : tie.Need-cast-int-cell
+cast-int-cell c = let h = rw (c .before .before .x .given .1) at (c .before .before .before .before .before .pre .2) in omega arith
+
+int-cell-requires : tie.Need-int-cell-requires
+int-cell-requires c κs = search needs
+
+emptied-requires : tie.Need-emptied-requires
+emptied-requires c κs = search needs
+
+enum-told : tie.Need-enum-told
+enum-told c = search needs
+
+same-length : tie.Need-same-length
+same-length c = search needs
+
+returns : tie.Need-returns
+unfolding told integerBy
+returns c = λ g t. rw (c .before .before .before .before .before .before .x .given .1, c .before .before .emptied .ensures .0, c .before .before .emptied .ensures .1, c .before .before .before .int-cell .ensures)
+
+returns-2 : tie.Need-returns-2
+unfolding told integerBy
+returns-2 c = λ g t. rw (c .enum-told .given .1)
+
+pub integer-spec : {M : Type 1} → statement M
+integer-spec =
+    tie.close
+    (tie.spec
+    enum-known-x
+    cast-int-cell
+    int-cell-requires
+    emptied-requires
+    enum-told
+    same-length
+    returns
+    returns-2)

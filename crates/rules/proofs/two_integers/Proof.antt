@@ -1,0 +1,78 @@
+-- `rules::two_integers` meets its contract: by its tests, in their order. Assumes nothing.
+use borrow.Author.Needs.{needs}
+use denote.Ref.{now}
+use native.Mathlib.Omega.{arith}
+use mathlib.Core.Path.{sym, _∙_}
+use Rattle.rules.specs.State.{mem}
+use Rattle.rules.proofs.Laws.{operands-count, operands-left, operands-right, operands-two}
+use Rattle.rules.proofs.two_integers.Statement.{statement}
+use Rattle.rules.proofs.two_integers.Tie as tie
+
+returns : tie.Need-returns
+returns c = (λ g t. operands-count (mem g (now (c .before .before .args .stack)) t) (c .before .before .args .r) (λ e. omega (arith, e, c .if1 .taken)), tt)
+
+sub-left : tie.Need-sub-left
+sub-left c = search needs
+
+mul-left : tie.Need-mul-left
+mul-left c = search needs
+
+shared-slice-read-left : tie.Need-shared-slice-read-left
+shared-slice-read-left c = search needs
+
+sub-right : tie.Need-sub-right
+sub-right c = search needs
+
+mul-right : tie.Need-mul-right
+mul-right c = search needs
+
+shared-slice-read-right : tie.Need-shared-slice-read-right
+shared-slice-read-right c = search needs
+
+tag-of-requires : tie.Need-tag-of-requires
+tag-of-requires c κs = search needs
+
+returns-2 : tie.Need-returns-2
+returns-2 c = (λ g t. operands-left (mem g (now (c .before .before .before .before .before .before .args .stack)) t) (c .before .before .before .before .before .before .args .r) (c .before .before .before .before .if1 .left) (λ k. c .if2 .taken (c .before .tag-of .ensures ∙ k)), tt)
+
+tag-of-requires-2 : tie.Need-tag-of-requires-2
+tag-of-requires-2 c κs = search needs
+
+returns-3 : tie.Need-returns-3
+returns-3 c = (λ g t. operands-right (mem g (now (c .before .before .before .before .before .before .before .before .args .stack)) t) (c .before .before .before .before .before .before .before .before .args .r) (c .before .before .before .before .before .before .if1 .left) (sym (c .before .before .before .tag-of .ensures) ∙ c .before .before .if2 .left) (λ k. c .if3 .taken (c .before .tag-of2 .ensures ∙ k)), tt)
+
+int-of-requires : tie.Need-int-of-requires
+int-of-requires c κs = search needs
+
+cast-t10 : tie.Need-cast-t10
+cast-t10 c = search needs
+
+int-of-requires-2 : tie.Need-int-of-requires-2
+int-of-requires-2 c κs = search needs
+
+cast-t14 : tie.Need-cast-t14
+cast-t14 c = search needs
+
+returns-4 : tie.Need-returns-4
+returns-4 c = (λ g t. rw (c .before .int-of .ensures, c .int-of2 .ensures) (operands-two (mem g (now (c .before .before .before .before .before .before .before .before .before .before .args .stack)) t) (c .before .before .before .before .before .before .before .before .before .before .args .r) (c .before .before .before .before .before .before .before .before .if1 .left) (sym (c .before .before .before .before .before .tag-of .ensures) ∙ c .before .before .before .before .if2 .left) (sym (c .before .before .before .tag-of2 .ensures) ∙ c .before .before .if3 .left)), (omega (arith, c .before .int-of .ensures), omega (arith, c .int-of2 .ensures)))
+
+pub two-integers-spec : {M : Type 1} → statement M
+two-integers-spec =
+    tie.close
+    (tie.spec
+    returns
+    sub-left
+    mul-left
+    shared-slice-read-left
+    sub-right
+    mul-right
+    shared-slice-read-right
+    tag-of-requires
+    returns-2
+    tag-of-requires-2
+    returns-3
+    int-of-requires
+    cast-t10
+    int-of-requires-2
+    cast-t14
+    returns-4)
