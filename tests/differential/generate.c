@@ -228,7 +228,7 @@ static bool write_make_env(Writer *w, Path *p)
 
 static bool write_primitive(Writer *w, Path *p, unsigned code)
 {
-    bool fits = code == ADD ? p->depth >= 1 && p->integers
+    bool fits = code == ADD ? p->integers
         : code >= SUB && code <= FLOOR_DIV ? p->depth == 2 && p->integers
         : code == CAR || code == CDR ? p->depth >= 1 && p->top == PAIR : p->depth >= 2;
     if (!fits && !slip(w))

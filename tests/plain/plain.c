@@ -700,8 +700,6 @@ RULE unsigned integer_result(Machine *m, int64_t value)
 RULE unsigned add(Machine *m)
 {
     int64_t total = 0;
-    if (m->on_stack < 1)
-        return 10;
     for (uint32_t i = 0; i < m->on_stack; i++) {
         if (tag_of(m->stack[i]) != INTEGER_TAG)
             return 14;

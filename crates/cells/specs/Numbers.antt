@@ -40,7 +40,7 @@ abbrev pub shortOutput : ℕ
 shortOutput = 9
 
 -- ---- 'Rules': wrong ends
--- 10 the stack does not hold so many: makeEnvRule, checkArgsRule, callRule, keepRule, consRule, partRule, eqvRule, addRule, twoIntegers (rules, Rules)
+-- 10 the stack does not hold so many: makeEnvRule, checkArgsRule, callRule, keepRule, consRule, partRule, eqvRule, twoIntegers (rules, Rules)
 abbrev pub wrongCount : ℕ
 wrongCount = 10
 

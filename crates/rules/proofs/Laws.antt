@@ -84,9 +84,9 @@ unfoldable pub added : Total → Mem → Regs → Res Held
 added (Exactly x) m r = integerBy x m r
 added NotIntegers m r = wrong 14
 
-pub add-by-sum : (m : Mem) (r : Regs) → 1 ≤ r .sp → addRule m r ≡ added (sumOf (take (r .sp) (m .stack))) m r
+pub add-by-sum : (m : Mem) (r : Regs) → addRule m r ≡ added (sumOf (take (r .sp) (m .stack))) m r
 unfolding addRule sumOf added
-add-by-sum m r h = rw (le-leb 1 (r .sp) h) (pick (allIntegers (take (r .sp) (m .stack))) (totalOf (take (r .sp) (m .stack))))
+add-by-sum m r = pick (allIntegers (take (r .sp) (m .stack))) (totalOf (take (r .sp) (m .stack)))
   where
     pick : (b : Bool) (z : ℤ) → need b 14 (integerRule z m r) ≡ added (cond b (Exactly (rangedOf z)) NotIntegers) m r
     pick true z = integer-by z m r

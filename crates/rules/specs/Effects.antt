@@ -121,9 +121,7 @@ module _ (m : Mem) (r : Regs) (P : Held → Type 0) where
   effect Car f = part-effect Car pairFirst (inl refl) f
   effect Cdr f = part-effect Cdr pairSecond (inr refl) f
   effect Eqv f = checked P (leb 2 (r .sp)) 10 _ (λ k. f .primitive _ (from-constant (truth-constant (eqb (top m r) (under m r)))))
-  effect Add f =
-      let cs = take (r .sp) (m .stack) in
-      checked P (leb 1 (r .sp)) 10 _ (λ k. checked P (allIntegers cs) 14 _ (λ t. integer-effect Add _ f))
+  effect Add f = checked P (allIntegers (take (r .sp) (m .stack))) 14 _ (λ t. integer-effect Add _ f)
   effect Sub f = two-effect subtracted (λ a b. integer-effect Sub (a -ℤ b) f)
   effect Less f = two-effect compared (λ a b. f .primitive _ (from-constant (truth-constant (ltZ a b))))
   effect FloorDiv f = two-effect divided (λ a b. checked P (not (isZero b)) 23 (integerRule (floorQuotient a b) m r) (λ k. integer-effect FloorDiv (floorQuotient a b) f))

@@ -58,8 +58,7 @@ module _ (m : Mem) (r : Regs) where
   plain-never Car = need-other (leb 1 (r .sp)) 10 (λ e. omega arith) (need-other (eqb (tagOf (top m r)) 8) 14 (λ e. omega arith) goes-on)
   plain-never Cdr = need-other (leb 1 (r .sp)) 10 (λ e. omega arith) (need-other (eqb (tagOf (top m r)) 8) 14 (λ e. omega arith) goes-on)
   plain-never Eqv = need-other (leb 2 (r .sp)) 10 (λ e. omega arith) goes-on
-  plain-never Add =
-      need-other (leb 1 (r .sp)) 10 (λ e. omega arith) (need-other (allIntegers (take (r .sp) (m .stack))) 14 (λ e. omega arith) (integer-never _))
+  plain-never Add = need-other (allIntegers (take (r .sp) (m .stack))) 14 (λ e. omega arith) (integer-never _)
   plain-never Sub = two-never subtracted (λ a b. integer-never (a -ℤ b))
   plain-never Less = two-never compared (λ a b. goes-on)
   plain-never FloorDiv = two-never divided (λ a b. need-other (not (isZero b)) 23 (λ e. omega arith) (integer-never (floorQuotient a b)))

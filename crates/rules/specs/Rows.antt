@@ -12,12 +12,13 @@ use Rattle.rules.specs.Rules.{addRule, subRule, lessRule, floorDivRule}
 abbrev added : ℕ → List ℕ → Res Held
 added n cells = addRule (mem [] cells []) (regs unspecifiedCell 0 n 0)
 
--- 2,147,483,647 and 1 and -1: the exact total is in range; without the -1 it is not
+-- 2,147,483,647 and 1 and -1: the exact total is in range; without the -1 it is not; -5 and 2; and nothing
 exact : (added 3 (intCell 0x7FFFFFFF ∷ intCell 1 ∷ intCell 0xFFFFFFFF ∷ []) ≡ on (regs (intCell 0x7FFFFFFF) 0 0 0) (mem [] (0 ∷ 0 ∷ 0 ∷ []) []))
     × (added 2 (intCell 0x7FFFFFFF ∷ intCell 1 ∷ []) ≡ wrong 15)
     × (added 2 (intCell 0xFFFFFFFB ∷ intCell 2 ∷ []) ≡ on (regs (intCell 0xFFFFFFFD) 0 0 0) (mem [] (0 ∷ 0 ∷ []) []))
+    × (added 0 [] ≡ on (regs (intCell 0) 0 0 0) (mem [] [] []))
 unfolding addRule signed totalOf within intBits allIntegers
-exact = (refl, refl, refl)
+exact = (refl, refl, refl, refl)
 
 -- what a rule leaves of the left operand a and the right operand b: v, or its wrong end
 abbrev onTwo : (Mem → Regs → Res Held) → ℕ → ℕ → Res Held

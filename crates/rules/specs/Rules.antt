@@ -117,9 +117,9 @@ eqvRule m r = need (leb 2 (r .sp)) wrongCount (emptied (cond (eqb (top m r) (und
 abbrev pub integerRule : ℤ → Mem → Regs → Res Held
 integerRule z m r = need (within z) outOfRange (emptied (intCell (intBits z)) m r)
 
+-- a sum of nothing is 0
 unfoldable pub addRule : Mem → Regs → Res Held
-addRule m r =
-    need (leb 1 (r .sp)) wrongCount (need (allIntegers (take (r .sp) (m .stack))) wrongKind (integerRule (totalOf (take (r .sp) (m .stack))) m r))
+addRule m r = need (allIntegers (take (r .sp) (m .stack))) wrongKind (integerRule (totalOf (take (r .sp) (m .stack))) m r)
 
 -- exactly two integers, the left operand below the top
 abbrev pub twoIntegers : (ℤ → ℤ → Mem → Regs → Res Held) → Mem → Regs → Res Held

@@ -368,11 +368,7 @@ fn add(stack: &mut [u64], r: Regs) -> Stepped
     requires { ⌜ (length (now stack) ≡ 256) × Fit r ⌝ }
     ensures { λ x. ⌜ ((g t : List ℕ) → out x (mem g (now (stack .exit)) t) ≡ ends addRule (mem g (now (stack .entry)) t) r) ⌝ }
 {
-    let sp = r.sp;
-    if sp < 1 {
-        return Stepped::Wrong(10);
-    }
-    match integers::sum_up(stack, sp) {
+    match integers::sum_up(stack, r.sp) {
         Total::NotIntegers => Stepped::Wrong(14),
         Total::Exactly(x) => integer(stack, x, r),
     }

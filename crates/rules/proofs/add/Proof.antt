@@ -1,17 +1,11 @@
 -- `rules::add` meets its contract: the rule goes by what `sum_up` answers. Assumes nothing.
 use borrow.Author.Needs.{needs}
-use borrow.Author.Tests.{lt-leb}
 use denote.Ref.{now}
-use mathlib.Core.Path.{sym, ap, _∙_}
-use Rattle.rules.specs.Rules.{addRule}
+use mathlib.Core.Path.{sym, _∙_}
 use Rattle.rules.specs.State.{mem, told}
 use Rattle.rules.proofs.Laws.{added, add-by-sum, sum-fits}
 use Rattle.rules.proofs.add.Statement.{statement}
 use Rattle.rules.proofs.add.Tie as tie
-
-returns : tie.Need-returns
-unfolding told addRule
-returns c = λ g t. rw (lt-leb _ _ (c .if1 .taken))
 
 sum-up-requires : tie.Need-sum-up-requires
 sum-up-requires c κs = search needs
@@ -23,32 +17,31 @@ enum-known-x : tie.Need-enum-known-x
 enum-known-x c = search needs
 
 integer-requires : tie.Need-integer-requires
-integer-requires c κs = (c .before .before .before .before .before .before .before .before .pre .0, c .before .before .before .before .before .before .before .before .pre .1, sum-fits _ _ (sym (c .before .before .before .before .sum-up .ensures) ∙ c .before .before .x .given .1))
+integer-requires c κs = (c .before .before .before .before .before .before .before .pre .0, c .before .before .before .before .before .before .before .pre .1, sum-fits _ _ (sym (c .before .before .before .before .sum-up .ensures) ∙ c .before .before .x .given .1))
 
 same-length : tie.Need-same-length
 same-length c = search needs
 
-returns-2 : tie.Need-returns-2
+returns : tie.Need-returns
 unfolding told added
-returns-2 c = λ g t. rw (add-by-sum (mem g (now (c .before .before .before .before .before .before .args .stack)) t) (c .before .before .before .before .before .before .args .r) (c .before .before .before .before .if1 .left), ← c .before .before .sum-up .ensures, c .enum-told .given .1)
+returns c = λ g t. rw (add-by-sum (mem g (now (c .before .before .before .before .before .args .stack)) t) (c .before .before .before .before .before .args .r), ← c .before .before .sum-up .ensures, c .enum-told .given .1)
 
 same-length-2 : tie.Need-same-length-2
 same-length-2 c = search needs
 
-returns-3 : tie.Need-returns-3
+returns-2 : tie.Need-returns-2
 unfolding told added
-returns-3 c = λ g t. rw (add-by-sum (mem g (now (c .before .before .before .before .before .before .before .before .before .before .before .args .stack)) t) (c .before .before .before .before .before .before .before .before .before .before .before .args .r) (c .before .before .before .before .before .before .before .before .before .if1 .left), ← c .before .before .before .before .before .before .before .sum-up .ensures, c .before .before .before .before .before .x .given .1) (c .before .before .integer .ensures g t)
+returns-2 c = λ g t. rw (add-by-sum (mem g (now (c .before .before .before .before .before .before .before .before .before .before .args .stack)) t) (c .before .before .before .before .before .before .before .before .before .before .args .r), ← c .before .before .before .before .before .before .before .sum-up .ensures, c .before .before .before .before .before .x .given .1) (c .before .before .integer .ensures g t)
 
 pub add-spec : {M : Type 1} → statement M
 add-spec =
     tie.close
     (tie.spec
-    returns
     sum-up-requires
     enum-told
     enum-known-x
     integer-requires
     same-length
-    returns-2
+    returns
     same-length-2
-    returns-3)
+    returns-2)
