@@ -1,6 +1,7 @@
 -- The specs of the crate agree.
 pub mod Suits
 pub mod Layout
+pub mod Decoded
 pub mod Places
 pub mod Files
 pub mod Demand3

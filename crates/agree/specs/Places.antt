@@ -20,12 +20,13 @@ use Rattle.files.specs.Tree.{Template}
 use Rattle.files.specs.Linear.{Linear}
 use Rattle.rules.specs.declared.Plain.{Plain}
 use Rattle.machines.specs.Fetched.{Fetched, returns, calls, branches, saves, jumps, plainly, resolve, openCount, first}
-use Rattle.machines.specs.Fetched.{neutralIn, callIn, branchIn, contIn, jumpIn, decode, noTemplate, noLinear, treeAt, linearAt}
+use Rattle.machines.specs.Fetched.{decode, noTemplate, noLinear, treeAt, linearAt}
 use Rattle.machines.specs.Machine.{treeProgram, linearProgram}
 use Rattle.machines.specs.Resolved.{Resolves, resolves, fits-resolves}
 use Rattle.lockstep.specs.Lockstep.{Match, plainM, returnM, callM, branchM, saveM, Meets, nowM, jumpM, Agree}
 use Rattle.agree.specs.Suits.{is-true, Only, Shut, Open, either, Ok}
 use Rattle.agree.specs.Layout.{At, at-skip, at-take, at-within, Sub, sub-neutral, sub-first, sub-second, sub-rest, sub-saved, sub-next, Spot, here, leap, Close, nothing-after, flows, stands}
+use Rattle.agree.specs.Decoded as decoded
 use Rattle.lockstep.specs.Same.{same-but-places}
 
 -- a template of a tree file, and the same of its linear file
@@ -78,35 +79,6 @@ module _ (ts : List Template) (ls : List Linear) (twins : (t : ℕ) → Twins (g
     unfolding linearAt
     lin-is q = rw (twins t .same-entries, twins t .same-code)
 
-    -- what the linear machine finds at each kind of instruction
-    lin-neutral : {op q : ℕ} (ns ys : List ℕ) → isNeutral op ≡ true → operands op ≡ length ns → At W q (op ∷ ns ++ ys)
-        → lin q ≡ plainly (resolve es op ns) (q + (1 + length ns))
-    unfolding decode neutralIn
-    lin-neutral {op} {q} ns ys n o a =
-        let z : List ℕ = ys ++ a .rest in
-        let l : length ns ≤ length (ns ++ z) = simp length-append (omega arith) in
-        lin-is q ∙ rw (a .is, n, neutral-alike op n ∙ o, append-assoc ns ys (a .rest), is-true (leb (length ns) (length (ns ++ z))) (le→leb _ _ l), take-append-seam ns z)
-
-    lin-return : {q : ℕ} {ys : List ℕ} → At W q (1 ∷ ys) → lin q ≡ returns
-    unfolding decode isNeutral shapeOf
-    lin-return {q} a = lin-is q ∙ rw (a .is)
-
-    lin-call : {q n : ℕ} {ys : List ℕ} → At W q (2 ∷ n ∷ ys) → lin q ≡ calls n
-    unfolding decode isNeutral shapeOf callIn
-    lin-call {q} a = lin-is q ∙ rw (a .is)
-
-    lin-branch : {q h l : ℕ} {ys : List ℕ} → At W q (3 ∷ h ∷ l ∷ ys) → lin q ≡ branches 0 (q + 3) (q + 3 + (256 * h + l))
-    unfolding decode isNeutral shapeOf branchIn
-    lin-branch {q} a = lin-is q ∙ rw (a .is)
-
-    lin-save : {q h l n : ℕ} {ys : List ℕ} → At W q (4 ∷ h ∷ l ∷ n ∷ ys) → lin q ≡ saves n (q + 4 + (256 * h + l)) (q + 4)
-    unfolding decode isNeutral shapeOf contIn
-    lin-save {q} a = lin-is q ∙ rw (a .is)
-
-    lin-jump : {q h l : ℕ} {ys : List ℕ} → At W q (5 ∷ h ∷ l ∷ ys) → lin q ≡ jumps (q + 3 + (256 * h + l))
-    unfolding decode isNeutral shapeOf jumpIn
-    lin-jump {q} a = lin-is q ∙ rw (a .is)
-
     plains : {m : Option Plain} {p q j : ℕ} → Resolves m → Pair t p t q j → MatchAt (plainly m p) (plainly m q) j
     unfolding plainly same-but-places
     plains resolves r = plainM refl r
@@ -132,7 +104,7 @@ module _ (ts : List Template) (ls : List Linear) (twins : (t : ℕ) → Twins (g
           → q + length (flat (neutral op ns r)) ≡ e → MeetsAt (first es s (neutral op ns r) F) q j
       unfolding Ok flat first indicesFit eachNeutral
       at-neutral {op} {ns} {r} o u a h =
-          nowM (lin-neutral ns (flat r) (o .0) (o .1) a)
+          nowM (lin-is _ ∙ decoded.lin-neutral es W ns (flat r) (o .0) (o .1) a)
           (plains (fits-resolves es op ns (o .0) (and-eq-true-iff (indexFits es op (getD ns 0 0)) (indicesFit es r) .0 (u .indexed) .0))
           (both (o .2) (sub-neutral es tree u) (at-skip W (op ∷ ns) (flat r) a (omega arith)) (omega (arith, length-append ns (flat r))) z))
 
@@ -147,7 +119,7 @@ module _ (ts : List Template) (ls : List Linear) (twins : (t : ℕ) → Twins (g
           let l = length-append y (flat x) in
           let i = twins t .linear-fits in
           let f : s + 13 + bits x ≤ 2 ^ 24 = sub-saved es tree u .bound in
-          nowM (lin-save a)
+          nowM (lin-is _ ∙ decoded.lin-save es W a)
           (saveM {p₁ = s + 13} {p₂ = s + 13 + bits x} {q₁ = q + 4 + (256 * (length y / 256) + length y % 256)} {q₂ = q + 4}
           (record {
             n-fits = o .0;
@@ -173,7 +145,7 @@ module _ (ts : List Template) (ls : List Linear) (twins : (t : ℕ) → Twins (g
           let b : At W (q + 3) (X ++ (Y ++ flat r)) = at-skip W (3 ∷ length X / 256 ∷ length X % 256 ∷ []) (X ++ (Y ++ flat r)) a (omega arith) in
           let b₁ : At W (q + 3 + (256 * (length X / 256) + length X % 256)) (Y ++ flat r) = at-skip W X (Y ++ flat r) b (omega arith) in
           rw (shut-zero z (o .0))
-          (nowM (lin-branch a)
+          (nowM (lin-is _ ∙ decoded.lin-branch es W a)
           (branchM {o = 0} {q₁ = q + 3} {q₂ = q + 3 + (256 * (length X / 256) + length X % 256)} {j = 0} {j₁ = 0} (omega arith) (omega arith)
           (both ox ux (at-take W X (Y ++ flat r) b) refl nothing-after)
           (both oy uy (at-take W Y (flat r) b₁) refl nothing-after)))
@@ -192,17 +164,17 @@ module _ (ts : List Template) (ls : List Linear) (twins : (t : ℕ) → Twins (g
           let b₂ : At W (q + 3 + length X + 3) (Y ++ R) = at-skip W (5 ∷ length Y / 256 ∷ length Y % 256 ∷ []) (Y ++ R) b₁ (omega arith) in
           let f : Spot es tree W lin (first es (s + 5 + bits x + bits y) r F) (q + 3 + length X + 3 + (256 * (length Y / 256) + length Y % 256)) j =
           here {q = q + 3 + length X + 3 + (256 * (length Y / 256) + length Y % 256)} {e = e} refl o u (at-skip W Y R b₂ (omega arith)) (omega arith) z in
-          nowM (lin-branch a)
+          nowM (lin-is _ ∙ decoded.lin-branch es W a)
           (branchM {o = 1} {q₁ = q + 3} {q₂ = q + 3 + (256 * ((3 + length X) / 256) + (3 + length X) % 256)} {j = j} {j₁ = suc j} (omega arith) (omega arith)
-          (both ox ux (at-take W X J b) refl (flows (leap (lin-jump b₁) f)))
+          (both ox ux (at-take W X J b) refl (flows (leap (lin-is _ ∙ decoded.lin-jump es W b₁) f)))
           (both oy uy (at-take W Y R (at-skip W (5 ∷ length Y / 256 ∷ length Y % 256 ∷ []) (Y ++ R) b₁ (omega arith))) (omega arith) (flows f)))
 
       heads : (c : Code) → Ok k c → Sub es tree s c F → At W q (flat c) → q + length (flat c) ≡ e → Follow k F e j → MeetsAt (first es s c F) q j
       unfolding Ok flat first
       heads done o u a h f = at-end k o h f
       heads (neutral op ns r) o u a h f = at-neutral o u a h
-      heads (return r) o u a h f = rw (shut-zero z (o .0)) (nowM (lin-return a) returnM)
-      heads (call n r) o u a h f = rw (shut-zero z (o .0)) (nowM (lin-call a) callM)
+      heads (return r) o u a h f = rw (shut-zero z (o .0)) (nowM (lin-is _ ∙ decoded.lin-return es W a) returnM)
+      heads (call n r) o u a h f = rw (shut-zero z (o .0)) (nowM (lin-is _ ∙ decoded.lin-call es W a) callM)
       heads (unless-false x y r) o u a h f =
           at-unless (isClosed x) (o .0) (o .1) (o .2) (sub-first es tree u) (sub-second es tree u) (sub-rest es tree u) a h
       heads (make-cont n x r) o u a h f = at-cont o u a h

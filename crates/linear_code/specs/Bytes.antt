@@ -3,26 +3,18 @@ use Prim.Native.Nat.{ℕ, _+_, _/_, _%_, _<_, _≤_}
 use mathlib.Core.Path.{_≡_}
 use mathlib.Core.Bool.{cond}
 use mathlib.Core.List.{List, [], _∷_}
-use lib.Dec.{leb, eqb}
+use lib.Dec.{eqb}
 use lib.ListN.{length, getD, take, drop}
-use Rattle.files.specs.Codes.{operandBytes}
-use Rattle.machines.specs.Fetched.{Fetched, returns, bad, plainly, callIn, branchIn, contIn, jumpIn}
+use Rattle.machines.specs.Fetched.{Fetched, bad, plainly, transfer, within}
 use Rattle.machines.specs.Machine.{Program}
 use Rattle.machines.specs.Slots.{slotAt, slotResolve}
 
--- ---- an instruction at place q: its code, the bytes after it, and the slots of the template's row
-unfoldable pub neutralBytes : (ℕ → ℕ) → ℕ → ℕ → List ℕ → Fetched
-neutralBytes slot q op w =
-    cond (leb (operandBytes op) (length w)) (plainly (slotResolve slot op (getD w 0 0) (getD w 1 0)) (q + (1 + operandBytes op))) bad
+-- ---- an instruction: its code, the bytes after it, the place past it, and the slots of the template's row
+unfoldable pub wholeBytes : (ℕ → ℕ) → ℕ → List ℕ → ℕ → Fetched
+wholeBytes slot op w next = transfer op w next (plainly (slotResolve slot op (getD w 0 0) (getD w 1 0)) next)
 
 unfoldable pub codeBytes : (ℕ → ℕ) → ℕ → ℕ → List ℕ → Fetched
-unfolding neutralBytes
-codeBytes slot q op w =
-    cond (eqb op 1) returns
-    (cond (eqb op 2) (callIn [] w)
-    (cond (eqb op 3) (branchIn [] q w)
-    (cond (eqb op 4) (contIn [] q w)
-    (cond (eqb op 5) (jumpIn [] q w) (neutralBytes slot q op w)))))
+codeBytes slot q op w = within q op w (wholeBytes slot op w)
 
 unfoldable pub decodeBytes : (ℕ → ℕ) → ℕ → List ℕ → Fetched
 unfolding codeBytes

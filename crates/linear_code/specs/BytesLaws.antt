@@ -3,25 +3,19 @@ use Prim.Native.Nat.{ℕ, zero, suc, _<_, _≤_}
 use mathlib.Core.Path.{_≡_, refl, sym, ap, ap₂, _∙_}
 use mathlib.Core.Bool.{Bool, true, false, cond}
 use mathlib.Core.List.{List, [], _∷_}
-use mathlib.Core.Option.{Option, none, some}
+use mathlib.Core.Option.{Option, some}
 use native.Mathlib.Omega.{arith}
-use lib.Dec.{leb, eqb}
+use lib.Dec.{eqb}
 use lib.ListN.{length, getD, take}
 use lib.Seq.{getD-take}
-use borrow.Author.Tests.{ne-eqb, eqb-true}
-use Rattle.cells.specs.Laws.{clash}
-use Rattle.files.specs.Codes.{shapeOf, isNeutral, operandBytes}
-use Rattle.files.specs.CodesLaws.{neutral-six}
+use borrow.Author.Tests.{eqb-true}
+use Rattle.files.specs.Codes.{operandBytes}
 use Rattle.files.specs.Entries.{Entry}
 use Rattle.rules.specs.declared.Plain.{Plain}
 use Rattle.rules.specs.declared.Plain.the-variants.{Global, SetGlobal, Local, SetLocal, MakeEnv, CheckArgs}
-use Rattle.machines.specs.Fetched.{Named, asLiteral, asClosure, asGlobal, ruleOf, returns, bad, plainly, neutralIn, callIn, branchIn, contIn, jumpIn, decode}
+use Rattle.machines.specs.Fetched.{Named, asLiteral, asClosure, asGlobal, ruleOf, resolve, decode}
 use Rattle.machines.specs.Slots.{slotNames, slotResolve, RowStands, slot-resolve}
-use Rattle.linear_code.specs.Bytes.{neutralBytes, codeBytes, decodeBytes, AllBytes}
-
-either-bad : (b : Bool) → cond b bad bad ≡ bad
-either-bad true = refl
-either-bad false = refl
+use Rattle.linear_code.specs.Bytes.{wholeBytes, codeBytes, decodeBytes, AllBytes}
 
 first-byte : (k : ℕ) (w : List ℕ) → AllBytes w → getD (take k w) 0 0 < 256
 first-byte zero w h = omega arith
@@ -73,63 +67,14 @@ module _ (named : ℕ → Named) (op : ℕ) (w : List ℕ) where
       (or 21 (with-none 21)
       (or 22 (with-none 22) refl))))))))))))))
 
--- only a neutral code has a rule
-no-rule : (named : ℕ → Named) (op a b : ℕ) → isNeutral op ≡ false → ruleOf named op a b ≡ none
-unfolding ruleOf isNeutral shapeOf
-no-rule named op a b h =
-    rw (
-      other 6 refl,
-      other 7 refl,
-      other 8 refl,
-      other 9 refl,
-      other 10 refl,
-      other 11 refl,
-      other 12 refl,
-      other 13 refl,
-      other 15 refl,
-      other 16 refl,
-      other 18 refl,
-      other 19 refl,
-      other 20 refl,
-      other 21 refl,
-      other 22 refl,
-      other 23 refl,
-      other 24 refl,
-      other 25 refl,
-    )
-  where
-    other : (k : ℕ) → isNeutral k ≡ true → eqb op k ≡ false
-    other k i = ne-eqb op k (λ e. let z : true ≡ false = sym i ∙ ap isNeutral (sym e) ∙ h in clash (cc))
-
 module _ (slot : ℕ → ℕ) (es : List Entry) (row : RowStands slot es) (q : ℕ) where
-  neutral-bytes : (op : ℕ) (w : List ℕ) → AllBytes w → neutralBytes slot q op w ≡ neutralIn es q op w
-  unfolding neutralBytes neutralIn slotResolve
-  neutral-bytes op w h =
-      rw (rule-uses (λ n. slotNames (slot n)) op w ∙ slot-resolve slot es op (take (operandBytes op) w) row (first-byte (operandBytes op) w h))
-
-  no-bytes : (op : ℕ) (w : List ℕ) → isNeutral op ≡ false → neutralBytes slot q op w ≡ bad
-  unfolding neutralBytes slotResolve plainly
-  no-bytes op w h = rw (no-rule (λ n. slotNames (slot n)) op (getD w 0 0) (getD w 1 0) h) (either-bad (leb (operandBytes op) (length w)))
-
-  code-bytes : (op : ℕ) (w : List ℕ) → AllBytes w → codeBytes slot q op w ≡ decode es q (op ∷ w)
-  unfolding codeBytes decode callIn branchIn contIn jumpIn
-  code-bytes op w h = by (isNeutral op) refl
-    where
-      by : (b : Bool) → isNeutral op ≡ b → codeBytes slot q op w
-          ≡ cond b (neutralIn es q op w)
-          (cond (eqb op 1) returns
-          (cond (eqb op 2) (callIn es w)
-          (cond (eqb op 3) (branchIn es q w)
-          (cond (eqb op 4) (contIn es q w)
-          (cond (eqb op 5) (jumpIn es q w) bad)))))
-      by true e =
-          let k = neutral-six op e in
-          let past : (n : ℕ) → n < 6 → eqb op n ≡ false = λ n l. ne-eqb op n (λ z. omega arith) in
-          rw (past 1 (omega arith), past 2 (omega arith), past 3 (omega arith), past 4 (omega arith), past 5 (omega arith)) (neutral-bytes op w h)
-      by false e = rw (no-bytes op w e) refl
+  resolve-bytes : (op : ℕ) (w : List ℕ) → AllBytes w → slotResolve slot op (getD w 0 0) (getD w 1 0) ≡ resolve es op (take (operandBytes op) w)
+  unfolding slotResolve
+  resolve-bytes op w h =
+      rule-uses (λ n. slotNames (slot n)) op w ∙ slot-resolve slot es op (take (operandBytes op) w) row (first-byte (operandBytes op) w h)
 
   -- THE LAW
   pub decode-bytes : (w : List ℕ) → AllBytes w → decodeBytes slot q w ≡ decode es q w
-  unfolding decodeBytes decode
+  unfolding decodeBytes codeBytes wholeBytes decode
   decode-bytes [] h = refl
-  decode-bytes (op ∷ w) h = code-bytes op w (λ i. h (suc i))
+  decode-bytes (op ∷ w) h = rw (resolve-bytes op w (λ i. h (suc i)))

@@ -9,10 +9,9 @@ ghost use Prim.Native.Nat.{ℕ, _+_, _*_, _≤_, _<_};
 ghost use lib.ListN.{length, getD};
 ghost use Rattle.runs.specs.Runs.{part};
 ghost use Rattle.files.specs.Codes.{operandBytes};
-ghost use Rattle.machines.specs.Fetched.{callIn, branchIn, contIn, jumpIn};
 ghost use Rattle.machines.specs.Slots.{slotAt};
 ghost use Rattle.machines.specs.Instruction.{linearForm, fetchedAs, Places};
-ghost use Rattle.linear_code.specs.Bytes.{neutralBytes, fetchBytes, codeStart, codeLength, Within, AllWithin};
+ghost use Rattle.linear_code.specs.Bytes.{wholeBytes, fetchBytes, codeStart, codeLength, Within, AllWithin};
 
 // Byte k of the `left` bytes at i, 0 past them.
 fn operand(file: &[u8], i: usize, left: usize, k: usize) -> u8
@@ -29,8 +28,9 @@ fn offset(file: &[u8], i: usize) -> usize
     256 * (file[i] as usize) + file[i + 1] as usize
 }
 
-// How many operand bytes a code has in linear code, by code (document 01, 'Codes').
-const OPERAND_BYTES: [usize; 32] = [
+// How many operand bytes a code has in linear code, by code (document 01, 'Codes'; the handbook prints the same table). The compiler makes
+// the table anew at each use, so its numbers are single bytes: with eight bytes a number the whole step took 1.4 times as long.
+const OPERAND_BYTES: [u8; 32] = [
     0, // 0
     0, // 1 return
     1, // 2 call n
@@ -69,71 +69,37 @@ fn operand_count(op: u8) -> usize
     ensures { λ r. ⌜ r ≡ operandBytes op ⌝ }
 {
     if op < 32 {
-        OPERAND_BYTES[op as usize]
+        OPERAND_BYTES[op as usize] as usize
     } else {
         0
     }
 }
 
-// Each of the next five is given the instruction's place, and the bytes after its code: `left` of them at i.
-
-fn fetch_call(file: &[u8], i: usize, left: usize) -> Instruction
-    requires { ⌜ i + left ≤ length (now file) ⌝ }
-    ensures { λ r. ⌜ ((slot : ℕ → ℕ) → fetchedAs slot r ≡ callIn [] (part (now (file .entry)) i left)) × Places linearForm r ⌝ }
+// An instruction that is not cut: its code, the `left` bytes at i after it, and the place past it.
+fn fetch_whole(file: &[u8], i: usize, left: usize, op: u8, next: BytePlace) -> Instruction
+    requires { ⌜ (i + left ≤ length (now file)) × (operandBytes op ≤ left) × (next .0 ≤ 262148) ⌝ }
+    ensures { λ r. ⌜ ((slot : ℕ → ℕ) → fetchedAs slot r ≡ wholeBytes slot op (part (now (file .entry)) i left) (next .0)) × Places linearForm r ⌝ }
 {
-    if left < 1 {
-        Instruction::Bad
-    } else {
-        Instruction::Call(file[i])
+    match op {
+        1 => Instruction::Return,
+        2 => Instruction::Call(file[i]),
+        3 => Instruction::Branch(
+            CodePlace::Linear(next),
+            CodePlace::Linear(next.past(offset(file, i))),
+        ),
+        4 => Instruction::Save(
+            file[i + 2],
+            CodePlace::Linear(next.past(offset(file, i))),
+            CodePlace::Linear(next),
+        ),
+        5 => Instruction::Jump(CodePlace::Linear(next.past(offset(file, i)))),
+        _ => Instruction::Neutral(
+            op,
+            operand(file, i, left, 0),
+            operand(file, i, left, 1),
+            CodePlace::Linear(next),
+        ),
     }
-}
-
-fn fetch_branch(file: &[u8], i: usize, left: usize, place: usize) -> Instruction
-    requires { ⌜ (i + left ≤ length (now file)) × (place ≤ 262144) ⌝ }
-    ensures { λ r. ⌜ ((slot : ℕ → ℕ) → fetchedAs slot r ≡ branchIn [] place (part (now (file .entry)) i left)) × Places linearForm r ⌝ }
-{
-    if left < 2 {
-        return Instruction::Bad;
-    }
-    let first = CodePlace::Linear(BytePlace(place + 3));
-    let second = CodePlace::Linear(BytePlace(place + 3 + offset(file, i)));
-    Instruction::Branch(first, second)
-}
-
-fn fetch_save(file: &[u8], i: usize, left: usize, place: usize) -> Instruction
-    requires { ⌜ (i + left ≤ length (now file)) × (place ≤ 262144) ⌝ }
-    ensures { λ r. ⌜ ((slot : ℕ → ℕ) → fetchedAs slot r ≡ contIn [] place (part (now (file .entry)) i left)) × Places linearForm r ⌝ }
-{
-    if left < 3 {
-        return Instruction::Bad;
-    }
-    let saved = CodePlace::Linear(BytePlace(place + 4 + offset(file, i)));
-    let rest = CodePlace::Linear(BytePlace(place + 4));
-    Instruction::Save(file[i + 2], saved, rest)
-}
-
-fn fetch_jump(file: &[u8], i: usize, left: usize, place: usize) -> Instruction
-    requires { ⌜ (i + left ≤ length (now file)) × (place ≤ 262144) ⌝ }
-    ensures { λ r. ⌜ ((slot : ℕ → ℕ) → fetchedAs slot r ≡ jumpIn [] place (part (now (file .entry)) i left)) × Places linearForm r ⌝ }
-{
-    if left < 2 {
-        Instruction::Bad
-    } else {
-        Instruction::Jump(CodePlace::Linear(BytePlace(place + 3 + offset(file, i))))
-    }
-}
-
-fn fetch_neutral(file: &[u8], i: usize, left: usize, place: usize, op: u8) -> Instruction
-    requires { ⌜ (i + left ≤ length (now file)) × (place ≤ 262144) ⌝ }
-    ensures { λ r. ⌜ ((slot : ℕ → ℕ) → fetchedAs slot r ≡ neutralBytes slot place op (part (now (file .entry)) i left)) × Places linearForm r ⌝ }
-{
-    let count = operand_count(op);
-    if left < count {
-        return Instruction::Bad;
-    }
-    let a = operand(file, i, left, 0);
-    let b = operand(file, i, left, 1);
-    Instruction::Neutral(op, a, b, CodePlace::Linear(BytePlace(place + (1 + count))))
 }
 
 // What stands at a place of the `len` bytes of code at `start`.
@@ -141,27 +107,23 @@ fn fetch_code(file: &[u8], start: usize, len: usize, at: BytePlace) -> Instructi
     requires { ⌜ Within (now file) start len × (length (now file) ≤ 262144) ⌝ }
     ensures { λ r. ⌜ ((table : List ℕ) (t : ℕ) → fetchedAs (slotAt table t) r ≡ fetchBytes (now (file .entry)) table t start len (at .0)) × Places linearForm r ⌝ }
 {
-    let place = at.0;
-    if len <= place {
+    let left = at.left(len);
+    if left == 0 {
         if start != 0 {
             return Instruction::Bad;
         }
-        if place != 0 {
-            return Instruction::Bad;
+        if at.is_first() {
+            return Instruction::Return;
         }
-        return Instruction::Return;
+        return Instruction::Bad;
     }
-    let i = start + place + 1;
-    let left = len - place - 1;
-    let op = file[start + place];
-    match op {
-        1 => Instruction::Return,
-        2 => fetch_call(file, i, left),
-        3 => fetch_branch(file, i, left, place),
-        4 => fetch_save(file, i, left, place),
-        5 => fetch_jump(file, i, left, place),
-        _ => fetch_neutral(file, i, left, place, op),
+    let i = at.index(start);
+    let op = file[i];
+    let count = operand_count(op);
+    if left - 1 < count {
+        return Instruction::Bad;
     }
+    fetch_whole(file, i + 1, left - 1, op, at.past(1 + count))
 }
 
 // What stands at a place of a template.

@@ -5,7 +5,7 @@ use mathlib.Core.List.{List, [], _∷_}
 use mathlib.Core.Option.{Option, none, some}
 use lib.Dec.{ltb, leb, eqb}
 use lib.ListN.{length, getD, take, drop}
-use Rattle.files.specs.Codes.{isNeutral, operandBytes}
+use Rattle.files.specs.Codes.{operandBytes}
 use Rattle.files.specs.Code.{Code, done, neutral, return, call, unless-false, make-cont, bits}
 use Rattle.files.specs.Entries.{Entry, constant, global, template}
 use Rattle.files.specs.Grammar.{isClosed, entryOf}
@@ -131,41 +131,30 @@ module _ (es : List Entry) where
   unfolding first beyond
   look s c F p = lookBy (beyond c) s c F p
 
-  -- ---- linear code w that stands at q; an instruction that is cut is bad
-  unfoldable pub callIn : List ℕ → Fetched
-  callIn [] = bad
-  callIn (n ∷ w) = calls n
+-- ---- linear code
+-- the offset that begins the bytes w after a code
+abbrev pub offsetIn : List ℕ → ℕ
+offsetIn w = 256 * getD w 0 0 + getD w 1 0
 
-  unfoldable pub branchIn : ℕ → List ℕ → Fetched
-  branchIn q [] = bad
-  branchIn q (h ∷ []) = bad
-  branchIn q (h ∷ l ∷ w) = branches 0 (q + 3) (q + 3 + (256 * h + l))
+-- what stands at a place: code op with the bytes w after it; `next` is the place past the instruction, and `other` what a code does that
+-- is none of 1 to 5
+unfoldable pub transfer : ℕ → List ℕ → ℕ → Fetched → Fetched
+transfer op w next other =
+    cond (eqb op 1) returns
+    (cond (eqb op 2) (calls (getD w 0 0))
+    (cond (eqb op 3) (branches 0 next (next + offsetIn w))
+    (cond (eqb op 4) (saves (getD w 2 0) (next + offsetIn w) next)
+    (cond (eqb op 5) (jumps (next + offsetIn w)) other))))
 
-  unfoldable pub contIn : ℕ → List ℕ → Fetched
-  contIn q [] = bad
-  contIn q (h ∷ []) = bad
-  contIn q (h ∷ l ∷ []) = bad
-  contIn q (h ∷ l ∷ n ∷ w) = saves n (q + 4 + (256 * h + l)) (q + 4)
+-- an instruction is as long as the table of codes says, whatever its code; one that is cut is bad
+abbrev pub within : ℕ → ℕ → List ℕ → (ℕ → Fetched) → Fetched
+within q op w f = cond (leb (operandBytes op) (length w)) (f (q + (1 + operandBytes op))) bad
 
-  unfoldable pub jumpIn : ℕ → List ℕ → Fetched
-  jumpIn q [] = bad
-  jumpIn q (h ∷ []) = bad
-  jumpIn q (h ∷ l ∷ w) = jumps (q + 3 + (256 * h + l))
-
-  unfoldable pub neutralIn : ℕ → ℕ → List ℕ → Fetched
-  unfolding plainly resolve
-  neutralIn q op w = cond (leb (operandBytes op) (length w)) (plainly (resolve es op (take (operandBytes op) w)) (q + (1 + operandBytes op))) bad
-
-  unfoldable pub decode : ℕ → List ℕ → Fetched
-  unfolding neutralIn callIn branchIn contIn jumpIn
-  decode q [] = bad
-  decode q (op ∷ w) =
-      cond (isNeutral op) (neutralIn q op w)
-      (cond (eqb op 1) returns
-      (cond (eqb op 2) (callIn w)
-      (cond (eqb op 3) (branchIn q w)
-      (cond (eqb op 4) (contIn q w)
-      (cond (eqb op 5) (jumpIn q w) bad)))))
+-- linear code that stands at q
+unfoldable pub decode : List Entry → ℕ → List ℕ → Fetched
+unfolding transfer plainly resolve
+decode es q [] = bad
+decode es q (op ∷ w) = within q op w (λ next. transfer op w next (plainly (resolve es op (take (operandBytes op) w)) next))
 
 -- ---- a template by its number; no closure names one that is not there, and what would stand there is a return
 abbrev pub noTemplate : Template

@@ -19,7 +19,7 @@ use Rattle.files.specs.Accepted.{orLowest, treeChecked, flatChecked}
 use Rattle.files.specs.Table.{constantCell}
 use Rattle.integers.specs.Integers.{signed, within, intBits, totalOf, allIntegers}
 use Rattle.rules.specs.Rules.{literalRule, pushRule, addRule, plainRule, makeContRule, returnRule}
-use Rattle.machines.specs.Fetched.{namedBy, asLiteral, ruleOf, resolve, plainly, openCount, first, beyond, look, callIn, branchIn, contIn, jumpIn, neutralIn, decode, treeAt, linearAt}
+use Rattle.machines.specs.Fetched.{namedBy, asLiteral, ruleOf, resolve, plainly, openCount, first, beyond, look, transfer, decode, treeAt, linearAt}
 use Rattle.machines.specs.Machine.{bind, applied, called, returned, act, step, jumpCount, firstCount, counted, next, run}
 use Rattle.machines.specs.Runs.{freshMemory, Ran, ran, refusedRun, rightLengths, lowestUnfit, fitGlobals, started, startState, endOf, memoryOf, reported, programRun, onTree, onLinear, treeRun, linearRun}
 use Rattle.machines.specs.declared.End.{End}
@@ -58,5 +58,5 @@ expected =
 
 -- P1 to P7, and P8: offset 65,535 splits into 255, 255; 256 into 1, 0
 pub rows : (map rowTold sheets ≡ expected) × (map offset (65535 ∷ 256 ∷ []) ≡ (255 ∷ 255 ∷ []) ∷ (1 ∷ 0 ∷ []) ∷ [])
-unfolding startingGlobal valueOf bitAt fieldAt fieldRead pickField shapeOf isNeutral operandBytes put simple bits withField withList withDeep shaped headAt before after items deepOf listAt then field fieldGot constantAt kindAt entryAt entriesAt zeroBits nothingMore templateAt templatesAt paddedEnd treeRead isEmpty isOpen isClosed entryOf suits indexFits eachNeutral indicesFit lowest conditional flat armsFit offsetsFit bitsOf entryBits entriesBits byteOf bytesFrom bytesOf templateBytes templatesBytes linearFile codeAt linearTemplateAt linearTemplatesAt linearRead orLowest treeChecked flatChecked constantCell signed totalOf within intBits allIntegers literalRule pushRule addRule plainRule makeContRule returnRule namedBy asLiteral ruleOf resolve plainly openCount first beyond look callIn branchIn contIn jumpIn neutralIn decode treeAt linearAt bind applied called returned act step jumpCount firstCount counted next run refusedRun rightLengths lowestUnfit fitGlobals started startState endOf memoryOf reported programRun onTree onLinear treeRun linearRun
+unfolding startingGlobal valueOf bitAt fieldAt fieldRead pickField shapeOf isNeutral operandBytes put simple bits withField withList withDeep shaped headAt before after items deepOf listAt then field fieldGot constantAt kindAt entryAt entriesAt zeroBits nothingMore templateAt templatesAt paddedEnd treeRead isEmpty isOpen isClosed entryOf suits indexFits eachNeutral indicesFit lowest conditional flat armsFit offsetsFit bitsOf entryBits entriesBits byteOf bytesFrom bytesOf templateBytes templatesBytes linearFile codeAt linearTemplateAt linearTemplatesAt linearRead orLowest treeChecked flatChecked constantCell signed totalOf within intBits allIntegers literalRule pushRule addRule plainRule makeContRule returnRule namedBy asLiteral ruleOf resolve plainly openCount first beyond look transfer decode treeAt linearAt bind applied called returned act step jumpCount firstCount counted next run refusedRun rightLengths lowestUnfit fitGlobals started startState endOf memoryOf reported programRun onTree onLinear treeRun linearRun
 rows = (refl, refl)

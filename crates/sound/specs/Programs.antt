@@ -10,7 +10,7 @@ use lib.Dec.{ltb, leb, eqb}
 use lib.ListN.{length, getD, take, drop, length-drop, List·getD-eq-default}
 use Rattle.cells.specs.Cells.{cellOf, Fits}
 use Rattle.cells.specs.declared.Value.{Value}
-use Rattle.files.specs.Codes.{isNeutral, operandBytes}
+use Rattle.files.specs.Codes.{operandBytes}
 use Rattle.files.specs.Code.{Code, done, neutral, return, call, unless-false, make-cont, bits}
 use Rattle.files.specs.Entries.{Entry, constant, global, template}
 use Rattle.files.specs.EntriesLaws.{EntryOk, EntriesOk}
@@ -26,7 +26,8 @@ use Rattle.rules.specs.SoundRules.{PlainOk}
 use Rattle.rules.specs.declared.Plain.{Plain}
 use Rattle.rules.specs.declared.Plain.the-variants.{Global, SetGlobal}
 use Rattle.machines.specs.Fetched.{Fetched, plain, returns, calls, branches, saves, jumps, bad, namedBy, asLiteral, asClosure, asGlobal, ruleOf, resolve, plainly}
-use Rattle.machines.specs.Fetched.{first, lookBy, beyond, look, callIn, branchIn, contIn, jumpIn, neutralIn, decode, noTemplate, noLinear, treeAt, linearAt}
+use Rattle.machines.specs.Fetched.{first, lookBy, beyond, look, offsetIn, transfer, decode, noTemplate, noLinear, treeAt, linearAt}
+use Rattle.machines.specs.FetchedLaws.{operand-bytes-few}
 use Rattle.machines.specs.Machine.{Program, treeProgram, linearProgram}
 
 -- ---- the statements
@@ -173,41 +174,25 @@ module _ (own T : ℕ) (es : List Entry) (fit : EntriesOk own T es) where
   look-ok s c F p v h f = look-by-ok c s F p v h f (beyond-ok c s F p v h f)
 
   -- ---- linear code
-  call-in-ok : (w : List ℕ) → FetchedOk (callIn es w)
-  unfolding callIn
-  call-in-ok [] = tt
-  call-in-ok (n ∷ w) = tt
-
-  branch-in-ok : (q : ℕ) (w : List ℕ) → FetchedOk (branchIn es q w)
-  unfolding branchIn
-  branch-in-ok q [] = tt
-  branch-in-ok q (h ∷ []) = tt
-  branch-in-ok q (h ∷ l ∷ w) = tt
-
-  cont-in-ok : (q : ℕ) (w : List ℕ) → Bytes w → q < 262144 → FetchedOk (contIn es q w)
-  unfolding contIn Bytes
-  cont-in-ok q [] b k = tt
-  cont-in-ok q (h ∷ []) b k = tt
-  cont-in-ok q (h ∷ l ∷ []) b k = tt
-  cont-in-ok q (h ∷ l ∷ n ∷ w) b k = (b .1 .1 .0, omega arith)
-
-  jump-in-ok : (q : ℕ) (w : List ℕ) → FetchedOk (jumpIn es q w)
-  unfolding jumpIn
-  jump-in-ok q [] = tt
-  jump-in-ok q (h ∷ []) = tt
-  jump-in-ok q (h ∷ l ∷ w) = tt
+  -- the operand bytes of make-cont are there, or one of them is 0
+  transfer-ok : (op next : ℕ) (w : List ℕ) (F : Fetched) → getD w 2 0 < 2 ^ 8 → next + offsetIn w < 2 ^ 24 → FetchedOk F → FetchedOk (transfer op w next F)
+  unfolding transfer
+  transfer-ok op next w F n h k =
+      either FetchedOk (eqb op 1) returns _ tt
+      (either FetchedOk (eqb op 2) (calls (getD w 0 0)) _ tt
+      (either FetchedOk (eqb op 3) (branches 0 next (next + offsetIn w)) _ tt
+      (either FetchedOk (eqb op 4) (saves (getD w 2 0) (next + offsetIn w) next) _ (n, h)
+      (either FetchedOk (eqb op 5) (jumps (next + offsetIn w)) F tt k))))
 
   decode-ok : (q : ℕ) (w : List ℕ) → Bytes w → (0 < length w → q < 262144) → FetchedOk (decode es q w)
-  unfolding decode neutralIn Bytes
+  unfolding decode Bytes
   decode-ok q [] b k = tt
   decode-ok q (op ∷ w) b k =
-      either FetchedOk (isNeutral op) _ _
-      (either FetchedOk (leb (operandBytes op) (length w)) _ bad (neutral-ok op (take (operandBytes op) w) _ (bytes-take (operandBytes op) w (b .1))) tt)
-      (either FetchedOk (eqb op 1) returns _ tt
-      (either FetchedOk (eqb op 2) _ _ (call-in-ok w)
-      (either FetchedOk (eqb op 3) _ _ (branch-in-ok q w)
-      (either FetchedOk (eqb op 4) _ _ (cont-in-ok q w (b .1) (k (omega arith)))
-      (either FetchedOk (eqb op 5) _ bad (jump-in-ok q w) tt)))))
+      let at : (i : ℕ) → getD w i 0 < 256 = bytes-at w (b .1) in
+      either FetchedOk (leb (operandBytes op) (length w)) _ bad
+      (transfer-ok op _ w _ (at 2) (omega (arith, at 0, at 1, k (omega arith), operand-bytes-few op))
+      (neutral-ok op (take (operandBytes op) w) _ (bytes-take (operandBytes op) w (b .1))))
+      tt
 
 -- ---- programs
 template-ok : {T own : ℕ} {t : Template} → TemplateOk T own t → (p : ℕ) → FetchedOk (look (t .entries) (t .start) (t .code) bad p)

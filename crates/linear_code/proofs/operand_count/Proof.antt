@@ -3,11 +3,10 @@ use borrow.Author.Needs.{needs}
 use mathlib.Core.Path.{refl, sym}
 use lib.ListN.{List·getD-eq-default}
 use Rattle.files.specs.Codes.{linearBytes, operandBytes}
+use native.Mathlib.Omega.{arith}
+use Rattle.machines.specs.FetchedLaws.{operand-bytes-few}
 use Rattle.linear_code.proofs.operand_count.Statement.{statement}
 use Rattle.linear_code.proofs.operand_count.Tie as tie
-
-mul-result : tie.Need-mul-result
-mul-result c = search needs
 
 array-read-result : tie.Need-array-read-result
 array-read-result c = search needs
@@ -20,5 +19,9 @@ returns-2 : tie.Need-returns-2
 unfolding operandBytes
 returns-2 c = sym (List·getD-eq-default linearBytes 0 (c .if1 .left))
 
+cast-result : tie.Need-cast-result
+unfolding operandBytes
+cast-result c = omega (arith, operand-bytes-few (c .before .args .op))
+
 pub operand-count-spec : {M : Type 1} → statement M
-operand-count-spec = tie.close (tie.spec mul-result array-read-result returns returns-2)
+operand-count-spec = tie.close (tie.spec array-read-result cast-result returns returns-2)
