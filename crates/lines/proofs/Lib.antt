@@ -1,4 +1,3 @@
 -- The laws that the proofs of the crate lines share.
-pub mod Decimal
 pub mod Enough
 pub mod Laws

@@ -1,4 +1,3 @@
 -- The specs of the crate lines.
 pub mod Lines
-pub mod Put
 pub mod Laws

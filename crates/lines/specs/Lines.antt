@@ -1,11 +1,13 @@
 -- The program's lines as ASCII bytes (document 01, 'Rule sheets to try', the program).
-use Prim.Native.Nat.{ℕ, zero, suc, _+_, _-_, _/_, _%_}
+use Prim.Native.Nat.{ℕ}
 use mathlib.Core.Bool.{cond}
 use mathlib.Core.List.{List, [], _∷_, _++_}
-use lib.Dec.{ltb, leb}
+use lib.Dec.{leb}
 use lib.ListN.{length, drop}
 use Rattle.cells.specs.declared.Value.{Value}
 use Rattle.cells.specs.declared.Value.the-variants.{False, True, Null, Unspecified, Integer, Procedure, Pair, NoValue}
+use Rattle.text.specs.Text.{decimal, integer, line}
+use Rattle.integers.specs.Integers.{full}
 use Rattle.files.specs.Reading.{Got, got, refused}
 use Rattle.files.specs.Entries.{then}
 use Rattle.files.specs.Accepted.{flatChecked}
@@ -16,33 +18,6 @@ use Rattle.machines.specs.declared.End.the-variants.{Halted, Wrong, OutOfBudget
 use Rattle.machines.specs.declared.Run.{Run}
 use Rattle.lines.specs.declared.Printed.{Printed}
 use Rattle.lines.specs.declared.Printed.the-variants.{Written, Refused as RefusedLines}
-
--- ---- numbers
--- the last digit of n
-abbrev pub digit : ℕ → ℕ
-digit n = 48 + n % 10
-
--- the digits of n, none where n is 0, from those of a tenth of it
-unfoldable pub digitsBy : (ℕ → List ℕ) → ℕ → List ℕ
-digitsBy tenth zero = []
-digitsBy tenth (suc n) = tenth (suc n / 10) ++ (digit (suc n) ∷ [])
-
--- the digits of n, which has at most k
-unfoldable pub digitsWithin : ℕ → ℕ → List ℕ
-unfolding digitsBy
-digitsWithin zero n = []
-digitsWithin (suc k) n = digitsBy (λ m. digitsWithin k m) n
-
-abbrev pub leading : ℕ → List ℕ
-leading n = digitsWithin n n
-
--- in decimal, no leading zeros
-unfoldable pub decimal : ℕ → List ℕ
-decimal n = leading (n / 10) ++ (digit n ∷ [])
-
--- 32 bits, two's complement, in decimal
-unfoldable pub integer : ℕ → List ℕ
-integer x = cond (ltb x 0x80000000) (decimal x) (45 ∷ decimal (0x100000000 - x))
 
 -- ---- words
 abbrev pub linearWord : List ℕ
@@ -69,18 +44,12 @@ answerWord False = 102 ∷ 97 ∷ 108 ∷ 115 ∷ 101 ∷ []
 answerWord True = 116 ∷ 114 ∷ 117 ∷ 101 ∷ []
 answerWord Null = 110 ∷ 117 ∷ 108 ∷ 108 ∷ []
 answerWord Unspecified = 117 ∷ 110 ∷ 115 ∷ 112 ∷ 101 ∷ 99 ∷ 105 ∷ 102 ∷ 105 ∷ 101 ∷ 100 ∷ []
-answerWord (Integer x) = integer x
+answerWord (Integer x) = integer full x
 answerWord (Procedure c) = 112 ∷ 114 ∷ 111 ∷ 99 ∷ 101 ∷ 100 ∷ 117 ∷ 114 ∷ 101 ∷ []
 answerWord (Pair a b) = 112 ∷ 97 ∷ 105 ∷ 114 ∷ []
 answerWord NoValue = 110 ∷ 111 ∷ 110 ∷ 101 ∷ []
 
 -- ---- lines
--- words, a blank after each but the last, then a newline
-unfoldable pub line : List (List ℕ) → List ℕ
-line [] = 10 ∷ []
-line (w ∷ []) = w ++ (10 ∷ [])
-line (w ∷ v ∷ ws) = w ++ (32 ∷ line (v ∷ ws))
-
 -- how a run of so many steps ended
 unfoldable pub endWords : End → ℕ → List (List ℕ)
 endWords (Halted v) steps = haltedWord ∷ answerWord v ∷ decimal steps ∷ []

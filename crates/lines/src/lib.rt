@@ -1,10 +1,10 @@
 // The program of document 01: a sheet's lines.
 ghost use mathlib.Core.Path.{_≡_};
-ghost use mathlib.Core.List.{[], _∷_, _++_};
 ghost use Prim.Native.Nat.{_+_, _≤_};
 ghost use lib.ListN.{length};
-ghost use Rattle.lines.specs.Put.{Put};
-ghost use Rattle.lines.specs.Lines.{decimal, integer, answerWord, line, endWords, machineLine, linearLine};
+ghost use Rattle.text.specs.Put.{Put};
+ghost use Rattle.text.specs.Text.{line};
+ghost use Rattle.lines.specs.Lines.{answerWord, endWords, machineLine, linearLine};
 ghost use Rattle.lines.specs.Lines.{tabularRun, flatRun, acceptedLines, linearOf, sheetLines, programLines, printed, programOutput};
 use cells::Value;
 use flatten::Flattened;
@@ -17,50 +17,10 @@ pub enum Printed {
     Refused(u8, usize),
 }
 
-// ---- bytes into a buffer, from place at on; each answers the place after them
+// How many patterns of bits an integer has (`integers`, `full`).
+const INTEGERS: u64 = 0x1_0000_0000;
 
-fn put_bytes(out: &mut [u8], at: usize, bytes: &[u8]) -> usize
-    requires { ⌜ at + length (now bytes) ≤ length (now out) ⌝ }
-    ensures { λ r. ⌜ Put (now (out .entry)) at (now (out .exit)) r (now (bytes .entry)) ⌝ }
-{
-    let mut i: usize = 0;
-    while i < bytes.len() {
-        out[at + i] = bytes[i];
-        i = i + 1;
-    }
-    at + i
-}
-
-fn put_byte(out: &mut [u8], at: usize, byte: u8) -> usize
-    requires { ⌜ at + 1 ≤ length (now out) ⌝ }
-    ensures { λ r. ⌜ Put (now (out .entry)) at (now (out .exit)) r (byte ∷ []) ⌝ }
-{
-    out[at] = byte;
-    at + 1
-}
-
-fn put_decimal(out: &mut [u8], at: usize, n: u64) -> usize
-    requires { ⌜ at + 20 ≤ length (now out) ⌝ }
-    ensures { λ r. ⌜ Put (now (out .entry)) at (now (out .exit)) r (decimal n) ⌝ }
-    ensures { λ r. ⌜ r ≤ at + 20 ⌝ }
-{
-    let mut text = [0u8; 20];
-    let count = io::decimal(n, &mut text);
-    put_bytes(out, at, &text[..count])
-}
-
-// 32 bits in two's complement.
-fn put_integer(out: &mut [u8], at: usize, x: u32) -> usize
-    requires { ⌜ at + 21 ≤ length (now out) ⌝ }
-    ensures { λ r. ⌜ Put (now (out .entry)) at (now (out .exit)) r (integer x) ⌝ }
-    ensures { λ r. ⌜ r ≤ at + 21 ⌝ }
-{
-    if x < 0x8000_0000 {
-        return put_decimal(out, at, x as u64);
-    }
-    let next = put_byte(out, at, b'-');
-    put_decimal(out, next, 0x1_0000_0000 - x as u64)
-}
+// ---- words into a buffer, from place at on; each function answers the place after them
 
 fn put_answer(out: &mut [u8], at: usize, v: Value) -> usize
     requires { ⌜ at + 21 ≤ length (now out) ⌝ }
@@ -68,35 +28,15 @@ fn put_answer(out: &mut [u8], at: usize, v: Value) -> usize
     ensures { λ r. ⌜ r ≤ at + 21 ⌝ }
 {
     match v {
-        Value::False => put_bytes(out, at, b"false"),
-        Value::True => put_bytes(out, at, b"true"),
-        Value::Null => put_bytes(out, at, b"null"),
-        Value::Unspecified => put_bytes(out, at, b"unspecified"),
-        Value::Integer(x) => put_integer(out, at, x),
-        Value::Procedure(_) => put_bytes(out, at, b"procedure"),
-        Value::Pair(_, _) => put_bytes(out, at, b"pair"),
-        Value::NoValue => put_bytes(out, at, b"none"),
+        Value::False => text::put_bytes(out, at, b"false"),
+        Value::True => text::put_bytes(out, at, b"true"),
+        Value::Null => text::put_bytes(out, at, b"null"),
+        Value::Unspecified => text::put_bytes(out, at, b"unspecified"),
+        Value::Integer(x) => text::put_integer(out, at, x as u64, INTEGERS),
+        Value::Procedure(_) => text::put_bytes(out, at, b"procedure"),
+        Value::Pair(_, _) => text::put_bytes(out, at, b"pair"),
+        Value::NoValue => text::put_bytes(out, at, b"none"),
     }
-}
-
-// ---- words with what follows them, and lines
-
-fn put_word(out: &mut [u8], at: usize, word: &[u8]) -> usize
-    requires { ⌜ at + length (now word) + 1 ≤ length (now out) ⌝ }
-    ensures { λ r. ⌜ Put (now (out .entry)) at (now (out .exit)) r (now (word .entry) ++ (32 ∷ [])) ⌝ }
-{
-    let next = put_bytes(out, at, word);
-    put_byte(out, next, b' ')
-}
-
-// A number, and the blank or newline after it.
-fn put_number(out: &mut [u8], at: usize, n: u64, after: u8) -> usize
-    requires { ⌜ at + 21 ≤ length (now out) ⌝ }
-    ensures { λ r. ⌜ Put (now (out .entry)) at (now (out .exit)) r (decimal n ++ (after ∷ [])) ⌝ }
-    ensures { λ r. ⌜ r ≤ at + 21 ⌝ }
-{
-    let next = put_decimal(out, at, n);
-    put_byte(out, next, after)
 }
 
 fn put_linear(out: &mut [u8], at: usize, n: u64) -> usize
@@ -104,19 +44,8 @@ fn put_linear(out: &mut [u8], at: usize, n: u64) -> usize
     ensures { λ r. ⌜ Put (now (out .entry)) at (now (out .exit)) r (linearLine n) ⌝ }
     ensures { λ r. ⌜ r ≤ at + 28 ⌝ }
 {
-    let next = put_word(out, at, b"linear");
-    put_number(out, next, n, b'\n')
-}
-
-// A word and two numbers.
-fn put_numbers(out: &mut [u8], at: usize, word: &[u8], a: u64, b: u64) -> usize
-    requires { ⌜ at + length (now word) + 43 ≤ length (now out) ⌝ }
-    ensures { λ r. ⌜ Put (now (out .entry)) at (now (out .exit)) r (line (now (word .entry) ∷ decimal a ∷ decimal b ∷ [])) ⌝ }
-    ensures { λ r. ⌜ r ≤ at + length (now (word .entry)) + 43 ⌝ }
-{
-    let first = put_word(out, at, word);
-    let second = put_number(out, first, a, b' ');
-    put_number(out, second, b, b'\n')
+    let next = text::put_word(out, at, b"linear");
+    text::put_number(out, next, n, b'\n')
 }
 
 fn put_halted(out: &mut [u8], at: usize, v: Value, steps: u64) -> usize
@@ -124,10 +53,10 @@ fn put_halted(out: &mut [u8], at: usize, v: Value, steps: u64) -> usize
     ensures { λ r. ⌜ Put (now (out .entry)) at (now (out .exit)) r (line (endWords (End.Halted v) steps)) ⌝ }
     ensures { λ r. ⌜ r ≤ at + 50 ⌝ }
 {
-    let first = put_word(out, at, b"halted");
+    let first = text::put_word(out, at, b"halted");
     let second = put_answer(out, first, v);
-    let third = put_byte(out, second, b' ');
-    put_number(out, third, steps, b'\n')
+    let third = text::put_byte(out, second, b' ');
+    text::put_number(out, third, steps, b'\n')
 }
 
 fn put_end(out: &mut [u8], at: usize, end: End, steps: u64) -> usize
@@ -137,9 +66,9 @@ fn put_end(out: &mut [u8], at: usize, end: End, steps: u64) -> usize
 {
     match end {
         End::Halted(v) => put_halted(out, at, v, steps),
-        End::Wrong(n) => put_numbers(out, at, b"wrong", n as u64, steps),
-        End::OutOfBudget => put_numbers(out, at, b"wrong", 19, steps),
-        End::Refused(n, p) => put_numbers(out, at, b"refused", n as u64, p as u64),
+        End::Wrong(n) => text::put_numbers(out, at, b"wrong", n as u64, steps),
+        End::OutOfBudget => text::put_numbers(out, at, b"wrong", 19, steps),
+        End::Refused(n, p) => text::put_numbers(out, at, b"refused", n as u64, p as u64),
     }
 }
 
@@ -149,7 +78,7 @@ fn put_machine(out: &mut [u8], at: usize, name: &[u8], run: Run) -> usize
     ensures { λ r. ⌜ Put (now (out .entry)) at (now (out .exit)) r (machineLine (now (name .entry)) run) ⌝ }
     ensures { λ r. ⌜ r ≤ at + length (now (name .entry)) + 51 ⌝ }
 {
-    let next = put_word(out, at, name);
+    let next = text::put_word(out, at, name);
     let end = run.end;
     put_end(out, next, end, run.steps)
 }
@@ -211,7 +140,7 @@ fn put_sheet(out: &mut [u8], sheet: &[u8]) -> usize
     let mut linear = [0u8; 16384];
     match flatten::flatten(sheet, &mut linear) {
         Flattened::Written(n) => put_accepted(out, sheet, &linear[..n]),
-        Flattened::Refused(n, p) => put_numbers(out, 0, b"refused", n as u64, p as u64),
+        Flattened::Refused(n, p) => text::put_numbers(out, 0, b"refused", n as u64, p as u64),
     }
 }
 
@@ -223,7 +152,7 @@ fn put_lines(out: &mut [u8], sheet: &[u8]) -> usize
     if sheet.len() <= 4096 {
         put_sheet(out, sheet)
     } else {
-        put_numbers(out, 0, b"refused", 1, 0)
+        text::put_numbers(out, 0, b"refused", 1, 0)
     }
 }
 
@@ -237,5 +166,5 @@ pub fn program(sheet: &[u8], out: &mut [u8]) -> Printed
     if out.len() < count {
         return Printed::Refused(9, count);
     }
-    Printed::Written(put_bytes(out, 0, &lines[..count]))
+    Printed::Written(text::put_bytes(out, 0, &lines[..count]))
 }

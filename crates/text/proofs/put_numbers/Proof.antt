@@ -1,10 +1,10 @@
--- `lines::put_numbers` meets its contract: three words, each with what follows it. Assumes nothing.
+-- `text::put_numbers` meets its contract: three words, each with what follows it. Assumes nothing.
 use borrow.Author.Needs.{needs}
 use native.Mathlib.Omega.{arith}
 use lib.ListN.{length-append}
-use Rattle.lines.proofs.Laws.{put-line, put-length}
-use Rattle.lines.proofs.put_numbers.Statement.{statement}
-use Rattle.lines.proofs.put_numbers.Tie as tie
+use Rattle.text.specs.Laws.{put-line, put-length}
+use Rattle.text.proofs.put_numbers.Statement.{statement}
+use Rattle.text.proofs.put_numbers.Tie as tie
 
 put-word-requires : tie.Need-put-word-requires
 put-word-requires c κs = search needs

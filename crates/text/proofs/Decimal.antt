@@ -8,7 +8,7 @@ use mathlib.Core.Bool.{Bool, true, false}
 use borrow.Author.Tests.{lt-ltb, ltb-true, ltb-false}
 use lib.Dec.{ltb}
 use Rattle.io.specs.Digits.{digits, glyph, Fewest}
-use Rattle.lines.specs.Lines.{digitsWithin, decimal}
+use Rattle.text.specs.Text.{digitsWithin, decimal}
 
 -- n has exactly k digits; 0 has none
 abbrev Exactly : ℕ → ℕ → Type 0

@@ -1,9 +1,9 @@
--- `lines::put_number` meets its contract: a number, then what follows it. Assumes nothing.
+-- `text::put_number` meets its contract: a number, then what follows it. Assumes nothing.
 use borrow.Author.Needs.{needs}
 use native.Mathlib.Omega.{arith}
-use Rattle.lines.proofs.Laws.{put-then}
-use Rattle.lines.proofs.put_number.Statement.{statement}
-use Rattle.lines.proofs.put_number.Tie as tie
+use Rattle.text.specs.Laws.{put-then}
+use Rattle.text.proofs.put_number.Statement.{statement}
+use Rattle.text.proofs.put_number.Tie as tie
 
 put-decimal-requires : tie.Need-put-decimal-requires
 put-decimal-requires c κs = search needs

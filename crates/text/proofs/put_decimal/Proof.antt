@@ -1,10 +1,10 @@
--- `lines::put_decimal` meets its contract: the kit's digits are the number's decimal, at most 20 of them. Assumes nothing.
+-- `text::put_decimal` meets its contract: the kit's digits are the number's decimal, at most 20 of them. Assumes nothing.
 use borrow.Author.Needs.{needs}
 use native.Mathlib.Omega.{arith}
 use mathlib.Core.Path.{_∙_}
-use Rattle.lines.proofs.Decimal.{decimal-short, decimal-spelled}
-use Rattle.lines.proofs.put_decimal.Statement.{statement}
-use Rattle.lines.proofs.put_decimal.Tie as tie
+use Rattle.text.proofs.Decimal.{decimal-short, decimal-spelled}
+use Rattle.text.proofs.put_decimal.Statement.{statement}
+use Rattle.text.proofs.put_decimal.Tie as tie
 
 decimal-requires : tie.Need-decimal-requires
 decimal-requires c κs = search needs

@@ -1,8 +1,8 @@
--- `lines::put_word` meets its contract: a word, then a blank. Assumes nothing.
+-- `text::put_word` meets its contract: a word, then a blank. Assumes nothing.
 use borrow.Author.Needs.{needs}
-use Rattle.lines.proofs.Laws.{put-then}
-use Rattle.lines.proofs.put_word.Statement.{statement}
-use Rattle.lines.proofs.put_word.Tie as tie
+use Rattle.text.specs.Laws.{put-then}
+use Rattle.text.proofs.put_word.Statement.{statement}
+use Rattle.text.proofs.put_word.Tie as tie
 
 put-bytes-requires : tie.Need-put-bytes-requires
 put-bytes-requires c κs = search needs

@@ -1,4 +1,4 @@
--- `lines::put_bytes` meets its contract: the bytes left to put, put into the buffer as it is now, give the buffer that is wanted; the measure is how many are left. Assumes nothing.
+-- `text::put_bytes` meets its contract: the bytes left to put, put into the buffer as it is now, give the buffer that is wanted; the measure is how many are left. Assumes nothing.
 use borrow.Author.Needs.{needs}
 use Prim.Native.Nat.{_+_, _-_, _≤_}
 use native.Mathlib.Nat.{add-zero}
@@ -6,9 +6,9 @@ use native.Mathlib.Omega.{arith}
 use mathlib.Core.Path.{_≡_, sym, _∙_}
 use lib.ListN.{length, drop}
 use lib.Seq.{sets}
-use Rattle.lines.proofs.Laws.{put-on, put-done}
-use Rattle.lines.proofs.put_bytes.Statement.{statement}
-use Rattle.lines.proofs.put_bytes.Tie as tie
+use Rattle.text.proofs.Laws.{put-on, put-done}
+use Rattle.text.proofs.put_bytes.Statement.{statement}
+use Rattle.text.proofs.put_bytes.Tie as tie
 
 abbrev Inv-loop : tie.InvT-loop
 Inv-loop out₀ at bytes i₀ out i = (i ≤ length bytes) × (length out ≡ length out₀) × (sets out (at + i) (drop i bytes) ≡ sets out₀ at bytes)

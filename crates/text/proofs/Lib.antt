@@ -1,0 +1,3 @@
+-- The laws that the proofs of the crate text share.
+pub mod Decimal
+pub mod Laws

@@ -1,0 +1,5 @@
+-- The specs of the crate text.
+pub mod Text
+pub mod Put
+pub mod Laws
+pub mod Lengths
