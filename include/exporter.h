@@ -28,6 +28,29 @@ enum {
 /* How a run ended. */
 enum { EXPORTER_HALTED, EXPORTER_WRONG, EXPORTER_OUT_OF_BUDGET, EXPORTER_REFUSED };
 
+/* An integer has 48 bits, two's complement. Its cell is tag 6 in the highest 4 bits, then the 48 bits, then 12 zero bits: that of 7 is
+   0x6000000000007000. (Until request 7 it had 32 bits and 28 zero bits; such a cell is now that of 65,536 times the number.) */
+#define EXPORTER_INTEGER_MIN (-(int64_t)1 - EXPORTER_INTEGER_MAX)
+#define EXPORTER_INTEGER_MAX ((int64_t)0x7fffffffffff)
+
+static inline int exporter_is_integer(uint64_t cell)
+{
+    return cell >> 60 == 6;
+}
+
+/* The cell of an integer in range; of any other number, that of its lowest 48 bits. */
+static inline uint64_t exporter_integer_cell(int64_t integer)
+{
+    return (uint64_t)6 << 60 | (uint64_t)integer << 16 >> 4;
+}
+
+/* The integer of an integer's cell. */
+static inline int64_t exporter_integer_of(uint64_t cell)
+{
+    uint64_t sign = (uint64_t)1 << 47;
+    return (int64_t)((cell << 4 >> 16) ^ sign) - (int64_t)sign;
+}
+
 /* Flattens a tree file.
    result[0]: 0 accepted, else the refusal's number, 1 to 9.
    result[1]: accepted: the linear file's length in bytes; refused: the place.
@@ -38,7 +61,7 @@ void exporter_flatten(const uint8_t *file, size_t file_len,
                       uint64_t *result, size_t result_len);
 
 /* Runs a tree file.
-   globals: read at the start (tags 1 to 6 only) and left as the run leaves them. stack, store, frames: what they held does
+   globals: read at the start (tags 1 to 6 only, all bits below their fields zero) and left as the run leaves them. stack, store, frames: what they held does
    not matter; after an accepted start the cells not in use are zero.
    result[0]: how it ended: 0 halted, 1 wrong, 2 out of budget, 3 refused.
    result[1]: halted 0; wrong the number, 10 to 18 or 23; out of budget 19; refused the number, 1 to 7 or 20 to 22.

@@ -22,14 +22,33 @@ bool chance(Random *random, unsigned percent)
     return below(random, 100) < percent;
 }
 
-static int32_t some_integer(Random *random)
+static const int64_t greatest = INT64_C(0x7fffffffffff), least = -INT64_C(0x800000000000);
+
+/* Near the ends of both widths, of either width, or small. */
+static int64_t some_integer(Random *random)
 {
-    static const int32_t ends[] = { INT32_MAX, INT32_MIN, INT32_MAX - 1, INT32_MIN + 1, 0, 1, -1, 1 << 30, -(1 << 30) };
-    switch (below(random, 4)) {
+    const int64_t ends[] = { greatest, least, greatest - 1, least + 1, INT64_C(1) << 46, -(INT64_C(1) << 46),
+                             INT32_MAX, INT32_MIN, INT64_C(1) + INT32_MAX, INT64_C(-1) + INT32_MIN, UINT32_MAX, 1 << 30, -(1 << 30), 0, 1, -1 };
+    switch (below(random, 6)) {
     case 0: return ends[below(random, sizeof ends / sizeof ends[0])];
-    case 1: return (int32_t)(uint32_t)draw(random);
-    default: return (int32_t)below(random, 21) - 10;
+    case 1: return (int64_t)(draw(random) >> 16) + least;
+    case 2: return (int32_t)(uint32_t)draw(random);
+    default: return (int64_t)below(random, 21) - 10;
     }
+}
+
+/* With either tag where both have it. */
+static void put_either(Random *random, Sheet *sheet, int64_t value)
+{
+    if (value >= INT32_MIN && value <= INT32_MAX && chance(random, 60))
+        put_integer(sheet, (int32_t)value);
+    else
+        put_wide(sheet, value);
+}
+
+static uint64_t integer_cell(int64_t value)
+{
+    return UINT64_C(6) << 60 | (uint64_t)value << 16 >> 4;
 }
 
 /* Sheets that mostly make sense. The writer follows one path through the code and keeps a guess of what the machine holds
@@ -80,7 +99,7 @@ static void write_entry(Writer *w, unsigned n, unsigned kind, unsigned t)
     if (kind == CONSTANT_ENTRY) {
         w->number[n] = chance(w->random, 65);
         if (w->number[n])
-            put_integer(&w->sheet, some_integer(w->random));
+            put_either(w->random, &w->sheet, some_integer(w->random));
         else
             put_constant(&w->sheet, below(w->random, 4));
         return;
@@ -626,7 +645,7 @@ static void write_full_stack(Random *random, Sheet *s)
     unsigned code = last[below(random, sizeof last)], pushes = 250 + below(random, 8);
     sheet_begin(s, 1);
     put_field(s, 8, 1);
-    put_integer(s, some_integer(random));
+    put_either(random, s, some_integer(random));
     put1(s, LITERAL, 1);
     put_many(s, PUSH, pushes);
     if (code == MAKE_CONT) {
@@ -643,23 +662,23 @@ static void write_full_stack(Random *random, Sheet *s)
 /* A sum whose total is at an end of the range, or one beyond, whatever the partial totals are. */
 static void write_sum(Random *random, Sheet *s)
 {
-    static const int64_t totals[] = { INT32_MAX, INT64_C(1) + INT32_MAX, INT32_MIN, INT64_C(-1) + INT32_MIN, 0 };
-    int64_t left = totals[below(random, 5)];
-    int32_t terms[40];
+    const int64_t totals[] = { greatest, greatest + 1, least, least - 1, INT64_C(1) + INT32_MAX, INT64_C(-1) + INT32_MIN, 0 };
+    int64_t left = totals[below(random, sizeof totals / sizeof totals[0])];
+    int64_t terms[40];
     unsigned count = 0, wanted = below(random, 30);
     while (count < wanted) {
         terms[count] = some_integer(random);
         left -= terms[count++];
     }
-    for (; left > INT32_MAX && count < 39; left -= INT32_MAX)
-        terms[count++] = INT32_MAX;
-    for (; left < INT32_MIN && count < 39; left -= INT32_MIN)
-        terms[count++] = INT32_MIN;
-    terms[count++] = (int32_t)(left > INT32_MAX ? INT32_MAX : left < INT32_MIN ? INT32_MIN : left);
+    for (; left > greatest && count < 39; left -= greatest)
+        terms[count++] = greatest;
+    for (; left < least && count < 39; left -= least)
+        terms[count++] = least;
+    terms[count++] = left > greatest ? greatest : left < least ? least : left;
     sheet_begin(s, 1);
     put_field(s, 8, count + 1);
     for (unsigned i = 0; i < count; i++)
-        put_integer(s, terms[i]);
+        put_either(random, s, terms[i]);
     put_constant(s, below(random, 4));
     for (unsigned i = 0; i < count; i++) {
         put1(s, LITERAL, i + 1);
@@ -680,7 +699,7 @@ static void write_retime(Random *random, Sheet *s)
     sheet_begin(s, 1);
     put_field(s, 8, 9);
     for (unsigned i = 0; i < 7; i++)
-        put_integer(s, i == 0 ? 0 : i < 3 ? (int32_t)below(random, 7) - 3 : some_integer(random));
+        put_either(random, s, i == 0 ? 0 : i < 3 ? (int64_t)below(random, 7) - 3 : some_integer(random));
     put_constant(s, below(random, 4));
     put_number(s, GLOBAL_ENTRY, below(random, 8));
     for (unsigned round = 0; round < rounds; round++) {
@@ -705,8 +724,9 @@ static void write_values(Random *random, Sheet *s)
     put_field(s, 8, 12);
     for (unsigned g = 0; g < 4; g++)
         put_number(s, GLOBAL_ENTRY, g);
-    put_integer(s, some_integer(random));
-    put_integer(s, 1);
+    int64_t value = some_integer(random); /* and again, so that %%eqv meets equal numbers with either tag */
+    put_either(random, s, value);
+    put_either(random, s, chance(random, 50) ? value : 1);
     put_constant(s, below(random, 4));
     put_number(s, TEMPLATE_ENTRY, 1);
     for (unsigned g = 8; g < 12; g++)
@@ -984,7 +1004,7 @@ static void add_linear_entries(Random *random, File *file, unsigned t, unsigned 
         else if (n % 3 == 2)
             put_number(&packed, GLOBAL_ENTRY, below(random, 4));
         else if (chance(random, 70))
-            put_integer(&packed, some_integer(random));
+            put_either(random, &packed, some_integer(random));
         else
             put_constant(&packed, below(random, 4));
     }
@@ -1085,8 +1105,7 @@ void generate_linear(Random *random, File *file)
 static uint64_t good_global(Random *random)
 {
     unsigned tag = 1 + below(random, 6);
-    uint64_t integer = tag == 6 ? (uint64_t)(uint32_t)some_integer(random) << 28 : 0;
-    return (uint64_t)tag << 60 | integer;
+    return tag == 6 ? integer_cell(some_integer(random)) : (uint64_t)tag << 60;
 }
 
 void generate_globals(Random *random, uint64_t *globals)
@@ -1094,7 +1113,7 @@ void generate_globals(Random *random, uint64_t *globals)
     bool undefined = chance(random, 20), integers = chance(random, 50);
     for (unsigned g = 0; g < 256; g++)
         globals[g] = undefined ? UINT64_C(5) << 60
-            : integers ? UINT64_C(6) << 60 | (uint64_t)(uint32_t)some_integer(random) << 28 : good_global(random);
+            : integers ? integer_cell(some_integer(random)) : good_global(random);
 }
 
 uint64_t bad_global(Random *random)
@@ -1102,7 +1121,7 @@ uint64_t bad_global(Random *random)
     switch (below(random, 4)) {
     case 0: return 0;
     case 1: return (uint64_t)(7 + below(random, 9)) << 60;
-    case 2: return UINT64_C(6) << 60 | UINT64_C(1) << (chance(random, 30) ? 27 : below(random, 28));
+    case 2: return UINT64_C(6) << 60 | UINT64_C(1) << (chance(random, 30) ? 11 : below(random, 12));
     default: return (uint64_t)(1 + below(random, 5)) << 60 | UINT64_C(1) << (chance(random, 30) ? 59 : below(random, 60));
     }
 }

@@ -1,5 +1,5 @@
 /* The library from C: flattens a sheet from standard input (sheet P2 of document 01 where there is none), runs it on both
-   machines and tells what happened. */
+   machines and tells what happened; and hands integers to a sheet in a global. The script run compiles it as C and as C++. */
 #include "../../include/exporter.h"
 
 #include <inttypes.h>
@@ -11,15 +11,26 @@ static const uint8_t p2[] = {
     0x4C, 0x02, 0xC1, 0x98, 0x08, 0x06, 0x01, 0x03, 0x2C, 0x10, 0x00
 };
 
+/* global 1, whose entry is global 0; return */
+static const uint8_t read_global[] = { 0x01, 0x01, 0x80, 0x10, 0x02, 0x10, 0x00 };
+
 typedef struct {
     uint64_t globals[EXPORTER_GLOBALS], stack[EXPORTER_STACK], store[EXPORTER_STORE], frames[EXPORTER_FRAMES];
 } Memory;
+
+static void tell_answer(uint64_t cell)
+{
+    if (exporter_is_integer(cell))
+        printf("halted with the integer %" PRId64, exporter_integer_of(cell));
+    else
+        printf("halted with the cell %016" PRIx64, cell);
+}
 
 static void tell_run(const char *machine, const uint64_t *result)
 {
     printf("%s: ", machine);
     switch (result[EXPORTER_END]) {
-    case EXPORTER_HALTED: printf("halted with the cell %016" PRIx64, result[EXPORTER_ANSWER]); break;
+    case EXPORTER_HALTED: tell_answer(result[EXPORTER_ANSWER]); break;
     case EXPORTER_WRONG: printf("went wrong by %" PRIu64, result[EXPORTER_NUMBER]); break;
     case EXPORTER_OUT_OF_BUDGET: printf("ran out of its budget"); break;
     default: printf("refused by %" PRIu64 " at %" PRIu64 "\n", result[EXPORTER_NUMBER], result[EXPORTER_PLACE]); return;
@@ -34,6 +45,25 @@ static void set_globals_undefined(Memory *m)
         m->globals[g] = UINT64_C(5) << 60;
 }
 
+static void tell_integer(Memory *m, int64_t integer)
+{
+    uint64_t result[EXPORTER_RUN_SLOTS];
+    set_globals_undefined(m);
+    m->globals[0] = exporter_integer_cell(integer);
+    printf("global 0 is %016" PRIx64 "; ", m->globals[0]);
+    exporter_run_tree(read_global, sizeof read_global, EXPORTER_TREE_BUDGET, m->globals, EXPORTER_GLOBALS, m->stack, EXPORTER_STACK,
+                      m->store, EXPORTER_STORE, m->frames, EXPORTER_FRAMES, result, EXPORTER_RUN_SLOTS);
+    tell_run("tree machine", result);
+}
+
+static void tell_integers(Memory *m)
+{
+    tell_integer(m, 7);
+    tell_integer(m, -1);
+    tell_integer(m, EXPORTER_INTEGER_MAX);
+    tell_integer(m, EXPORTER_INTEGER_MIN);
+}
+
 int main(void)
 {
     static uint8_t sheet[EXPORTER_TREE_FILE + 1], linear[EXPORTER_LINEAR_FILE];
@@ -43,6 +73,7 @@ int main(void)
     if (length == 0) {
         memcpy(sheet, p2, sizeof p2);
         length = sizeof p2;
+        tell_integers(&m);
     }
 
     exporter_flatten(sheet, length, linear, sizeof linear, flattened, EXPORTER_FLATTEN_SLOTS);

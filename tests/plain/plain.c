@@ -18,6 +18,11 @@ enum {
     TREE_BUDGET = 1000000, LINEAR_BUDGET = 2000000
 };
 
+/* Integers have 48 bits (request 7). A constant of tag 4 has 32 of them, one of tag 5 all. */
+enum { NARROW_TAG = 4, WIDE_TAG, NARROW_BITS = 32, INTEGER_BITS = 48, BELOW_INTEGER = 12 };
+
+static const int64_t greatest_integer = INT64_C(0x7fffffffffff), least_integer = -INT64_C(0x800000000000);
+
 /* Bytes of a linear instruction; 0 is no instruction. */
 static const uint8_t linear_size[LAST_CODE + 1] = {
     [RETURN] = 1, [CALL] = 2, [CONDITIONAL] = 3, [MAKE_CONT] = 4, [JUMP] = 3,
@@ -62,15 +67,21 @@ static unsigned tag_of(Cell c)
     return (unsigned)(c >> 60);
 }
 
-static Cell integer_cell(uint32_t bits)
+/* The number whose lowest bits these are, in two's complement of so many. */
+static int64_t signed_number(uint64_t bits, unsigned width)
 {
-    return tagged(INTEGER_TAG) | (Cell)bits << 28;
+    int64_t full = INT64_C(1) << width, number = (int64_t)(bits & ((uint64_t)full - 1));
+    return number < full / 2 ? number : number - full;
+}
+
+static Cell integer_cell(int64_t number)
+{
+    return tagged(INTEGER_TAG) | ((Cell)number & ((UINT64_C(1) << INTEGER_BITS) - 1)) << BELOW_INTEGER;
 }
 
 static int64_t integer_value(Cell c)
 {
-    int64_t bits = (int64_t)(c >> 28 & 0xffffffff);
-    return bits < INT64_C(0x80000000) ? bits : bits - INT64_C(0x100000000);
+    return signed_number(c >> BELOW_INTEGER, INTEGER_BITS);
 }
 
 static Cell closure_cell(Cell template, Cell environment, Cell location)
@@ -97,7 +108,7 @@ static bool is_starting_global(Cell c)
 {
     unsigned tag = tag_of(c);
     if (tag == INTEGER_TAG)
-        return c << 36 == 0;
+        return c << (64 - BELOW_INTEGER) == 0;
     return tag >= FALSE_TAG && tag <= UNDEFINED_TAG && c << 4 == 0;
 }
 
@@ -118,19 +129,19 @@ static bool open_file(const uint8_t *file, size_t len, size_t limit)
     return true;
 }
 
-static uint32_t bits_at(uint64_t place, unsigned width)
+static uint64_t bits_at(uint64_t place, unsigned width)
 {
     const uint8_t *p = file_bytes + place / 8;
     uint64_t eight = (uint64_t)p[0] << 56 | (uint64_t)p[1] << 48 | (uint64_t)p[2] << 40 | (uint64_t)p[3] << 32
         | (uint64_t)p[4] << 24 | (uint64_t)p[5] << 16 | (uint64_t)p[6] << 8 | (uint64_t)p[7];
-    return (uint32_t)(eight << place % 8 >> (64 - width));
+    return eight << place % 8 >> (64 - width);
 }
 
 static bool field(unsigned width, uint32_t *value)
 {
     if (file_bits - at < width)
         return refuse(2, at);
-    *value = bits_at(at, width);
+    *value = (uint32_t)bits_at(at, width);
     at += width;
     return true;
 }
@@ -167,18 +178,20 @@ static bool read_count_of_templates(void)
 
 static bool read_constant(Cell *constant)
 {
-    uint32_t tag, bits;
+    uint32_t tag;
     if (!field(3, &tag))
         return false;
-    if (tag > 4)
+    if (tag > WIDE_TAG)
         return refuse(3, at - 3);
-    if (tag < 4) {
+    if (tag < NARROW_TAG) {
         *constant = tagged(FALSE_TAG + tag);
         return true;
     }
-    if (!field(32, &bits))
-        return false;
-    *constant = integer_cell(bits);
+    unsigned width = tag == NARROW_TAG ? NARROW_BITS : INTEGER_BITS;
+    if (file_bits - at < width)
+        return refuse(2, at);
+    *constant = integer_cell(signed_number(bits_at(at, width), width));
+    at += width;
     return true;
 }
 
@@ -468,7 +481,7 @@ static uint8_t *write_entries(const Tree *tree, uint8_t *to)
     *to++ = (uint8_t)bits_at(tree->entries_from - 8, 8);
     for (uint64_t bit = tree->entries_from; bit < tree->entries_to; bit += 8) {
         uint64_t left = tree->entries_to - bit;
-        uint32_t byte = bits_at(bit, 8);
+        uint32_t byte = (uint32_t)bits_at(bit, 8);
         *to++ = (uint8_t)(left < 8 ? byte >> (8 - left) << (8 - left) : byte);
     }
     return to;
@@ -687,12 +700,12 @@ RULE unsigned eqv(Machine *m)
     return 0;
 }
 
-/* An integer as a primitive's value; 15 out of range. */
+/* An integer as a primitive's value; 15 out of range. A total of 256 integers is within 64 bits. */
 RULE unsigned integer_result(Machine *m, int64_t value)
 {
-    if (value < INT32_MIN || value > INT32_MAX)
+    if (value < least_integer || value > greatest_integer)
         return 15;
-    m->v = integer_cell((uint32_t)value);
+    m->v = integer_cell(value);
     empty_stack(m);
     return 0;
 }

@@ -2,7 +2,7 @@
 
 #include <string.h>
 
-void put_field(Sheet *sheet, unsigned width, uint32_t value)
+void put_field(Sheet *sheet, unsigned width, uint64_t value)
 {
     for (unsigned i = width; i-- > 0;) {
         if (sheet->bits == 8 * (size_t)SHEET_ROOM)
@@ -28,6 +28,12 @@ void put_integer(Sheet *sheet, int32_t value)
 {
     put_constant(sheet, INTEGER_CONSTANT);
     put_field(sheet, 32, (uint32_t)value);
+}
+
+void put_wide(Sheet *sheet, int64_t value)
+{
+    put_constant(sheet, WIDE_CONSTANT);
+    put_field(sheet, 48, (uint64_t)value);
 }
 
 void put_constant(Sheet *sheet, unsigned tag)

@@ -14,7 +14,7 @@ enum {
 };
 
 enum { CONSTANT_ENTRY = 1, GLOBAL_ENTRY, TEMPLATE_ENTRY };
-enum { FALSE_CONSTANT, TRUE_CONSTANT, NULL_CONSTANT, NOT_SPECIFIED_CONSTANT, INTEGER_CONSTANT };
+enum { FALSE_CONSTANT, TRUE_CONSTANT, NULL_CONSTANT, NOT_SPECIFIED_CONSTANT, INTEGER_CONSTANT, WIDE_CONSTANT };
 
 typedef struct {
     uint8_t bytes[SHEET_ROOM];
@@ -24,8 +24,9 @@ typedef struct {
 void sheet_begin(Sheet *sheet, unsigned templates);
 size_t sheet_length(const Sheet *sheet); /* in bytes, padding included */
 
-void put_field(Sheet *sheet, unsigned width, uint32_t value);
-void put_integer(Sheet *sheet, int32_t value);
+void put_field(Sheet *sheet, unsigned width, uint64_t value);
+void put_integer(Sheet *sheet, int32_t value); /* tag 4, 32 bits */
+void put_wide(Sheet *sheet, int64_t value);    /* tag 5, its lowest 48 bits */
 void put_constant(Sheet *sheet, unsigned tag);
 void put_number(Sheet *sheet, unsigned kind, unsigned number);
 

@@ -9,13 +9,20 @@ enum { SHEET = 4096, GLOBALS = 256, STACK = 256, STORE = 2048, FRAMES = 2048 };
 typedef void Run(const uint8_t *, size_t, uint64_t, uint64_t *, size_t, uint64_t *, size_t, uint64_t *, size_t,
                  uint64_t *, size_t, uint64_t *, size_t);
 
+/* 48 bits after the tag, two's complement */
+static int64_t integer_of(uint64_t cell)
+{
+    int64_t bits = (int64_t)(cell >> 12 & UINT64_C(0xffffffffffff));
+    return bits < INT64_C(0x800000000000) ? bits : bits - INT64_C(0x1000000000000);
+}
+
 static void print_answer(uint64_t cell)
 {
     static const char *const words[] = {
         [1] = "false", [2] = "true", [3] = "null", [4] = "unspecified", [7] = "procedure", [8] = "pair"
     };
     if (cell >> 60 == 6)
-        printf("%" PRId32, (int32_t)(uint32_t)(cell >> 28));
+        printf("%" PRId64, integer_of(cell));
     else
         printf("%s", words[cell >> 60]);
 }

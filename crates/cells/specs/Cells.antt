@@ -1,5 +1,5 @@
 -- Cells (document 01, 'Cells'): 64 bits, from the highest a tag of 4 bits, then the fields, then zeros.
-use Prim.Native.Nat.{ℕ, _+_, _*_, _/_, _%_, _<_, _^_}
+use Prim.Native.Nat.{ℕ, _+_, _-_, _*_, _/_, _%_, _<_, _^_}
 use mathlib.Core.Path.{_≡_}
 use mathlib.Core.Bool.{Bool, cond, _&&_}
 use lib.Dec.{leb, eqb}
@@ -26,10 +26,22 @@ unspecifiedCell = 0x4000000000000000
 abbrev pub undefinedCell : ℕ
 undefinedCell = 0x5000000000000000
 
+-- ---- integers: two's complement of one width (request 7: 48 bits), which stands here and as HALF in src/ alone
+-- so many patterns of bits, the first half of them not negative
+abbrev pub half : ℕ
+half = 0x800000000000
+
+abbrev pub full : ℕ
+full = 2 * half
+
+-- 32 bits, as a constant of tag 4 has them, in this width: the highest bit goes on upwards
+abbrev pub widened : ℕ → ℕ
+widened x = x + (full - 0x100000000) * (x / 0x80000000)
+
 -- ---- cells with fields
--- 32 bits, two's complement
+-- an integer's bits, then 12 zero bits
 abbrev pub intCell : ℕ → ℕ
-intCell x = 0x6000000000000000 + x * 0x10000000
+intCell x = 0x6000000000000000 + x * 0x1000
 
 -- template 8, environment 16, location 16
 abbrev pub closureCell : ℕ → ℕ → ℕ → ℕ
@@ -52,7 +64,7 @@ abbrev pub tagOf : ℕ → ℕ
 tagOf c = c / 0x1000000000000000
 
 abbrev pub intOf : ℕ → ℕ
-intOf c = c / 0x10000000 % 0x100000000
+intOf c = c / 0x1000 % full
 
 abbrev pub closureTemplate : ℕ → ℕ
 closureTemplate c = c / 0x10000000000000 % 0x100
@@ -125,7 +137,7 @@ Fits False = Unit
 Fits True = Unit
 Fits Null = Unit
 Fits Unspecified = Unit
-Fits (Integer x) = x < 2 ^ 32
+Fits (Integer x) = x < full
 Fits (Procedure c) = (c .template < 2 ^ 8) × (c .env < 2 ^ 16) × (c .location < 2 ^ 16)
 Fits (Pair a b) = (a < 2 ^ 16) × (b < 2 ^ 16)
 Fits NoValue = ⊥

@@ -1,12 +1,13 @@
 -- What is packed comes back, and what a cell's tag decides. Assumes nothing.
 use mathlib.Core.Path.{_≡_, refl, sym, _∙_}
-use mathlib.Core.Bool.{false}
-use Prim.Native.Nat.{ℕ, _*_, _<_, _≤_, _^_}
+use mathlib.Core.Bool.{Bool, true, false}
+use Prim.Native.Nat.{ℕ, _+_, _-_, _*_, _%_, _<_, _≤_, _^_}
 use native.Mathlib.Omega.{arith}
 use lib.Dec.{eqb}
-use borrow.Author.Tests.{eq-eqb, ne-eqb, le-leb, lt-leb}
+use borrow.Author.Tests.{eq-eqb, ne-eqb, eqb-true, eqb-false, le-leb, lt-leb}
 use Rattle.cells.specs.declared.Value.{Value}
 use Rattle.cells.specs.declared.Value.the-variants.{False, True, Null, Unspecified, Integer, Procedure, Pair, NoValue}
+use Rattle.cells.specs.Cells.{full, widened}
 use Rattle.cells.specs.Cells.{tagOf, intCell, intOf, closureCell, closureTemplate, closureEnv, closureLocation, pairCell, pairFirst, pairSecond}
 use Rattle.cells.specs.Cells.{layerCell, layerParent, layerCount, frameCell, frameCount, frameTemplate, frameEnv, framePlace}
 use Rattle.cells.specs.Cells.{startingGlobal, valueOf, cellOf, Fits, ValueCell}
@@ -16,7 +17,17 @@ pub clash : {A : Type 0} → _≡_ {A = ℕ} 0 1 → A
 clash e = absurd (omega arith)
 
 -- ---- fields
-pub int-back : (x : ℕ) → x < 2 ^ 32 → (intOf (intCell x) ≡ x) × (tagOf (intCell x) ≡ 6)
+-- 32 bits have their place in an integer's
+pub widened-low : (x : ℕ) → x < 2 ^ 31 → widened x ≡ x
+widened-low x h = omega arith
+
+pub widened-high : (x : ℕ) → 2 ^ 31 ≤ x → x < 2 ^ 32 → widened x ≡ x + (full - 2 ^ 32)
+widened-high x l h = omega arith
+
+pub widened-fits : (x : ℕ) → x < 2 ^ 32 → widened x < full
+widened-fits x h = omega arith
+
+pub int-back : (x : ℕ) → x < full → (intOf (intCell x) ≡ x) × (tagOf (intCell x) ≡ 6)
 int-back x h = omega arith
 
 pub pair-back : (a b : ℕ) → a < 2 ^ 16 → b < 2 ^ 16 → (pairFirst (pairCell a b) ≡ a) × (pairSecond (pairCell a b) ≡ b) × (tagOf (pairCell a b) ≡ 8)
@@ -50,6 +61,15 @@ cell-value NoValue h = absurd h
 -- the cell of a value cell's value is the cell
 pub value-back : {c : ℕ} → ValueCell c → cellOf (valueOf c) ≡ c
 value-back v = rw (v .is, cell-value (v .value) (v .fits))
+
+-- ---- 22 of an integer asks that the 12 bits below it are zero
+pub starting-low : (c : ℕ) → tagOf c ≡ 6 → startingGlobal c ≡ eqb (c % 0x1000) 0
+unfolding startingGlobal
+starting-low c t = rw (eq-eqb (tagOf c) 6 t) (go (eqb (c % 0x1000) 0) refl)
+  where
+    go : (b : Bool) → eqb (c % 0x1000) 0 ≡ b → eqb c (intCell (intOf c)) ≡ b
+    go true e = eq-eqb c (intCell (intOf c)) (omega (arith, eqb-true (c % 0x1000) 0 e))
+    go false e = ne-eqb c (intCell (intOf c)) (λ k. eqb-false (c % 0x1000) 0 e (omega arith))
 
 -- ---- by the tag t of a cell c, in the shape that the code has it
 module _ (c t : ℕ) (tag : t ≡ tagOf c) where

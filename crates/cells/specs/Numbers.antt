@@ -60,7 +60,7 @@ beyondLayers = 13
 abbrev pub wrongKind : ℕ
 wrongKind = 14
 
--- 15 the exact result is not within 32 bits signed: integerRule (rules, Rules)
+-- 15 the exact result is not within an integer's bits, signed: integerRule (rules, Rules)
 abbrev pub outOfRange : ℕ
 outOfRange = 15
 

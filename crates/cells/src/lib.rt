@@ -2,7 +2,7 @@
 ghost use mathlib.Core.Path.{_≡_};
 ghost use Prim.Native.Nat.{_+_, _*_, _-_, _/_, _%_, _≤_, _<_};
 ghost use lib.Dec.{eqb, ltb, leb};
-ghost use Rattle.cells.specs.Cells.{tagOf, intCell, intOf, closureCell, closureOf, closureTemplate, closureEnv};
+ghost use Rattle.cells.specs.Cells.{full, widened, tagOf, intCell, intOf, closureCell, closureOf, closureTemplate, closureEnv};
 ghost use Rattle.cells.specs.Cells.{pairCell, pairFirst, pairSecond, layerCell, layerParent, layerCount};
 ghost use Rattle.cells.specs.Cells.{frameCell, frameCount, frameTemplate, frameEnv, framePlace, startingGlobal, valueOf};
 
@@ -190,13 +190,13 @@ pub struct Closure {
     pub location: u64,
 }
 
-// The value of a cell. An integer is its 32 bits in two's complement.
+// The value of a cell. An integer is its 48 bits in two's complement.
 pub enum Value {
     False,
     True,
     Null,
     Unspecified,
-    Integer(u32),
+    Integer(u64),
     Procedure(Closure),
     Pair(u64, u64),
     // A cell that is no value: not in use, undefined, a layer or a frame.
@@ -223,16 +223,33 @@ pub fn tag_of(c: u64) -> u64
 
 // ---- 6: an integer
 
-pub fn int_cell(x: u32) -> u64
+// The width, 48 bits: FULL patterns of bits, the first HALF of them not negative.
+pub const HALF: u64 = 0x8000_0000_0000;
+
+pub const FULL: u64 = 2 * HALF;
+
+pub fn int_cell(x: u64) -> u64
+    requires { ⌜ x < full ⌝ }
     ensures { λ r. ⌜ r ≡ intCell x ⌝ }
 {
-    0x6000_0000_0000_0000 + (x as u64) * 0x1000_0000
+    0x6000_0000_0000_0000 + x * 0x1000
 }
 
-pub fn int_of(c: u64) -> u32
+pub fn int_of(c: u64) -> u64
     ensures { λ r. ⌜ r ≡ intOf c ⌝ }
 {
-    (c / 0x1000_0000 % 0x1_0000_0000) as u32
+    c / 0x1000 % FULL
+}
+
+// The same number with more bits: a constant of tag 4 has 32.
+pub fn widened(x: u32) -> u64
+    ensures { λ r. ⌜ r ≡ widened x ⌝ }
+{
+    if x < 0x8000_0000 {
+        x as u64
+    } else {
+        x as u64 + (FULL - 0x1_0000_0000)
+    }
 }
 
 // ---- 7: a closure

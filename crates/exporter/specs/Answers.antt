@@ -4,7 +4,7 @@ use native.Mathlib.Omega.{arith}
 use mathlib.Core.Option.{Option, none, some}
 use lib.Dec.{eqb, leb}
 use mathlib.Core.List.{List}
-use Rattle.cells.specs.Cells.{valueOf, tagOf}
+use Rattle.cells.specs.Cells.{full, valueOf, tagOf}
 use Rattle.cells.specs.declared.Value.{Value}
 use Rattle.cells.specs.declared.Value.the-variants.{False, True, Null, Unspecified, Integer, Procedure, Pair, NoValue}
 use Rattle.files.specs.Reading.{Got, got, refused}
@@ -17,13 +17,13 @@ use Rattle.machines.specs.Runs.{Memory, Ran, ran, refusedRun, lowestUnfit, fitG
 use Rattle.machines.specs.declared.End.{End}
 use Rattle.machines.specs.declared.End.the-variants.{Halted, Wrong, OutOfBudget, Refused}
 
--- the fields of an answer fit into a cell; NoValue has none, and an integer is any that a cell was read as
+-- the fields of an answer fit into a cell; NoValue has none
 unfoldable pub FieldsFit : Value → Type 0
 FieldsFit False = Unit
 FieldsFit True = Unit
 FieldsFit Null = Unit
 FieldsFit Unspecified = Unit
-FieldsFit (Integer x) = Unit
+FieldsFit (Integer x) = x < full
 FieldsFit (Procedure c) = (c .template < 2 ^ 8) × (c .env < 2 ^ 16) × (c .location < 2 ^ 16)
 FieldsFit (Pair a b) = (a < 2 ^ 16) × (b < 2 ^ 16)
 FieldsFit NoValue = Unit
@@ -46,7 +46,7 @@ value-fits c =
     (either FieldsFit (eqb (tagOf c) 2) _ _ tt
     (either FieldsFit (eqb (tagOf c) 3) _ _ tt
     (either FieldsFit (eqb (tagOf c) 4) _ _ tt
-    (either FieldsFit (eqb (tagOf c) 6) _ _ tt
+    (either FieldsFit (eqb (tagOf c) 6) _ _ (omega arith)
     (either FieldsFit (eqb (tagOf c) 7) _ _ (omega arith, omega arith, omega arith)
     (either FieldsFit (eqb (tagOf c) 8) _ _ (omega arith, omega arith) tt))))))
 

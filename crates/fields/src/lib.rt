@@ -47,6 +47,22 @@ fn half_word_at(s: &[u8], at: BitPlace) -> u32
     bits_at(s, at, 8) * 256 + bits_at(s, at.past(8), 8)
 }
 
+// The number that 32 bits are.
+fn word_at(s: &[u8], at: BitPlace) -> u32
+    requires { ⌜ (length (now s) ≤ 262144) × (at .0 + 32 ≤ 8 * length (now s)) ⌝ }
+    ensures { λ r. ⌜ r ≡ fieldAt (now (s .entry)) (at .0) 32 ⌝ }
+{
+    half_word_at(s, at) * 65536 + half_word_at(s, at.past(16))
+}
+
+// The number that 48 bits are.
+pub fn wide_at(s: &[u8], at: BitPlace) -> u64
+    requires { ⌜ (length (now s) ≤ 262144) × (at .0 + 48 ≤ 8 * length (now s)) ⌝ }
+    ensures { λ r. ⌜ r ≡ fieldAt (now (s .entry)) (at .0) 48 ⌝ }
+{
+    half_word_at(s, at) as u64 * 0x1_0000_0000 + word_at(s, at.past(16)) as u64
+}
+
 // The field of `width` bits, at most 8, at a place.
 pub fn read_field(s: &[u8], at: BitPlace, width: usize) -> Field
     requires { ⌜ (length (now s) ≤ 262144) × (width ≤ 8) ⌝ }
@@ -64,8 +80,7 @@ pub fn read_word(s: &[u8], at: BitPlace) -> Field
     ensures { λ r. ⌜ r ≡ fieldRead (now (s .entry)) (at .0) 32 ⌝ }
 {
     if at.within(32, s.len()) {
-        let word = half_word_at(s, at) * 65536 + half_word_at(s, at.past(16));
-        return Field::Read(word, at.past(32));
+        return Field::Read(word_at(s, at), at.past(32));
     }
     Field::Cut
 }

@@ -10,7 +10,7 @@ use Rattle.fields.specs.declared.Field.the-variants.{Read, Cut}
 use Rattle.fields.specs.Field.{bitAt, fieldRead}
 use Rattle.files.specs.Reading.{Got, got, refused}
 
--- a constant is its tag and its 32 bits (0 where the tag has none)
+-- a constant is its tag, and the number that the bits after it are (0 where the tag has none)
 pub data Entry : Type 0 where
   constant : ℕ → ℕ → Entry
   global : ℕ → Entry
@@ -34,9 +34,13 @@ abbrev pub valid : {A : Type 0} → ℕ → Bool → Got A → Got A
 valid p true g = g
 valid p false g = refused invalidField p
 
+-- how many bits a constant has after its tag: an integer's 32 after 4 and 48 after 5 (request 7), none after 0 to 3
+unfoldable pub tagWidth : ℕ → ℕ
+tagWidth t = cond (eqb t 4) 32 (cond (eqb t 5) 48 0)
+
 -- the constant whose tag t stands at p and ends at q
 unfoldable pub constantAt : List ℕ → ℕ → ℕ → ℕ → Got Entry
-constantAt s p t q = cond (eqb t 4) (then (field s q 32) (λ x r. got (constant 4 x) r)) (valid p (ltb t 4) (got (constant t 0) q))
+constantAt s p t q = valid p (ltb t 6) (then (field s q (tagWidth t)) (λ x r. got (constant t x) r))
 
 -- the entry at p whose kind is k and ends at q, of template own of T: 1 a constant, 2 a global, 3 a template above own and below T
 unfoldable pub kindAt : List ℕ → ℕ → ℕ → ℕ → ℕ → ℕ → Got Entry

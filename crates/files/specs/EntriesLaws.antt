@@ -2,21 +2,21 @@
 use Prim.Native.Nat.{ℕ, zero, suc, _+_, _*_, _/_, _^_, _≤_, _<_}
 use native.Mathlib.Omega.{arith}
 use mathlib.Core.Path.{_≡_, refl, ap}
-use mathlib.Core.Bool.{Bool, true, false, cond, _&&_}
+use mathlib.Core.Bool.{Bool, true, false, _&&_}
 use mathlib.Core.List.{List, [], _∷_}
-use borrow.Author.Tests.{ltb-true, eqb-false, ne-eqb}
+use borrow.Author.Tests.{ltb-true, ne-eqb}
 use lib.ListN.{length, drop, length-append}
-use lib.Dec.{ltb, eqb}
+use lib.Dec.{ltb}
 use Rattle.fields.specs.Field.{fieldAt}
 use Rattle.fields.specs.Laws.{read-cases, field-small}
 use Rattle.files.specs.Reading.{Got, got, refused}
-use Rattle.files.specs.Entries.{Entry, constant, global, template, then, fieldGot, field, valid, constantAt, kindAt, entryAt, entriesAt}
-use Rattle.files.specs.Linear.{entryBits, entriesBits, bytesFrom, bytesOf}
+use Rattle.files.specs.Entries.{Entry, constant, global, template, then, fieldGot, field, valid, tagWidth, constantAt, kindAt, entryAt, entriesAt}
+use Rattle.files.specs.Linear.{bitsOf, entryBits, entriesBits, bytesFrom, bytesOf}
 
 -- ---- the statements
 -- an entry of template own of T
 abbrev pub EntryOk : ℕ → ℕ → Entry → Type 0
-EntryOk own T (constant t x) = (t < 5) × (x < 2 ^ 32) × ((t ≡ 4 → ⊥) → x ≡ 0)
+EntryOk own T (constant t x) = (t < 6) × (x < 2 ^ tagWidth t)
 EntryOk own T (global g) = g < 256
 EntryOk own T (template t) = (own < t) × (t < T) × (T ≤ 64)
 
@@ -24,7 +24,26 @@ abbrev pub EntriesOk : ℕ → ℕ → List Entry → Type 0
 EntriesOk own T [] = Unit
 EntriesOk own T (e ∷ es) = EntryOk own T e × EntriesOk own T es
 
+-- ---- the bits after a constant's tag
+module _ (t : ℕ) where
+  pub width-none : (t ≡ 4 → ⊥) → (t ≡ 5 → ⊥) → tagWidth t ≡ 0
+  unfolding tagWidth
+  width-none h k = rw (ne-eqb t 4 h, ne-eqb t 5 k)
+
+  pub width-narrow : t ≡ 4 → tagWidth t ≡ 32
+  unfolding tagWidth
+  width-narrow e = rw e
+
+  pub width-wide : t ≡ 5 → tagWidth t ≡ 48
+  unfolding tagWidth
+  width-wide e = rw e
+
 -- ---- a field
+pub bits-length : (w v : ℕ) → length (bitsOf w v) ≡ w
+unfolding bitsOf
+bits-length zero v = refl
+bits-length (suc w) v = ap suc (bits-length w v)
+
 -- what holds of every refusal, and of what follows the field where it does not run past the end, holds
 pub then-field : {B : Type 0} (P : Got B → Type 0) (s : List ℕ) (p w : ℕ) (f : ℕ → ℕ → Got B) → P (refused 2 p) → (p + w ≤ 8 * length s → P (f (fieldAt s p w) (p + w))) → P (then (field s p w) f)
 unfolding then field fieldGot
@@ -37,18 +56,12 @@ module _ (s : List ℕ) (own T p : ℕ) (few : T ≤ 64) where
   EntryGood (got e q) = EntryOk own T e × (q ≡ p + length (entryBits e)) × (q ≤ 8 * length s)
   EntryGood (refused n x) = Unit
 
-  integer-good : (q : ℕ) → q ≡ p + 5 → EntryGood (then (field s q 32) (λ x r. got (constant 4 x) r))
+  constant-good : (x t q : ℕ) → q ≡ p + 5 → (b : Bool) → ltb t 6 ≡ b → EntryGood (valid x b (then (field s q (tagWidth t)) (λ x r. got (constant t x) r)))
   unfolding entryBits
-  integer-good q e = then-field EntryGood s q 32 _ tt (λ h. ((omega arith, field-small s q 32, λ k. absurd (k refl)), omega arith, h))
-
-  plain-good : (x t q : ℕ) → (t ≡ 4 → ⊥) → q ≡ p + 5 → q ≤ 8 * length s → (b : Bool) → ltb t 4 ≡ b → EntryGood (valid x b (got (constant t 0) q))
-  unfolding entryBits
-  plain-good x t q k e h true i = ((omega (arith, ltb-true t 4 i), omega arith, λ k. refl), rw (ne-eqb t 4 k) (omega arith), h)
-  plain-good x t q k e h false i = tt
-
-  constant-good : (x t q : ℕ) → q ≡ p + 5 → q ≤ 8 * length s → (b : Bool) → eqb t 4 ≡ b → EntryGood (cond b (then (field s q 32) (λ x r. got (constant 4 x) r)) (valid x (ltb t 4) (got (constant t 0) q)))
-  constant-good x t q e h true i = integer-good q e
-  constant-good x t q e h false i = plain-good x t q (eqb-false t 4 i) e h (ltb t 4) refl
+  constant-good x t q e true i =
+      then-field EntryGood s q (tagWidth t) _ tt
+      (λ h. ((ltb-true t 6 i, field-small s q (tagWidth t)), omega (arith, bits-length (tagWidth t) (fieldAt s q (tagWidth t))), h))
+  constant-good x t q e false i = tt
 
   template-good : (x t q : ℕ) → q ≡ p + 10 → q ≤ 8 * length s → (a b : Bool) → ltb own t ≡ a → ltb t T ≡ b → EntryGood (valid x (a && b) (got (template t) q))
   unfolding entryBits
@@ -59,7 +72,7 @@ module _ (s : List ℕ) (own T p : ℕ) (few : T ≤ 64) where
   kind-good : (q k : ℕ) → q ≡ p + 2 → EntryGood (kindAt s own T p q k)
   unfolding kindAt constantAt entryBits
   kind-good q zero e = tt
-  kind-good q (suc zero) e = then-field EntryGood s q 3 _ tt (λ h. constant-good q (fieldAt s q 3) (q + 3) (omega arith) h (eqb (fieldAt s q 3) 4) refl)
+  kind-good q (suc zero) e = then-field EntryGood s q 3 _ tt (λ h. constant-good q (fieldAt s q 3) (q + 3) (omega arith) (ltb (fieldAt s q 3) 6) refl)
   kind-good q (suc (suc zero)) e = then-field EntryGood s q 8 _ tt (λ h. (field-small s q 8, omega arith, h))
   kind-good q (suc (suc (suc k))) e = then-field EntryGood s q 8 _ tt (λ h. template-good q (fieldAt s q 8) (q + 8) (omega arith) h (ltb own (fieldAt s q 8)) (ltb (fieldAt s q 8) T) refl refl)
 

@@ -3,24 +3,26 @@ use Prim.Native.Nat.{ℕ, suc, _+_, _*_, _-_, _^_, _≤_, _<_}
 use native.Mathlib.Omega.{arith}
 use mathlib.Core.Path.{_≡_, refl, sym, ap, _∙_}
 use mathlib.Core.List.{List, [], _∷_}
-use borrow.Author.Tests.{ne-eqb, lt-ltb, le-ltb}
+use borrow.Author.Tests.{lt-ltb, le-ltb}
 use lib.ListN.{length, set}
 use lib.Seq.{sets}
 use native.Mathlib.Numerals.{add-one}
 use Rattle.cells.specs.Laws.{clash}
 use Rattle.cells.specs.declared.BitPlace.{BitPlace}
-use Rattle.cells.specs.Cells.{intCell}
+use Rattle.cells.specs.Cells.{widened, intCell}
 use Rattle.fields.specs.declared.Field.{Field}
 use Rattle.fields.specs.declared.Field.the-variants.{Read, Cut}
-use Rattle.fields.specs.Field.{fieldRead}
-use Rattle.fields.specs.Laws.{value-of, field-small}
+use Rattle.fields.specs.Field.{fieldAt, fieldRead}
+use Rattle.fields.specs.Laws.{whole, value-of, field-small}
 use Rattle.files.specs.declared.EntryRead.{EntryRead}
 use Rattle.files.specs.declared.EntryRead.the-variants.{Slot, Refused as RefusedEntry}
 use Rattle.files.specs.declared.Entries.the-variants.{Read as ReadEntries, Refused as RefusedEntries}
 use Rattle.files.specs.Reading.{Got, got, refused}
-use Rattle.files.specs.Entries.{Entry, then, fieldGot, field, constantAt, kindAt, entryAt, entriesAt}
+use Rattle.files.specs.Entries.{Entry, then, fieldGot, field, tagWidth, constantAt, kindAt, entryAt, entriesAt}
+use Rattle.files.specs.EntriesLaws.{width-none, width-narrow, width-wide}
 use Rattle.files.specs.EntriesRead.{entryTold, entriesTold, slotThen, slotsAt}
-use Rattle.files.specs.Table.{slotOf}
+use Rattle.files.specs.Table.{constantCell, slotOf}
+use Rattle.files.specs.TableLaws.{plain-cell, narrow-cell, wide-cell}
 
 -- ---- a field, by the answer r that reading it gave
 module _ (s : List ℕ) (p w : ℕ) {r : Field} (asked : r ≡ fieldRead s p w) where
@@ -38,23 +40,44 @@ module _ (s : List ℕ) (p w : ℕ) {r : Field} (asked : r ≡ fieldRead s p w) 
   pub field-within : {v : ℕ} {q : BitPlace} → r ≡ Read v q → q .0 ≤ 8 * length s
   field-within {v} {q} e = let k = value-of s p w v q (sym asked ∙ e) in omega arith
 
--- ---- a constant whose tag t stands at p and ends at q
-module _ (s : List ℕ) (p t q : ℕ) where
-  pub integer-cut : t ≡ 4 → field s q 32 ≡ refused 2 q → RefusedEntry 2 (record { 0 = q }) ≡ entryTold (constantAt s p t q)
+-- no bits are a field too, where the file has not ended
+pub no-field : (s : List ℕ) (p : ℕ) → p ≤ 8 * length s → field s p 0 ≡ got 0 p
+unfolding field fieldGot fieldAt
+no-field s p h = let e : p + 0 ≡ p = omega arith in rw (← whole s p 0 (omega arith), e)
+
+-- ---- a constant whose tag t stands at p and ends at q; w bits follow
+module _ (s : List ℕ) (p t q w : ℕ) where
+  pub bits-cut : t < 6 → tagWidth t ≡ w → field s q w ≡ refused 2 q → RefusedEntry 2 (record { 0 = q }) ≡ entryTold (constantAt s p t q)
   unfolding constantAt then entryTold
-  integer-cut h e = rw (h, e)
+  bits-cut h k e = rw (lt-ltb t 6 h, k, e)
 
-  pub integer-read : {x z : ℕ} → t ≡ 4 → field s q 32 ≡ got x z → Slot (intCell x) (record { 0 = z }) ≡ entryTold (constantAt s p t q)
+  pub bits-read : {x z y : ℕ} → t < 6 → tagWidth t ≡ w → field s q w ≡ got x z → constantCell t x ≡ y
+      → Slot y (record { 0 = z }) ≡ entryTold (constantAt s p t q)
   unfolding constantAt then entryTold slotOf
-  integer-read h e = rw (h, e)
+  bits-read h k e c = rw (lt-ltb t 6 h, k, e, c)
 
-  pub plain-constant : (t ≡ 4 → ⊥) → t < 4 → Slot ((t + 1) * 0x1000000000000000) (record { 0 = q }) ≡ entryTold (constantAt s p t q)
-  unfolding constantAt entryTold slotOf
-  plain-constant h e = simp (ne-eqb t 4 h, lt-ltb t 4 e)
+pub bad-tag : (s : List ℕ) (p t q : ℕ) → 6 ≤ t → RefusedEntry 3 (record { 0 = p }) ≡ entryTold (constantAt s p t q)
+unfolding constantAt entryTold
+bad-tag s p t q h = rw (le-ltb t 6 h)
 
-  pub bad-tag : (t ≡ 4 → ⊥) → 4 ≤ t → RefusedEntry 3 (record { 0 = p }) ≡ entryTold (constantAt s p t q)
-  unfolding constantAt entryTold
-  bad-tag h e = simp (ne-eqb t 4 h, le-ltb t 4 e)
+-- a constant of each tag, in the order in which the code asks
+module _ (s : List ℕ) (p t q : ℕ) where
+  pub plain-constant : q ≤ 8 * length s → t < 4 → Slot ((t + 1) * 0x1000000000000000) (record { 0 = q }) ≡ entryTold (constantAt s p t q)
+  plain-constant l h = bits-read s p t q 0 (omega arith) (width-none t (λ e. omega arith) (λ e. omega arith)) (no-field s q l) (plain-cell t 0 h)
+
+  module _ (narrow : t ≡ 4) where
+    pub narrow-cut : field s q 32 ≡ refused 2 q → RefusedEntry 2 (record { 0 = q }) ≡ entryTold (constantAt s p t q)
+    narrow-cut = bits-cut s p t q 32 (omega arith) (width-narrow t narrow)
+
+    pub narrow-read : {x y z : ℕ} → field s q 32 ≡ got x z → y ≡ widened x → Slot (intCell y) (record { 0 = z }) ≡ entryTold (constantAt s p t q)
+    narrow-read {x} e f = bits-read s p t q 32 (omega arith) (width-narrow t narrow) e (rw f (narrow-cell t x narrow))
+
+  module _ (wide : t ≡ 5) where
+    pub wide-cut : field s q 48 ≡ refused 2 q → RefusedEntry 2 (record { 0 = q }) ≡ entryTold (constantAt s p t q)
+    wide-cut = bits-cut s p t q 48 (omega arith) (width-wide t wide)
+
+    pub wide-read : {x z : ℕ} → field s q 48 ≡ got x z → Slot (intCell x) (record { 0 = z }) ≡ entryTold (constantAt s p t q)
+    wide-read {x} e = bits-read s p t q 48 (omega arith) (width-wide t wide) e (wide-cell t x wide)
 
 -- ---- an entry at p whose kind is k and ends at q
 module _ (s : List ℕ) (own T p q k : ℕ) where

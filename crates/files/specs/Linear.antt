@@ -3,9 +3,9 @@ use Prim.Native.Nat.{ℕ, zero, suc, _+_, _*_, _/_, _%_, _^_}
 use mathlib.Core.Bool.{cond, _&&_}
 use mathlib.Core.List.{List, [], _∷_, _++_}
 use lib.ListN.{length, getD, take, drop}
-use lib.Dec.{leb, eqb}
+use lib.Dec.{leb}
 use Rattle.cells.specs.Numbers.{tooLong, cutField}
-use Rattle.files.specs.Entries.{Entry, constant, global, template, then, field, valid, entriesAt, toByte, zeroBits, nothingMore}
+use Rattle.files.specs.Entries.{Entry, constant, global, template, then, field, valid, tagWidth, entriesAt, toByte, zeroBits, nothingMore}
 use Rattle.files.specs.Reading.{Got, got, refused}
 use Rattle.files.specs.Tree.{Template}
 use Rattle.files.specs.Flat.{flat}
@@ -18,7 +18,7 @@ bitsOf (suc w) v = v / 2 ^ w % 2 ∷ bitsOf w v
 
 unfoldable pub entryBits : Entry → List ℕ
 unfolding bitsOf
-entryBits (constant t x) = bitsOf 2 1 ++ (bitsOf 3 t ++ cond (eqb t 4) (bitsOf 32 x) [])
+entryBits (constant t x) = bitsOf 2 1 ++ (bitsOf 3 t ++ bitsOf (tagWidth t) x)
 entryBits (global g) = bitsOf 2 2 ++ bitsOf 8 g
 entryBits (template t) = bitsOf 2 3 ++ bitsOf 8 t
 

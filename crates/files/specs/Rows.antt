@@ -7,7 +7,7 @@ use Rattle.fields.specs.Field.{bitAt, fieldAt, fieldRead, pickField}
 use Rattle.files.specs.Codes.{shapeOf}
 use Rattle.files.specs.Code.{put, simple}
 use Rattle.files.specs.Reading.{Got, got, refused, withField, withList, withDeep, shaped, headAt, before, after, items, deepOf, listAt}
-use Rattle.files.specs.Entries.{then, field, fieldGot, constantAt, kindAt, entryAt, entriesAt, zeroBits, nothingMore}
+use Rattle.files.specs.Entries.{then, field, fieldGot, tagWidth, constantAt, kindAt, entryAt, entriesAt, zeroBits, nothingMore}
 use Rattle.files.specs.Tree.{Template, templateAt, templatesAt, paddedEnd, treeRead}
 use Rattle.files.specs.Grammar.{isEmpty, isOpen, isClosed, entryOf, suits, indexFits, eachNeutral, indicesFit, lowest}
 use Rattle.files.specs.Flat.{offset, conditional, flat, armsFit, offsetsFit}
@@ -57,11 +57,11 @@ fileRows =
 
 -- P1 to P7, and P8: offset 65,535 splits into 255, 255; 256 into 1, 0
 pub file-rows : (map (λ s. fileRow (flatChecked s)) sheets ≡ fileRows) × (map offset (65535 ∷ 256 ∷ []) ≡ (255 ∷ 255 ∷ []) ∷ (1 ∷ 0 ∷ []) ∷ [])
-unfolding bitAt fieldAt fieldRead pickField shapeOf put simple withField withList withDeep shaped headAt before after items deepOf listAt then field fieldGot constantAt kindAt entryAt entriesAt zeroBits nothingMore templateAt templatesAt paddedEnd treeRead isEmpty isOpen isClosed entryOf suits indexFits eachNeutral indicesFit lowest conditional flat armsFit offsetsFit bitsOf entryBits entriesBits byteOf bytesFrom bytesOf templateBytes templatesBytes linearFile orLowest treeChecked flatChecked
+unfolding bitAt fieldAt fieldRead pickField shapeOf put simple withField withList withDeep shaped headAt before after items deepOf listAt then field fieldGot tagWidth constantAt kindAt entryAt entriesAt zeroBits nothingMore templateAt templatesAt paddedEnd treeRead isEmpty isOpen isClosed entryOf suits indexFits eachNeutral indicesFit lowest conditional flat armsFit offsetsFit bitsOf entryBits entriesBits byteOf bytesFrom bytesOf templateBytes templatesBytes linearFile orLowest treeChecked flatChecked
 file-rows = (refl, refl)
 
 -- a saved list that holds something: unless-false (make-cont 0 (unspecified), return) (unspecified), return: the rest comes before the saved list
 saved-after-rest : fileRow (flatChecked (0x01 ∷ 0x00 ∷ 0x19 ∷ 0x00 ∷ 0x1E ∷ 0x00 ∷ 0x81 ∷ 0xE0 ∷ 0x08 ∷ 0x00 ∷ []))
     ≡ flattens (plainFile 14 (0x03 ∷ 0x00 ∷ 0x09 ∷ 0x04 ∷ 0x00 ∷ 0x01 ∷ 0x00 ∷ 0x01 ∷ 0x0F ∷ 0x05 ∷ 0x00 ∷ 0x01 ∷ 0x0F ∷ 0x01 ∷ []))
-unfolding bitAt fieldAt fieldRead pickField shapeOf put simple withField withList withDeep shaped headAt before after items deepOf listAt then field fieldGot constantAt kindAt entryAt entriesAt zeroBits nothingMore templateAt templatesAt paddedEnd treeRead isEmpty isOpen isClosed entryOf suits indexFits eachNeutral indicesFit lowest conditional flat armsFit offsetsFit bitsOf entryBits entriesBits byteOf bytesFrom bytesOf templateBytes templatesBytes linearFile orLowest treeChecked flatChecked
+unfolding bitAt fieldAt fieldRead pickField shapeOf put simple withField withList withDeep shaped headAt before after items deepOf listAt then field fieldGot tagWidth constantAt kindAt entryAt entriesAt zeroBits nothingMore templateAt templatesAt paddedEnd treeRead isEmpty isOpen isClosed entryOf suits indexFits eachNeutral indicesFit lowest conditional flat armsFit offsetsFit bitsOf entryBits entriesBits byteOf bytesFrom bytesOf templateBytes templatesBytes linearFile orLowest treeChecked flatChecked
 saved-after-rest = refl

@@ -5,15 +5,15 @@ use Prim.Native.Nat.{ℕ, _+_, _*_, _-_}
 use mathlib.Core.Bool.{cond}
 use mathlib.Core.List.{List, [], _∷_, _++_, map}
 use lib.ListN.{length, replicate}
-use lib.Dec.{eqb}
-use Rattle.cells.specs.Cells.{intCell}
+use lib.Dec.{ltb, eqb}
+use Rattle.cells.specs.Cells.{widened, intCell}
 use Rattle.files.specs.Entries.{Entry, constant, global, template}
 use Rattle.files.specs.Tree.{Template}
 use Rattle.files.specs.Linear.{Linear}
 
--- the cell of a constant
+-- the cell of a constant: tags 4 and 5 are integers, of 32 bits and of an integer's own
 unfoldable pub constantCell : ℕ → ℕ → ℕ
-constantCell t x = cond (eqb t 4) (intCell x) ((t + 1) * 0x1000000000000000)
+constantCell t x = cond (ltb t 4) ((t + 1) * 0x1000000000000000) (intCell (cond (eqb t 4) (widened x) x))
 
 -- a constant is its cell; a global is marked by tag 11, a template by tag 12, which no cell has
 unfoldable pub slotOf : Entry → ℕ

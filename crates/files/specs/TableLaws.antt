@@ -2,15 +2,15 @@
 use Prim.Native.Nat.{ℕ, zero, suc, _+_, _*_, _-_, _^_, _≤_, _<_}
 use native.Mathlib.Omega.{arith}
 use mathlib.Core.Path.{_≡_, refl, ap, _∙_}
-use mathlib.Core.Bool.{Bool, true, false, cond}
+use mathlib.Core.Bool.{Bool, true, false}
 use mathlib.Core.List.{List, [], _∷_, _++_, map, append-assoc}
 use mathlib.Core.Option.{Option, none, some}
 use lib.ListN.{length, getD, replicate, length-append, length-replicate, length-map, List·getD-append}
 use lib.Seq.{getD-append-add}
-use lib.Dec.{eqb}
-use borrow.Author.Tests.{eqb-false}
-use Rattle.cells.specs.Cells.{tagOf, intCell}
-use Rattle.files.specs.Entries.{Entry, constant, global, template}
+use lib.Dec.{ltb, eqb}
+use borrow.Author.Tests.{lt-ltb, ltb-true, ltb-false, eqb-true, eqb-false}
+use Rattle.cells.specs.Cells.{widened, tagOf, intCell}
+use Rattle.files.specs.Entries.{Entry, constant, global, template, tagWidth}
 use Rattle.files.specs.EntriesLaws.{EntryOk, EntriesOk}
 use Rattle.files.specs.Tree.{Template}
 use Rattle.files.specs.Linear.{Linear}
@@ -39,7 +39,7 @@ slotOr none = 0
 
 -- ---- what can stand in the slot of an entry that was read
 unfoldable pub EntryFits : Entry → Type 0
-EntryFits (constant t x) = (t < 5) × (x < 2 ^ 32)
+EntryFits (constant t x) = (t < 6) × (x < 2 ^ tagWidth t)
 EntryFits (global g) = g < 256
 EntryFits (template t) = t < 256
 
@@ -60,14 +60,35 @@ found-fits own T [] (suc n) h = tt
 found-fits own T (e ∷ es) (suc zero) h = ok-fits own T e (h .0)
 found-fits own T (e ∷ es) (suc (suc n)) h = found-fits own T es (suc n) (h .1)
 
--- a constant is marked by none of tags 0, 11 and 12
-pub constant-tag : (t x : ℕ) → t < 5 → x < 2 ^ 32 → (1 ≤ tagOf (constantCell t x)) × (tagOf (constantCell t x) ≤ 6)
-unfolding constantCell
-constant-tag t x h k = by (eqb t 4) refl
-  where
-    by : (b : Bool) → eqb t 4 ≡ b → (1 ≤ tagOf (cond b (intCell x) ((t + 1) * 0x1000000000000000))) × (tagOf (cond b (intCell x) ((t + 1) * 0x1000000000000000)) ≤ 6)
-    by true e = omega arith
-    by false e = omega (arith, eqb-false t 4 e)
+-- ---- the cell of a constant, by its tag
+module _ (t x : ℕ) where
+  pub plain-cell : t < 4 → constantCell t x ≡ (t + 1) * 0x1000000000000000
+  unfolding constantCell
+  plain-cell h = rw (lt-ltb t 4 h)
+
+  pub narrow-cell : t ≡ 4 → constantCell t x ≡ intCell (widened x)
+  unfolding constantCell
+  narrow-cell e = rw e
+
+  pub wide-cell : t ≡ 5 → constantCell t x ≡ intCell x
+  unfolding constantCell
+  wide-cell e = rw e
+
+  -- what holds of the cell for each of them holds of it
+  pub by-tag : (P : ℕ → Type 0) → t < 6 → x < 2 ^ tagWidth t
+      → (t < 4 → P ((t + 1) * 0x1000000000000000)) → (t ≡ 4 → x < 2 ^ 32 → P (intCell (widened x))) → (t ≡ 5 → x < 2 ^ 48 → P (intCell x))
+      → P (constantCell t x)
+  unfolding tagWidth
+  by-tag P h k plain narrow wide = go (ltb t 4) (eqb t 4) refl refl
+    where
+      go : (a b : Bool) → ltb t 4 ≡ a → eqb t 4 ≡ b → P (constantCell t x)
+      go true b i j = let l = ltb-true t 4 i in rw (plain-cell l) (plain l)
+      go false true i j = let e = eqb-true t 4 j in rw (narrow-cell e) (narrow e (rw e at k))
+      go false false i j = let e : t ≡ 5 = omega (arith, ltb-false t 4 i, eqb-false t 4 j) in rw (wide-cell e) (wide e (rw e at k))
+
+-- it is marked by none of tags 0, 11 and 12
+pub constant-tag : (t x : ℕ) → t < 6 → x < 2 ^ tagWidth t → (1 ≤ tagOf (constantCell t x)) × (tagOf (constantCell t x) ≤ 6)
+constant-tag t x h k = by-tag t x (λ c. (1 ≤ tagOf c) × (tagOf c ≤ 6)) h k (λ l. omega arith) (λ e l. omega arith) (λ e l. omega arith)
 
 slots-entry : (k : ℕ) (es : List Entry) (n : ℕ) → getD (map slotOf es ++ replicate k 0) n 0 ≡ slotOr (entryOf es (suc n))
 unfolding entryOf

@@ -26,20 +26,26 @@ pub enum Padding {
     Refused(BitPlace),
 }
 
-// The constant whose tag t stands at `tag` and ends at `at`.
+// The constant whose tag t stands at `tag` and ends at `at`. Tags 4 and 5 are integers, of 32 and of 48 bits.
 fn read_constant(s: &[u8], tag: BitPlace, t: u32, at: BitPlace) -> EntryRead
-    requires { ⌜ length (now s) ≤ 262144 ⌝ }
+    requires { ⌜ (length (now s) ≤ 262144) × (at .0 ≤ 8 * length (now s)) ⌝ }
     ensures { λ r. ⌜ r ≡ entryTold (constantAt (now (s .entry)) (tag .0) t (at .0)) ⌝ }
 {
+    if t < 4 {
+        let slot = (t as u64 + 1) * 0x1000_0000_0000_0000;
+        return EntryRead::Slot(slot, at);
+    }
     if t == 4 {
         let Field::Read(x, past) = fields::read_word(s, at) else {
             return EntryRead::Refused(2, at);
         };
-        return EntryRead::Slot(cells::int_cell(x), past);
+        return EntryRead::Slot(cells::int_cell(cells::widened(x)), past);
     }
-    if t < 4 {
-        let slot = (t as u64 + 1) * 0x1000_0000_0000_0000;
-        return EntryRead::Slot(slot, at);
+    if t == 5 {
+        if at.within(48, s.len()) {
+            return EntryRead::Slot(cells::int_cell(fields::wide_at(s, at)), at.past(48));
+        }
+        return EntryRead::Refused(2, at);
     }
     EntryRead::Refused(3, tag)
 }

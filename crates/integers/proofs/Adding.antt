@@ -13,8 +13,8 @@ use mir.Val.{SFits, toZ, ofZ}
 use mir.Facts.{toZ-ofZ}
 use lib.ListN.{length, getD}
 use lib.Seq.{slice, slice-cons, slice-empty}
-use Rattle.cells.specs.Cells.{tagOf, intOf}
-use Rattle.integers.specs.Integers.{half, signed, allIntegers, totalOf}
+use Rattle.cells.specs.Cells.{half, tagOf, intOf}
+use Rattle.integers.specs.Integers.{signed, allIntegers, totalOf}
 use Rattle.integers.specs.Answers.{rangedOf, sumOf}
 use Rattle.integers.proofs.Exact.{Value, value-again, mag-add}
 use Rattle.integers.specs.declared.Total.{Total}

@@ -11,7 +11,8 @@ use lib.Dec.{eqb}
 use mir.Syntax.{w64}
 use mir.Val.{SFits, toZ, ofZ}
 use mir.Facts.{toZ-ofZ}
-use Rattle.integers.specs.Integers.{half, full, signed, floorQuotient}
+use Rattle.cells.specs.Cells.{half, full}
+use Rattle.integers.specs.Integers.{signed, floorQuotient}
 use Rattle.integers.specs.Laws.{signed-zero}
 use Rattle.integers.specs.Floor.{differ, leftOver, corrected, corrected-is}
 use Rattle.integers.proofs.Exact.{mag-add, mag-neg, Value, value-again}

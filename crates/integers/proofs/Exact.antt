@@ -11,7 +11,8 @@ use mir.Syntax.{w64}
 use mir.Val.{Fits, SFits, toZ, ofZ}
 use mir.ValLaws.{toZ-pos}
 use mir.Facts.{toZ-ofZ}
-use Rattle.integers.specs.Integers.{half, full, signed, within, intBits}
+use Rattle.cells.specs.Cells.{half, full}
+use Rattle.integers.specs.Integers.{signed, within, intBits}
 use Rattle.integers.specs.Answers.{rangedOf}
 use Rattle.integers.specs.Laws.{signed-low, signed-high, signed-mag, mag-within, bits-fit}
 use Rattle.integers.specs.declared.Ranged.the-variants.{Within, Over}

@@ -1,4 +1,4 @@
--- Integers (document 01, 'Cells' and 'Rules'): two's complement of one width, which stands here and as HALF in src/ alone.
+-- Integers (document 01, 'Cells' and 'Rules'): two's complement of one width, `half` and `full` of cells.
 use mathlib.Core.Path.{_≡_}
 use mathlib.Core.Bool.{Bool, true, false, cond, _&&_}
 use mathlib.Core.List.{List, [], _∷_}
@@ -6,18 +6,15 @@ use Prim.Native.Nat.{ℕ, suc, _-_, _*_, _/_}
 use lib.IntN.{ℤ, pos, negsuc, negℤ, _+ℤ_, _-ℤ_, _*ℤ_}
 use lib.Signed.{leZ, ltZ, shrZ}
 use lib.Dec.{eqb}
-use Rattle.cells.specs.Cells.{tagOf, intOf}
+use Rattle.cells.specs.Cells.{half, full, tagOf, intOf}
 
--- the width: this many patterns of bits, the first half of them not negative
-abbrev pub half : ℕ
-half = 0x80000000
+-- the value of the bits x, below 2 * h: x, or x - 2 * h where the highest bit, worth h, is set
+abbrev pub signedBy : ℕ → ℕ → ℤ
+signedBy h x = pos x -ℤ pos (2 * h * (x / h))
 
-abbrev pub full : ℕ
-full = 2 * half
-
--- the value of the bits x, below `full`: x, or x - full where the highest bit is set
+-- the value of an integer's bits, below `full`
 unfoldable pub signed : ℕ → ℤ
-signed x = pos x -ℤ pos (full * (x / half))
+signed x = signedBy half x
 
 -- in the signed range
 unfoldable pub within : ℤ → Bool

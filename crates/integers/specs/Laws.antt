@@ -2,14 +2,15 @@
 use mathlib.Core.Path.{_≡_, refl, sym, _∙_}
 use mathlib.Core.Bool.{Bool, true, false, _&&_}
 use mathlib.Core.List.{List}
-use Prim.Native.Nat.{ℕ, suc, _+_, _-_, _/_, _≤_, _<_}
+use Prim.Native.Nat.{ℕ, suc, _+_, _-_, _/_, _≤_, _<_, _^_}
 use native.Mathlib.Omega.{arith}
 use borrow.Author.Tests.{lt-ltb, le-leb, ltb-true, ltb-false, leb-true}
 use lib.IntN.{ℤ, pos, negsuc}
 use lib.Signed.{mag}
 use lib.Dec.{ltb}
-use Rattle.cells.specs.Cells.{intOf}
-use Rattle.integers.specs.Integers.{half, full, signed, within, intBits, allIntegers, totalOf}
+use Rattle.cells.specs.Cells.{half, full, widened, intOf}
+use Rattle.cells.specs.Laws.{widened-low, widened-high}
+use Rattle.integers.specs.Integers.{signedBy, signed, within, intBits, allIntegers, totalOf}
 use Rattle.integers.specs.Answers.{rangedOf, sumOf}
 use Rattle.integers.specs.declared.Ranged.{Ranged}
 use Rattle.integers.specs.declared.Ranged.the-variants.{Within, Over}
@@ -26,6 +27,21 @@ signed-low a h = let e : a / half ≡ 0 = omega arith in let k : a + 0 ≡ a = o
 pub signed-high : (a : ℕ) → half ≤ a → a < full → signed a ≡ negsuc (full - suc a)
 unfolding signed
 signed-high a h k = let e : a / half ≡ 1 = omega arith in rw (e, lt-ltb a full k)
+
+-- ---- 32 bits that are widened mean the same number
+pub widened-number : (x : ℕ) → x < 2 ^ 32 → signed (widened x) ≡ signedBy (2 ^ 31) x
+widened-number x h = go (ltb x (2 ^ 31)) refl where
+  go : (t : Bool) → ltb x (2 ^ 31) ≡ t → signed (widened x) ≡ signedBy (2 ^ 31) x
+  go true e =
+      let l : x < 2 ^ 31 = ltb-true x (2 ^ 31) e in
+      let k : x / 2 ^ 31 ≡ 0 = omega arith in
+      let z : x + 0 ≡ x = omega arith in
+      rw (widened-low x l, signed-low x (omega arith), k, z)
+  go false e =
+      let l : 2 ^ 31 ≤ x = ltb-false x (2 ^ 31) e in
+      let k : x / 2 ^ 31 ≡ 1 = omega arith in
+      let n : full - suc (x + (full - 2 ^ 32)) ≡ 2 ^ 32 - suc x = omega arith in
+      rw (widened-high x l h, signed-high (x + (full - 2 ^ 32)) (omega arith) (omega arith), k, lt-ltb x (2 ^ 32) h, n)
 
 -- an integer's cell holds bits of this width
 pub int-fits : (c : ℕ) → intOf c < full

@@ -6,8 +6,8 @@ use Prim.Native.Nat.{suc, _-_}
 use native.Mathlib.Nat.{zero-div}
 use lib.IntN.{ℤ, pos, negsuc}
 use lib.Signed.{ltZ}
-use Rattle.cells.specs.Cells.{intCell, trueCell}
-use Rattle.integers.specs.Integers.{half, full, signed, within, intBits, allIntegers, totalOf, floorQuotient}
+use Rattle.cells.specs.Cells.{half, full, intCell, trueCell}
+use Rattle.integers.specs.Integers.{signed, within, intBits, allIntegers, totalOf, floorQuotient}
 use Rattle.integers.specs.Answers.{rangedOf, sumOf}
 use Rattle.integers.specs.declared.Ranged.the-variants.{Within, Over}
 use Rattle.integers.specs.declared.Total.the-variants.{Exactly, NotIntegers}

@@ -1,17 +1,14 @@
-// Integers (document 01, 'Rules'): what the primitives compute, exactly, over bits in two's complement. A number is an i64 on the way: every total of
-// 256 integers, every difference and every quotient of two fits it, also where integers have 48 bits.
+// Integers (document 01, 'Rules'): what the primitives compute, exactly, over bits in two's complement of the width that cells has. A number is an i64 on
+// the way: a difference and a quotient of two integers of 48 bits fit it, and so does every total of 256 of them, which is at most 256 * 2^47 = 2^55.
+// That 256 is all a stack holds; `sum_up` asks for it, and the proof of its loop bounds the total of i integers by i * HALF.
 ghost use mathlib.Core.Path.{_≡_};
 ghost use Prim.Native.Nat.{_<_, _≤_};
 ghost use lib.IntN.{pos, _-ℤ_};
 ghost use lib.Signed.{mag, ltZ};
 ghost use lib.ListN.{length, take};
-ghost use Rattle.integers.specs.Integers.{half, full, signed, floorQuotient};
+ghost use Rattle.cells.specs.Cells.{half, full};
+ghost use Rattle.integers.specs.Integers.{signed, floorQuotient};
 ghost use Rattle.integers.specs.Answers.{rangedOf, sumOf};
-
-// The width: FULL patterns of bits, the first HALF of them not negative.
-const HALF: u64 = 0x8000_0000;
-
-const FULL: u64 = 2 * HALF;
 
 // The bits of a number that is in range, or that it is not.
 pub enum Ranged {
@@ -30,10 +27,10 @@ fn signed_value(a: u64) -> i64
     ensures { λ z. ⌜ z ≡ signed a ⌝ }
     ensures near { λ z. ⌜ mag z < half ⌝ }
 {
-    if a < HALF {
+    if a < cells::HALF {
         a as i64
     } else {
-        a as i64 - FULL as i64
+        a as i64 - cells::FULL as i64
     }
 }
 
@@ -41,12 +38,12 @@ fn in_range(z: i64) -> Ranged
     ensures { λ x. ⌜ x ≡ rangedOf z ⌝ }
 {
     if z < 0 {
-        if z < -(HALF as i64) {
+        if z < -(cells::HALF as i64) {
             Ranged::Over
         } else {
-            Ranged::Within((z + FULL as i64) as u64)
+            Ranged::Within((z + cells::FULL as i64) as u64)
         }
-    } else if z < HALF as i64 {
+    } else if z < cells::HALF as i64 {
         Ranged::Within(z as u64)
     } else {
         Ranged::Over
@@ -100,7 +97,7 @@ pub fn sum_up(s: &[u64], n: usize) -> Total
         if cells::tag_of(c) != 6 {
             return Total::NotIntegers;
         }
-        total = total + signed_value(cells::int_of(c) as u64);
+        total = total + signed_value(cells::int_of(c));
         i = i + 1;
     }
     Total::Exactly(in_range(total))

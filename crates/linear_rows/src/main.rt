@@ -1,5 +1,5 @@
 // Linear files that no flattener writes, and the rows of document 01, run on the linear machine. A line has the end, for a halt the answer's
-// 32 bits where it is an integer, for a refusal the place; then the steps, and the used cells of stack, store and frames.
+// 48 bits where it is an integer, for a refusal the place; then the steps, and the used cells of stack, store and frames.
 use cells::Value;
 use libc::STDOUT_FILENO;
 use machines::End;
@@ -17,7 +17,7 @@ fn number(n: u64) {
 fn show_value(v: Value) {
     word(b"halted");
     match v {
-        Value::Integer(x) => number(x as u64),
+        Value::Integer(x) => number(x),
         Value::Unspecified => word(b" unspecified"),
         Value::False => word(b" other"),
         Value::True => word(b" other"),
@@ -138,6 +138,19 @@ fn odd_codes() {
     );
 }
 
+fn wide_integers() {
+    plain_row(
+        b"7 with tag 5: ",
+        b"\x01\x01\x68\x00\x00\x00\x00\x00\x38\x00\x00\x03\x06\x01\x01",
+    );
+    plain_row(
+        b"-1 with tag 4: ",
+        b"\x01\x01\x67\xff\xff\xff\xf8\x00\x00\x03\x06\x01\x01",
+    );
+    plain_row(b"tag 5 cut: ", b"\x01\x01\x68\x00\x00\x00\x00\x00");
+    plain_row(b"tag 6: ", b"\x01\x01\x70");
+}
+
 fn starts_and_files() {
     row(
         b"budget 0: ",
@@ -188,6 +201,13 @@ fn starts_and_files() {
         255,
         0x8000_0000_0000_0000,
     );
+    row(
+        b"global 5 an integer with a bit set below: ",
+        b"\x01\x00\x00\x00\x01\x01",
+        1,
+        5,
+        0x6000_0000_0000_0800,
+    );
     long_row(b"\x01\x00\x00\x00\x01\x01");
     plain_row(b"no templates: ", b"\x00");
     plain_row(b"a byte too many: ", b"\x01\x00\x00\x00\x01\x01\x00");
@@ -197,5 +217,6 @@ fn starts_and_files() {
 fn main() {
     rows_of_the_paper();
     odd_codes();
+    wide_integers();
     starts_and_files();
 }

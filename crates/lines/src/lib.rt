@@ -17,9 +17,6 @@ pub enum Printed {
     Refused(u8, usize),
 }
 
-// How many patterns of bits an integer has (`integers`, `full`).
-const INTEGERS: u64 = 0x1_0000_0000;
-
 // ---- words into a buffer, from place at on; each function answers the place after them
 
 fn put_answer(out: &mut [u8], at: usize, v: Value) -> usize
@@ -32,7 +29,7 @@ fn put_answer(out: &mut [u8], at: usize, v: Value) -> usize
         Value::True => text::put_bytes(out, at, b"true"),
         Value::Null => text::put_bytes(out, at, b"null"),
         Value::Unspecified => text::put_bytes(out, at, b"unspecified"),
-        Value::Integer(x) => text::put_integer(out, at, x as u64, INTEGERS),
+        Value::Integer(x) => text::put_integer(out, at, x, cells::FULL),
         Value::Procedure(_) => text::put_bytes(out, at, b"procedure"),
         Value::Pair(_, _) => text::put_bytes(out, at, b"pair"),
         Value::NoValue => text::put_bytes(out, at, b"none"),

@@ -8,4 +8,5 @@ pub mod Resolved
 pub mod Instruction
 pub mod Start
 pub mod Steps
+pub mod Constants
 pub mod Rows

@@ -9,7 +9,7 @@ use Rattle.fields.specs.Field.{bitAt, fieldAt, fieldRead, pickField}
 use Rattle.files.specs.Codes.{shapeOf, isNeutral, operandBytes}
 use Rattle.files.specs.Code.{put, simple, bits}
 use Rattle.files.specs.Reading.{Got, got, refused, withField, withList, withDeep, shaped, headAt, before, after, items, deepOf, listAt}
-use Rattle.files.specs.Entries.{then, field, fieldGot, constantAt, kindAt, entryAt, entriesAt, zeroBits, nothingMore}
+use Rattle.files.specs.Entries.{then, field, fieldGot, tagWidth, constantAt, kindAt, entryAt, entriesAt, zeroBits, nothingMore}
 use Rattle.files.specs.Rows.{plainFile, sheets}
 use Rattle.files.specs.Tree.{Template, templateAt, templatesAt, paddedEnd, treeRead}
 use Rattle.files.specs.Grammar.{isEmpty, isOpen, isClosed, entryOf, suits, indexFits, eachNeutral, indicesFit, lowest}
@@ -58,5 +58,5 @@ expected =
 
 -- P1 to P7, and P8: offset 65,535 splits into 255, 255; 256 into 1, 0
 pub rows : (map rowTold sheets ≡ expected) × (map offset (65535 ∷ 256 ∷ []) ≡ (255 ∷ 255 ∷ []) ∷ (1 ∷ 0 ∷ []) ∷ [])
-unfolding startingGlobal valueOf bitAt fieldAt fieldRead pickField shapeOf isNeutral operandBytes put simple bits withField withList withDeep shaped headAt before after items deepOf listAt then field fieldGot constantAt kindAt entryAt entriesAt zeroBits nothingMore templateAt templatesAt paddedEnd treeRead isEmpty isOpen isClosed entryOf suits indexFits eachNeutral indicesFit lowest conditional flat armsFit offsetsFit bitsOf entryBits entriesBits byteOf bytesFrom bytesOf templateBytes templatesBytes linearFile codeAt linearTemplateAt linearTemplatesAt linearRead orLowest treeChecked flatChecked constantCell signed totalOf within intBits allIntegers literalRule pushRule addRule plainRule makeContRule returnRule namedBy asLiteral ruleOf resolve plainly openCount first beyond look transfer decode treeAt linearAt bind applied called returned act step jumpCount firstCount counted next run refusedRun rightLengths lowestUnfit fitGlobals started startState endOf memoryOf reported programRun onTree onLinear treeRun linearRun
+unfolding startingGlobal valueOf bitAt fieldAt fieldRead pickField shapeOf isNeutral operandBytes put simple bits withField withList withDeep shaped headAt before after items deepOf listAt then field fieldGot tagWidth constantAt kindAt entryAt entriesAt zeroBits nothingMore templateAt templatesAt paddedEnd treeRead isEmpty isOpen isClosed entryOf suits indexFits eachNeutral indicesFit lowest conditional flat armsFit offsetsFit bitsOf entryBits entriesBits byteOf bytesFrom bytesOf templateBytes templatesBytes linearFile codeAt linearTemplateAt linearTemplatesAt linearRead orLowest treeChecked flatChecked constantCell signed totalOf within intBits allIntegers literalRule pushRule addRule plainRule makeContRule returnRule namedBy asLiteral ruleOf resolve plainly openCount first beyond look transfer decode treeAt linearAt bind applied called returned act step jumpCount firstCount counted next run refusedRun rightLengths lowestUnfit fitGlobals started startState endOf memoryOf reported programRun onTree onLinear treeRun linearRun
 rows = (refl, refl)

@@ -14,7 +14,7 @@ use Rattle.fields.specs.Field.{bitAt, fieldAt}
 use Rattle.fields.specs.Laws.{whole, field-split}
 use Rattle.files.specs.Reading.{Got, got}
 use Rattle.files.specs.Entries.{field, fieldGot, toByte, zeroBits}
-use Rattle.files.specs.EntriesLaws.{bytes-length}
+use Rattle.files.specs.EntriesLaws.{bits-length, bytes-length}
 use Rattle.files.specs.Linear.{bitsOf, byteOf, bytesFrom, bytesOf, threeBytes}
 
 -- the bits b stand at bit place p of the bytes s
@@ -101,9 +101,7 @@ unfolding field fieldGot
 field-here s p w h = rw (← whole s p w h) refl
 
 pub length-bits : (w v : ℕ) → length (bitsOf w v) ≡ w
-unfolding bitsOf
-length-bits zero v = refl
-length-bits (suc w) v = ap suc (length-bits w v)
+length-bits = bits-length
 
 -- the bits of a number are read back
 pub field-stands : (s : List ℕ) (p w v : ℕ) → v < 2 ^ w → Stands s p (bitsOf w v) → field s p w ≡ got v (p + w)

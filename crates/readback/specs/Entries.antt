@@ -1,14 +1,12 @@
 -- Entries that stand at a bit place are read back. Assumes nothing.
 use Prim.Native.Nat.{ℕ, zero, suc, _+_, _^_, _≤_, _<_}
 use native.Mathlib.Omega.{arith}
-use mathlib.Core.Path.{_≡_, refl, sym, ap}
-use mathlib.Core.Bool.{Bool, true, false, cond}
-use mathlib.Core.List.{List, [], _∷_, _++_, append-nil}
-use borrow.Author.Tests.{lt-ltb, eqb-true, eqb-false}
+use mathlib.Core.Path.{_≡_, refl}
+use mathlib.Core.List.{List, [], _∷_, _++_}
+use borrow.Author.Tests.{lt-ltb}
 use lib.ListN.{length, length-append}
-use lib.Dec.{ltb, eqb}
 use Rattle.files.specs.Reading.{got}
-use Rattle.files.specs.Entries.{Entry, constant, global, template, then, field, valid, constantAt, kindAt, entryAt, entriesAt}
+use Rattle.files.specs.Entries.{Entry, constant, global, template, then, field, tagWidth, constantAt, kindAt, entryAt, entriesAt}
 use Rattle.files.specs.EntriesLaws.{EntryOk, EntriesOk}
 use Rattle.files.specs.Linear.{bitsOf, entryBits, entriesBits}
 use Rattle.readback.specs.Bits.{Stands, stands-left, stands-right, here, field-stands, length-bits, AreBits}
@@ -22,11 +20,7 @@ module _ (s : List ℕ) (p w v : ℕ) (b : List ℕ) (h : Stands s p (bitsOf w v
   field-after : Stands s (p + w) b
   field-after = rw (length-bits w v) at (stands-right (bitsOf w v) b h)
 
--- the bits of a constant's integer, if it has one
-abbrev integerBits : Bool → ℕ → List ℕ
-integerBits b x = cond b (bitsOf 32 x) []
-
-constant-bits : (t x : ℕ) → entryBits (constant t x) ≡ bitsOf 2 1 ++ (bitsOf 3 t ++ integerBits (eqb t 4) x)
+constant-bits : (t x : ℕ) → entryBits (constant t x) ≡ bitsOf 2 1 ++ (bitsOf 3 t ++ bitsOf (tagWidth t) x)
 unfolding entryBits
 constant-bits t x = refl
 
@@ -39,21 +33,16 @@ unfolding entryBits
 template-bits t = refl
 
 module _ (s : List ℕ) (own T : ℕ) where
-  constant-back : (p t x : ℕ) → EntryOk own T (constant t x) → Stands s p (bitsOf 3 t ++ integerBits (eqb t 4) x)
-      → then (field s p 3) (λ t r. constantAt s p t r) ≡ got (constant t x) (p + length (bitsOf 3 t ++ integerBits (eqb t 4) x))
+  constant-back : (p t x : ℕ) → EntryOk own T (constant t x) → Stands s p (bitsOf 3 t ++ bitsOf (tagWidth t) x)
+      → then (field s p 3) (λ t r. constantAt s p t r) ≡ got (constant t x) (p + length (bitsOf 3 t ++ bitsOf (tagWidth t) x))
   unfolding then constantAt
-  constant-back p t x ok h = rw (field-first s p 3 t _ h (omega arith)) (go (eqb t 4) refl h)
-    where
-      go : (b : Bool) → eqb t 4 ≡ b → Stands s p (bitsOf 3 t ++ integerBits b x)
-          → cond b (then (field s (p + 3) 32) (λ x r. got (constant 4 x) r)) (valid p (ltb t 4) (got (constant t 0) (p + 3)))
-          ≡ got (constant t x) (p + length (bitsOf 3 t ++ integerBits b x))
-      go true e h =
-          let f : t ≡ 4 = eqb-true t 4 e in
-          rw (field-first s (p + 3) 32 x [] (rw append-nil (field-after s p 3 t _ h)) (ok .1))
-          (here (ap (λ (t : ℕ). constant t x) (sym f)) (simp (length-append, length-bits) (omega arith)))
-      go false e h =
-          let f : t < 4 = omega (arith, ok .0, eqb-false t 4 e) in
-          rw (lt-ltb t 4 f) (here (ap (constant t) (sym (ok .2 (eqb-false t 4 e)))) (simp (length-append, length-bits) (omega arith)))
+  constant-back p t x ok h =
+      rw (
+        field-first s p 3 t _ h (omega (arith, ok .0)),
+        lt-ltb t 6 (ok .0),
+        field-stands s (p + 3) (tagWidth t) x (ok .1) (field-after s p 3 t _ h),
+      )
+      (here refl (simp (length-append, length-bits) (omega arith)))
 
   entry-back : (p : ℕ) (e : Entry) → EntryOk own T e → Stands s p (entryBits e) → entryAt s own T p ≡ got e (p + length (entryBits e))
   unfolding entryAt kindAt then
@@ -89,12 +78,8 @@ entries-back s own T (e ∷ es) p ok h =
     (here refl (simp length-append (omega arith)))
 
 -- ---- the bits of entries are 0 or 1
-integer-are : (b : Bool) (x : ℕ) → AreBits (integerBits b x)
-integer-are true x = bits-are 32 x
-integer-are false x = none-are
-
 entry-are : (e : Entry) → AreBits (entryBits e)
-entry-are (constant t x) = rw (constant-bits t x) (append-are (bits-are 2 1) (append-are (bits-are 3 t) (integer-are (eqb t 4) x)))
+entry-are (constant t x) = rw (constant-bits t x) (append-are (bits-are 2 1) (append-are (bits-are 3 t) (bits-are (tagWidth t) x)))
 entry-are (global g) = rw (global-bits g) (append-are (bits-are 2 2) (bits-are 8 g))
 entry-are (template t) = rw (template-bits t) (append-are (bits-are 2 3) (bits-are 8 t))
 

@@ -2,15 +2,14 @@
 use Prim.Native.Nat.{ℕ, zero, suc, _+_, _*_, _-_, _≤_, _<_}
 use native.Mathlib.Omega.{arith}
 use mathlib.Core.Path.{_≡_, refl, sym, ap, _∙_}
-use mathlib.Core.Bool.{Bool, true, false, cond, _&&_}
+use mathlib.Core.Bool.{Bool, true, false, _&&_}
 use mathlib.Core.List.{List, [], _∷_, _++_}
-use borrow.Author.Tests.{eqb-true}
 use lib.ListN.{length, length-append}
-use lib.Dec.{ltb, eqb}
+use lib.Dec.{ltb}
 use Rattle.fields.specs.Field.{fieldAt}
 use Rattle.fields.specs.Laws.{field-small}
 use Rattle.files.specs.Reading.{Got, got, refused}
-use Rattle.files.specs.Entries.{Entry, constant, template, then, field, valid, constantAt, kindAt, entryAt, entriesAt}
+use Rattle.files.specs.Entries.{Entry, constant, template, then, field, valid, tagWidth, constantAt, kindAt, entryAt, entriesAt}
 use Rattle.files.specs.EntriesLaws.{then-field}
 use Rattle.files.specs.AllGot.{got-value, then-led}
 use Rattle.files.specs.Linear.{bitsOf, entryBits, entriesBits}
@@ -36,23 +35,22 @@ module _ (s : List ℕ) where
     Entered (got e q) = (q ≡ p + length (entryBits e)) × Stands s p (entryBits e)
     Entered (refused n x) = Unit
 
-    constant-stands : (t x : ℕ) → 1 ≡ fieldAt s p 2 → t ≡ fieldAt s (p + 2) 3 → p + 2 + 3 ≤ 8 * length s → (b : Bool) → eqb t 4 ≡ b
-        → Entered (cond b (then (field s (p + 2 + 3) 32) (λ x r. got (constant 4 x) r)) (valid x (ltb t 4) (got (constant t 0) (p + 2 + 3))))
+    constant-stands : (t x : ℕ) → 1 ≡ fieldAt s p 2 → t ≡ fieldAt s (p + 2) 3 → (b : Bool)
+        → Entered (valid x b (then (field s (p + 2 + 3) (tagWidth t)) (λ x r. got (constant t x) r)))
     unfolding entryBits
-    constant-stands t x k e l true i =
-        then-field Entered s (p + 2 + 3) 32 _ tt
-        (λ h. (omega arith, field-then p 2 1 _ k (field-then (p + 2) 3 4 _ (sym (eqb-true t 4 i) ∙ e) (stands-field (p + 2 + 3) 32 _ h refl))))
-    constant-stands t x k e l false i = go (ltb t 4)
-      where
-        go : (c : Bool) → Entered (valid x c (got (constant t 0) (p + 2 + 3)))
-        go true = rw i (omega arith, field-then p 2 1 _ k (field-then (p + 2) 3 t _ e (none-stands (p + 2 + 3) l)))
-        go false = tt
+    constant-stands t x k e true =
+        then-field Entered s (p + 2 + 3) (tagWidth t) _ tt
+        (λ h. (
+          omega (arith, length-bits (tagWidth t) (fieldAt s (p + 2 + 3) (tagWidth t))),
+          field-then p 2 1 _ k (field-then (p + 2) 3 t _ e (stands-field (p + 2 + 3) (tagWidth t) _ h refl)),
+        ))
+    constant-stands t x k e false = tt
 
     kind-stands : (k : ℕ) → k < 4 → k ≡ fieldAt s p 2 → Entered (kindAt s own T p (p + 2) k)
     unfolding kindAt constantAt entryBits
     kind-stands zero l e = tt
     kind-stands (suc zero) l e =
-        then-field Entered s (p + 2) 3 _ tt (λ h. constant-stands (fieldAt s (p + 2) 3) (p + 2) e refl h (eqb (fieldAt s (p + 2) 3) 4) refl)
+        then-field Entered s (p + 2) 3 _ tt (λ h. constant-stands (fieldAt s (p + 2) 3) (p + 2) e refl (ltb (fieldAt s (p + 2) 3) 6))
     kind-stands (suc (suc zero)) l e = then-field Entered s (p + 2) 8 _ tt (λ h. (omega arith, field-then p 2 2 _ e (stands-field (p + 2) 8 _ h refl)))
     kind-stands (suc (suc (suc zero))) l e = then-field Entered s (p + 2) 8 _ tt (λ h. go h (ltb own (fieldAt s (p + 2) 8)) (ltb (fieldAt s (p + 2) 8) T))
       where

@@ -9,8 +9,8 @@ use lib.Dec.{eqb}
 use lib.IntN.{ℤ}
 use lib.ListN.{getD, take}
 use borrow.Author.Tests.{lt-ltb, le-ltb, le-leb, eq-eqb, ne-eqb}
-use Rattle.cells.specs.Cells.{tagOf, intCell, intOf, layerParent, layerCount}
-use Rattle.integers.specs.Integers.{half, full, signed, within, intBits, allIntegers, totalOf, isZero, floorQuotient}
+use Rattle.cells.specs.Cells.{half, full, tagOf, intCell, intOf, layerParent, layerCount}
+use Rattle.integers.specs.Integers.{signed, within, intBits, allIntegers, totalOf, isZero, floorQuotient}
 use Rattle.integers.specs.Answers.{rangedOf, sumOf}
 use Rattle.integers.specs.Laws.{signed-low, signed-high, bits-fit}
 use Rattle.integers.specs.declared.Ranged.{Ranged}

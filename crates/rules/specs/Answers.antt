@@ -3,8 +3,7 @@ use mathlib.Core.Bool.{cond, _&&_}
 use mathlib.Core.Option.{Option, none, some}
 use Prim.Native.Nat.{ℕ, _<_}
 use lib.Dec.{eqb}
-use Rattle.cells.specs.Cells.{tagOf, intCell, intOf}
-use Rattle.integers.specs.Integers.{full}
+use Rattle.cells.specs.Cells.{full, tagOf, intCell, intOf}
 use Rattle.integers.specs.declared.Ranged.{Ranged}
 use Rattle.integers.specs.declared.Ranged.the-variants.{Within, Over}
 use Rattle.rules.specs.declared.Found.{Found}

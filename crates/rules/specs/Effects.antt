@@ -13,7 +13,7 @@ use lib.Seq.{sets}
 use lib.Dec.{ltb, leb, eqb}
 use borrow.Author.Tests.{ltb-true, leb-true, eqb-true, eqb-false, not-true}
 use Rattle.runs.specs.Runs.{zeroed}
-use Rattle.cells.specs.Cells.{tagOf, trueCell, falseCell, unspecifiedCell, undefinedCell, intCell, closureCell, pairCell, pairFirst, pairSecond, layerCell, ValueCell, cellOf, Fits}
+use Rattle.cells.specs.Cells.{full, tagOf, trueCell, falseCell, unspecifiedCell, undefinedCell, intCell, closureCell, pairCell, pairFirst, pairSecond, layerCell, ValueCell, cellOf, Fits}
 use Rattle.cells.specs.declared.Value.{Value}
 use Rattle.integers.specs.Integers.{within, intBits, totalOf, allIntegers, isZero, floorQuotient}
 use Rattle.integers.specs.Laws.{bits-fit}
@@ -81,7 +81,7 @@ pub unspecified-constant : ConstantCell unspecifiedCell
 unfolding cellOf Fits
 unspecified-constant = record { cell = record { value = Value.Unspecified; fits = tt; is = refl }; low = omega arith }
 
-pub integer-constant : (x : ℕ) → x < 2 ^ 32 → ConstantCell (intCell x)
+pub integer-constant : (x : ℕ) → x < full → ConstantCell (intCell x)
 unfolding cellOf Fits
 integer-constant x h = record { cell = record { value = Value.Integer x; fits = h; is = refl }; low = omega arith }
 

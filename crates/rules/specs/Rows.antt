@@ -12,13 +12,14 @@ use Rattle.rules.specs.Rules.{addRule, subRule, lessRule, floorDivRule}
 abbrev added : ℕ → List ℕ → Res Held
 added n cells = addRule (mem [] cells []) (regs unspecifiedCell 0 n 0)
 
--- 2,147,483,647 and 1 and -1: the exact total is in range; without the -1 it is not; -5 and 2; and nothing
-exact : (added 3 (intCell 0x7FFFFFFF ∷ intCell 1 ∷ intCell 0xFFFFFFFF ∷ []) ≡ on (regs (intCell 0x7FFFFFFF) 0 0 0) (mem [] (0 ∷ 0 ∷ 0 ∷ []) []))
-    × (added 2 (intCell 0x7FFFFFFF ∷ intCell 1 ∷ []) ≡ wrong 15)
-    × (added 2 (intCell 0xFFFFFFFB ∷ intCell 2 ∷ []) ≡ on (regs (intCell 0xFFFFFFFD) 0 0 0) (mem [] (0 ∷ 0 ∷ []) []))
+-- 140,737,488,355,327 and 1 and -1: the exact total is in range; without the -1 it is not; -5 and 2; and nothing; and a total that 32 bits had not
+exact : (added 3 (intCell 0x7FFFFFFFFFFF ∷ intCell 1 ∷ intCell 0xFFFFFFFFFFFF ∷ []) ≡ on (regs (intCell 0x7FFFFFFFFFFF) 0 0 0) (mem [] (0 ∷ 0 ∷ 0 ∷ []) []))
+    × (added 2 (intCell 0x7FFFFFFFFFFF ∷ intCell 1 ∷ []) ≡ wrong 15)
+    × (added 2 (intCell 0xFFFFFFFFFFFB ∷ intCell 2 ∷ []) ≡ on (regs (intCell 0xFFFFFFFFFFFD) 0 0 0) (mem [] (0 ∷ 0 ∷ []) []))
     × (added 0 [] ≡ on (regs (intCell 0) 0 0 0) (mem [] [] []))
+    × (added 2 (intCell 0x7FFFFFFF ∷ intCell 1 ∷ []) ≡ on (regs (intCell 0x80000000) 0 0 0) (mem [] (0 ∷ 0 ∷ []) []))
 unfolding addRule signed totalOf within intBits allIntegers
-exact = (refl, refl, refl, refl)
+exact = (refl, refl, refl, refl, refl)
 
 -- what a rule leaves of the left operand a and the right operand b: v, or its wrong end
 abbrev onTwo : (Mem → Regs → Res Held) → ℕ → ℕ → Res Held
@@ -28,9 +29,9 @@ abbrev left : ℕ → Res Held
 left c = on (regs c 0 0 0) (mem [] (0 ∷ 0 ∷ []) [])
 
 -- -7 by 2, 7 by -2, -7 by -2, the least by -1, by 1, 0 by -5, 1 by 0; 2 - 5; is -1 less than 0?
-quotients : (onTwo floorDivRule 0xFFFFFFF9 2 ≡ left (intCell 0xFFFFFFFC)) × (onTwo floorDivRule 7 0xFFFFFFFE ≡ left (intCell 0xFFFFFFFC))
-    × (onTwo floorDivRule 0xFFFFFFF9 0xFFFFFFFE ≡ left (intCell 3)) × (onTwo floorDivRule 0x80000000 0xFFFFFFFF ≡ wrong 15)
-    × (onTwo floorDivRule 0x80000000 1 ≡ left (intCell 0x80000000)) × (onTwo floorDivRule 0 0xFFFFFFFB ≡ left (intCell 0))
-    × (onTwo floorDivRule 1 0 ≡ wrong 23) × (onTwo subRule 2 5 ≡ left (intCell 0xFFFFFFFD)) × (onTwo lessRule 0xFFFFFFFF 0 ≡ left trueCell)
+quotients : (onTwo floorDivRule 0xFFFFFFFFFFF9 2 ≡ left (intCell 0xFFFFFFFFFFFC)) × (onTwo floorDivRule 7 0xFFFFFFFFFFFE ≡ left (intCell 0xFFFFFFFFFFFC))
+    × (onTwo floorDivRule 0xFFFFFFFFFFF9 0xFFFFFFFFFFFE ≡ left (intCell 3)) × (onTwo floorDivRule 0x800000000000 0xFFFFFFFFFFFF ≡ wrong 15)
+    × (onTwo floorDivRule 0x800000000000 1 ≡ left (intCell 0x800000000000)) × (onTwo floorDivRule 0 0xFFFFFFFFFFFB ≡ left (intCell 0))
+    × (onTwo floorDivRule 1 0 ≡ wrong 23) × (onTwo subRule 2 5 ≡ left (intCell 0xFFFFFFFFFFFD)) × (onTwo lessRule 0xFFFFFFFFFFFF 0 ≡ left trueCell)
 unfolding subRule lessRule floorDivRule floorQuotient isZero signed within intBits
 quotients = (refl, refl, refl, refl, refl, refl, refl, refl, refl)

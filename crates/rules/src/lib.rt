@@ -359,7 +359,7 @@ fn integer(stack: &mut [u64], x: Ranged, r: Regs) -> Stepped
     ensures { λ y. ⌜ ((g t : List ℕ) → out y (mem g (now (stack .exit)) t) ≡ ends (integerBy x) (mem g (now (stack .entry)) t) r) ⌝ }
 {
     match x {
-        Ranged::Within(bits) => Stepped::Next(emptied(stack, cells::int_cell(bits as u32), r)),
+        Ranged::Within(bits) => Stepped::Next(emptied(stack, cells::int_cell(bits), r)),
         Ranged::Over => Stepped::Wrong(15),
     }
 }
@@ -392,7 +392,7 @@ fn two_integers(stack: &[u64], r: Regs) -> Operands
     if cells::tag_of(right) != 6 {
         return Operands::Wrong(14);
     }
-    Operands::Two(cells::int_of(left) as u64, cells::int_of(right) as u64)
+    Operands::Two(cells::int_of(left), cells::int_of(right))
 }
 
 fn sub(stack: &mut [u64], r: Regs) -> Stepped

@@ -8,11 +8,12 @@ use mathlib.Core.List.{List, [], _∷_}
 use mathlib.Core.Option.{Option, none, some}
 use lib.Dec.{ltb, leb, eqb}
 use lib.ListN.{length, getD, take, drop, length-drop, List·getD-eq-default}
-use Rattle.cells.specs.Cells.{cellOf, Fits}
+use Rattle.cells.specs.Cells.{widened, cellOf, Fits}
+use Rattle.cells.specs.Laws.{widened-fits}
 use Rattle.cells.specs.declared.Value.{Value}
 use Rattle.files.specs.Codes.{operandBytes}
 use Rattle.files.specs.Code.{Code, done, neutral, return, call, unless-false, make-cont, bits}
-use Rattle.files.specs.Entries.{Entry, constant, global, template}
+use Rattle.files.specs.Entries.{Entry, constant, global, template, tagWidth}
 use Rattle.files.specs.EntriesLaws.{EntryOk, EntriesOk}
 use Rattle.files.specs.Grammar.{entryOf}
 use Rattle.files.specs.Linear.{Linear}
@@ -57,14 +58,15 @@ pub record LinearOk (T own : ℕ) (t : Linear) : Type 0 where
   pub short : length (t .code) ≤ 262144
 
 -- ---- entries
-pub constant-cell : (t x : ℕ) → t < 5 → x < 2 ^ 32 → ConstantCell (constantCell t x)
-unfolding constantCell cellOf Fits
+pub constant-cell : (t x : ℕ) → t < 6 → x < 2 ^ tagWidth t → ConstantCell (constantCell t x)
+unfolding constantCell tagWidth cellOf Fits
 constant-cell zero x h k = record { cell = record { value = Value.False; fits = tt; is = refl }; low = omega arith }
 constant-cell (suc zero) x h k = record { cell = record { value = Value.True; fits = tt; is = refl }; low = omega arith }
 constant-cell (suc (suc zero)) x h k = record { cell = record { value = Value.Null; fits = tt; is = refl }; low = omega arith }
 constant-cell (suc (suc (suc zero))) x h k = record { cell = record { value = Value.Unspecified; fits = tt; is = refl }; low = omega arith }
-constant-cell (suc (suc (suc (suc zero)))) x h k = integer-constant x k
-constant-cell (suc (suc (suc (suc (suc t))))) x h k = absurd (omega arith)
+constant-cell (suc (suc (suc (suc zero)))) x h k = integer-constant (widened x) (widened-fits x k)
+constant-cell (suc (suc (suc (suc (suc zero))))) x h k = integer-constant x k
+constant-cell (suc (suc (suc (suc (suc (suc t)))))) x h k = absurd (omega arith)
 
 module _ (own T : ℕ) where
   abbrev FoundOk : Option Entry → Type 0

@@ -12,6 +12,7 @@ use lib.ListN.{length, getD, replicate, length-replicate, getD-replicate, List·
 use Rattle.cells.specs.Cells.{tagOf, intCell, intOf, undefinedCell, startingGlobal, valueOf, cellOf, Fits, ValueCell}
 use Rattle.cells.specs.Laws.{cell-value, value-back}
 use Rattle.cells.specs.declared.Value.the-variants.{NoValue}
+use Rattle.files.specs.Entries.{tagWidth}
 use Rattle.files.specs.Table.{constantCell}
 use Rattle.rules.specs.State.{Held, Res, ok, wrong}
 use Rattle.rules.specs.Rules.{Data, plainRule, callRule, makeContRule, Back, noFrame, backTo, returnRule}
@@ -122,7 +123,7 @@ module _ (P : Program) (fit : ProgramOk P) where
 -- a starting global that is not undefined is a constant's cell
 module _ (c : ℕ) (defined : c ≡ undefinedCell → ⊥) where
   plain-start : (t : ℕ) → 1 ≤ t → t ≤ 5 → c ≡ t * 0x1000000000000000 → ConstantCell c
-  unfolding constantCell
+  unfolding constantCell tagWidth
   plain-start zero h k e = absurd (omega arith)
   plain-start (suc zero) h k e = rw e (constant-cell 0 0 (omega arith) (omega arith))
   plain-start (suc (suc zero)) h k e = rw e (constant-cell 1 0 (omega arith) (omega arith))

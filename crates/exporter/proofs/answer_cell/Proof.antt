@@ -22,7 +22,8 @@ enum-known-v : tie.Need-enum-known-v
 enum-known-v c = search needs
 
 int-cell-requires : tie.Need-int-cell-requires
-int-cell-requires c κs = search needs
+unfolding FieldsFit
+int-cell-requires c κs = rw (c .before .v .given .1) at (c .before .before .before .pre)
 
 enum-known-v-2 : tie.Need-enum-known-v-2
 enum-known-v-2 c = search needs

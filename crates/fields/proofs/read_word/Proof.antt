@@ -1,54 +1,31 @@
--- `fields::read_word` meets its contract: the field is read in two parts, of 16 and 16 bits. Assumes nothing.
-use Prim.Native.Nat.{ℕ}
+-- `fields::read_word` meets its contract: the field lies within the file or runs past its end. Assumes nothing.
 use native.Mathlib.Omega.{arith}
-use mathlib.Core.Path.{ap, _∙_}
+use Rattle.fields.specs.Laws.{lies, cut-by, whole-by}
 use borrow.Author.Needs.{needs}
-use Rattle.fields.specs.Field.{fieldAt}
-use Rattle.fields.specs.Laws.{lies, cut-by, whole-by, joined}
 use Rattle.fields.proofs.read_word.Statement.{statement}
 use Rattle.fields.proofs.read_word.Tie as tie
 
 within-requires : tie.Need-within-requires
 within-requires c κs = search needs
 
-half-word-at-requires : tie.Need-half-word-at-requires
-half-word-at-requires c κs = let a = c .before .before .before .args in let h = lies (a .s .now) (a .at .0) 32 (c .before .within .ensures) (c .if1 .taken) in (search needs, omega (arith, h))
-
-mul-word : tie.Need-mul-word
-mul-word c = search needs
+word-at-requires : tie.Need-word-at-requires
+word-at-requires c κs =
+    let a = c .before .before .before .args in
+    let h = lies (a .s .now) (a .at .0) 32 (c .before .within .ensures) (c .if1 .taken) in
+    (search needs, omega (arith, h))
 
 past-requires : tie.Need-past-requires
-past-requires c κs = let a = c .before .before .before .before .args in let h = lies (a .s .now) (a .at .0) 32 (c .before .before .within .ensures) (c .before .if1 .taken) in omega (arith, h)
-
-half-word-at-requires-2 : tie.Need-half-word-at-requires-2
-half-word-at-requires-2 c κs = let a = c .before .before .before .before .before .args in let h = lies (a .s .now) (a .at .0) 32 (c .before .before .before .within .ensures) (c .before .before .if1 .taken) in (search needs, omega (arith, h))
-
-add-word : tie.Need-add-word
-add-word c = search needs
-
-past-requires-2 : tie.Need-past-requires-2
-past-requires-2 c κs = let a = c .before .before .before .before .before .before .args in let h = lies (a .s .now) (a .at .0) 32 (c .before .before .before .before .within .ensures) (c .before .before .before .if1 .taken) in omega (arith, h)
+past-requires c κs =
+    let a = c .before .before .before .before .args in
+    let h = lies (a .s .now) (a .at .0) 32 (c .before .before .within .ensures) (c .before .if1 .taken) in
+    omega (arith, h)
 
 returns : tie.Need-returns
-returns c =
-    let a = c .before .before .before .before .before .before .before .args in
-    let second = c .before .half-word-at2 .ensures .0 ∙ ap (λ (p : ℕ). fieldAt (a .s .now) p 16) (c .before .before .past .ensures) in
-    let e = joined (a .s .now) (a .at .0) 16 16 _ _ (c .before .before .before .half-word-at .ensures .0) second in
-    whole-by _ _ _ (c .before .before .before .before .before .within .ensures) (c .before .before .before .before .if1 .taken) e (c .past2 .ensures)
+returns c = whole-by _ _ _ (c .before .before .before .within .ensures) (c .before .before .if1 .taken) (c .before .word-at .ensures) (c .past .ensures)
 
 returns-2 : tie.Need-returns-2
 returns-2 c = cut-by _ _ _ (c .before .within .ensures) (c .if1 .left)
 
 pub read-word-spec : {M : Type 1} → statement M
 read-word-spec =
-    tie.close
-    (tie.spec
-    within-requires
-    half-word-at-requires
-    mul-word
-    past-requires
-    half-word-at-requires-2
-    add-word
-    past-requires-2
-    returns
-    returns-2)
+    tie.close (tie.spec within-requires word-at-requires past-requires returns returns-2)

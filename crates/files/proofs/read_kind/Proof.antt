@@ -2,7 +2,7 @@
 use native.Mathlib.Omega.{arith}
 use mathlib.Core.Path.{_∙_}
 use borrow.Author.Needs.{needs}
-use Rattle.files.specs.EntriesSteps.{field-cut, field-read, constant-cut, constant-read, global-cut, global-read, template-cut, template-low, template-high, template-read, bad-kind}
+use Rattle.files.specs.EntriesSteps.{field-cut, field-read, field-within, constant-cut, constant-read, global-cut, global-read, template-cut, template-low, template-high, template-read, bad-kind}
 use Rattle.files.proofs.read_kind.Statement.{statement}
 use Rattle.files.proofs.read_kind.Tie as tie
 
@@ -19,7 +19,7 @@ returns : tie.Need-returns
 returns c = constant-cut _ _ _ _ _ _ (c .before .before .before .match .keys1) (field-cut _ _ _ (c .before .before .read-field .ensures) (c .enum-told .given .1))
 
 read-constant-requires : tie.Need-read-constant-requires
-read-constant-requires c κs = search needs
+read-constant-requires c κs = (search needs, field-within _ _ _ (c .before .before .before .read-field .ensures) (c .before .t .given .1))
 
 read-field-requires-2 : tie.Need-read-field-requires-2
 read-field-requires-2 c κs = search needs

@@ -4,6 +4,10 @@ use Rattle.integers.proofs.Exact.{below, above, negative, positive, pos
 use Rattle.integers.proofs.in_range.Statement.{statement}
 use Rattle.integers.proofs.in_range.Tie as tie
 
+-- what is out of range stands first: a wrong range is told here (must-fail/range_of_32_bits)
+returns : tie.Need-returns
+returns c = below (c .before .before .fits .z) (c .if2 .taken)
+
 cast-if2 : tie.Need-cast-if2
 cast-if2 c = search needs
 
@@ -24,9 +28,6 @@ cast-if3 c = search needs
 
 cast-t14 : tie.Need-cast-t14
 cast-t14 c = positive-cast (c .before .before .fits .z) (c .before .if1 .left)
-
-returns : tie.Need-returns
-returns c = below (c .before .before .fits .z) (c .if2 .taken)
 
 returns-2 : tie.Need-returns-2
 returns-2 c = bits-answer (negative (c .before .before .fits .z) (c .before .if1 .taken) (c .if2 .left))

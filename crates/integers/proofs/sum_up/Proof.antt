@@ -38,9 +38,6 @@ returns c =
 int-of-requires : tie.Need-int-of-requires Inv-loop μ-loop
 int-of-requires c κs = search needs
 
-cast-signed-value : tie.Need-cast-signed-value Inv-loop μ-loop
-cast-signed-value c = search needs
-
 signed-value-requires : tie.Need-signed-value-requires Inv-loop μ-loop
 signed-value-requires c κs = omega (arith, c .int-of .ensures)
 
@@ -82,7 +79,6 @@ sum-up-spec =
     tag-of-requires
     returns
     int-of-requires
-    cast-signed-value
     signed-value-requires
     add-total
     add-i

@@ -9,11 +9,8 @@ use Rattle.rules.proofs.integer.Tie as tie
 enum-known-x : tie.Need-enum-known-x
 enum-known-x c = search needs
 
-cast-int-cell : tie.Need-cast-int-cell
-cast-int-cell c = let h = rw (c .before .before .x .given .1) at (c .before .before .before .before .before .pre .2) in omega arith
-
 int-cell-requires : tie.Need-int-cell-requires
-int-cell-requires c κs = search needs
+int-cell-requires c κs = rw (c .before .before .x .given .1) at (c .before .before .before .before .before .pre .2)
 
 emptied-requires : tie.Need-emptied-requires
 emptied-requires c κs = search needs
@@ -37,7 +34,6 @@ integer-spec =
     tie.close
     (tie.spec
     enum-known-x
-    cast-int-cell
     int-cell-requires
     emptied-requires
     enum-told

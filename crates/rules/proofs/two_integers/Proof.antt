@@ -44,14 +44,8 @@ returns-3 c = (λ g t. operands-right (mem g (now (c .before .before .before .be
 int-of-requires : tie.Need-int-of-requires
 int-of-requires c κs = search needs
 
-cast-t10 : tie.Need-cast-t10
-cast-t10 c = search needs
-
 int-of-requires-2 : tie.Need-int-of-requires-2
 int-of-requires-2 c κs = search needs
-
-cast-t14 : tie.Need-cast-t14
-cast-t14 c = search needs
 
 returns-4 : tie.Need-returns-4
 returns-4 c = (λ g t. rw (c .before .int-of .ensures, c .int-of2 .ensures) (operands-two (mem g (now (c .before .before .before .before .before .before .before .before .before .before .args .stack)) t) (c .before .before .before .before .before .before .before .before .before .before .args .r) (c .before .before .before .before .before .before .before .before .if1 .left) (sym (c .before .before .before .before .before .tag-of .ensures) ∙ c .before .before .before .before .if2 .left) (sym (c .before .before .before .tag-of2 .ensures) ∙ c .before .before .if3 .left)), (omega (arith, c .before .int-of .ensures), omega (arith, c .int-of2 .ensures)))
@@ -72,7 +66,5 @@ two-integers-spec =
     tag-of-requires-2
     returns-3
     int-of-requires
-    cast-t10
     int-of-requires-2
-    cast-t14
     returns-4)
