@@ -42,15 +42,28 @@ static void begin_loop(Sheet *s, unsigned templates)
     put0(s, END);
 }
 
-/* Entries of a body: 1 the loop's global, 2 and 3 integers, 4 false, 5 another global. */
-static void begin_body(Sheet *s)
+/* Entries of a body: 1 the loop's global, 2 and 3 integers, 4 false, 5 another global, and as many others as asked for. */
+static void begin_entries(Sheet *s, unsigned others)
 {
-    put_field(s, 8, 5);
+    put_field(s, 8, 5 + others);
     put_number(s, GLOBAL_ENTRY, 0);
     put_integer(s, 3);
     put_integer(s, -2);
     put_constant(s, FALSE_CONSTANT);
     put_number(s, GLOBAL_ENTRY, 1);
+}
+
+static void begin_body(Sheet *s)
+{
+    begin_entries(s, 0);
+}
+
+/* A body that names the next template, so that none is an orphan. */
+static void begin_body_before(Sheet *s, unsigned next)
+{
+    begin_entries(s, 1);
+    put_number(s, TEMPLATE_ENTRY, next);
+    put1(s, CLOSURE, 6);
 }
 
 static void plain_instructions(Sheet *s)
@@ -248,7 +261,10 @@ static void flattener_sheet(Sheet *s, size_t length, bool deep)
     sheet_begin(s, templates);
     for (unsigned t = 0; t < templates; t++) {
         size_t limit = 8 * length * (t + 1) / templates - 64, from, block = 0;
-        begin_body(s);
+        if (t + 1 < templates)
+            begin_body_before(s, t + 1);
+        else
+            begin_body(s);
         while (s->bits + block <= limit) {
             from = s->bits;
             put_block(s, deep);

@@ -52,7 +52,7 @@ static inline int64_t exporter_integer_of(uint64_t cell)
 }
 
 /* Flattens a tree file.
-   result[0]: 0 accepted, else the refusal's number, 1 to 9.
+   result[0]: 0 accepted, else the refusal's number, 1 to 9 or 24.
    result[1]: accepted: the linear file's length in bytes; refused: the place.
    Accepted: the first result[1] bytes of out are the linear file, the others are as they were. Refused: all of out is.
    result_len is 2 or more; slots after the first 2 stay. Where it is less, nothing at all is done. */
@@ -64,7 +64,7 @@ void exporter_flatten(const uint8_t *file, size_t file_len,
    globals: read at the start (tags 1 to 6 only, all bits below their fields zero) and left as the run leaves them. stack, store, frames: what they held does
    not matter; after an accepted start the cells not in use are zero.
    result[0]: how it ended: 0 halted, 1 wrong, 2 out of budget, 3 refused.
-   result[1]: halted 0; wrong the number, 10 to 18 or 23; out of budget 19; refused the number, 1 to 7 or 20 to 22.
+   result[1]: halted 0; wrong the number, 10 to 18 or 23; out of budget 19; refused the number, 1 to 7, 24 or 20 to 22.
    result[2]: refused: the place; else 0.
    result[3]: halted: the answer's cell; else 0.
    result[4]: steps; refused 0.

@@ -29,7 +29,7 @@ typedef struct {
 static const Lengths right_lengths = { GLOBALS, STACK, STORE, FRAMES, RESULT };
 
 static uint64_t seed, differences;
-static uint64_t flatten_tally[10], tree_tally[4][32], linear_tally[4][32];
+static uint64_t flatten_tally[32], tree_tally[4][32], linear_tally[4][32];
 
 /* What was lent: how often, by kind of length. */
 static uint64_t empty_files, empty_outputs, longer_outputs, empty_memories, shorter_memories, longer_memories, empty_results, short_results, longer_results;
@@ -429,8 +429,9 @@ static void print_tally(const char *machine, uint64_t tally[4][32])
 static void print_tallies(void)
 {
     printf("flatten:");
-    for (unsigned n = 0; n < 10; n++)
-        printf(" %u x%" PRIu64, n, flatten_tally[n]);
+    for (unsigned n = 0; n < 32; n++)
+        if (flatten_tally[n] > 0)
+            printf(" %u x%" PRIu64, n, flatten_tally[n]);
     printf("\n");
     print_tally("tree", tree_tally);
     print_tally("linear", linear_tally);
@@ -442,12 +443,12 @@ static void print_tallies(void)
 /* The numbers that a machine can give, by end. */
 static bool all_ends_came_up(uint64_t tally[4][32], bool tree)
 {
-    static const uint8_t refusals[] = { 1, 2, 3, 5, 20, 21, 22, 4, 6, 7 }; /* the last three by the tree machine alone */
+    static const uint8_t refusals[] = { 1, 2, 3, 5, 20, 21, 22, 4, 6, 7, 24 }; /* the last four by the tree machine alone */
     bool all = tally[HALTED][0] > 0 && tally[OUT_OF_BUDGET][19] > 0;
     for (unsigned n = 10; n <= 18; n++)
         all = all && (tally[WRONG][n] > 0 || (tree && n == 16));
     all = all && tally[WRONG][23] > 0;
-    for (unsigned i = 0; i < (tree ? 10 : 7); i++)
+    for (unsigned i = 0; i < (tree ? 11 : 7); i++)
         all = all && tally[REFUSED][refusals[i]] > 0;
     return all;
 }
@@ -458,6 +459,7 @@ static bool all_came_up(void)
         && short_results && longer_results;
     for (unsigned n = 0; n < 10; n++)
         all = all && flatten_tally[n] > 0;
+    all = all && flatten_tally[24] > 0;
     return all && all_ends_came_up(tree_tally, true) && all_ends_came_up(linear_tally, false);
 }
 

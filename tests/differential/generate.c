@@ -73,6 +73,7 @@ typedef struct {
     Sheet sheet;
     unsigned templates, careless, confused, size; /* careless of counts and indices, confused about open and closed */
     unsigned arity[64];
+    unsigned parent[64]; /* the template whose closure surely names this one; itself where none need do */
     bool has_home[64];
     Path home[64]; /* the layers that a template's closure was made in */
     unsigned entries;
@@ -109,15 +110,33 @@ static void write_entry(Writer *w, unsigned n, unsigned kind, unsigned t)
     put_number(&w->sheet, kind, w->number[n]);
 }
 
+static unsigned children_of(const Writer *w, unsigned t)
+{
+    unsigned count = 0;
+    for (unsigned child = t + 1; child < w->templates; child++)
+        count += w->parent[child] == t;
+    return count;
+}
+
+/* The entries of a template's children come last. */
 static void write_entries(Writer *w, unsigned t)
 {
     static const uint8_t first_kinds[] = { CONSTANT_ENTRY, GLOBAL_ENTRY, TEMPLATE_ENTRY, GLOBAL_ENTRY };
     unsigned count = chance(w->random, 2) ? 255 : chance(w->random, 5) ? below(w->random, 4) : 4 + below(w->random, 8);
     memset(w->kind, 0, sizeof w->kind);
-    w->entries = count;
-    put_field(&w->sheet, 8, count);
+    unsigned children = children_of(w, t);
+    count = count + children > 255 ? 255 - children : count;
+    w->entries = count + children;
+    put_field(&w->sheet, 8, w->entries);
     for (unsigned n = 1; n <= count; n++)
         write_entry(w, n, n <= 4 ? first_kinds[n - 1] : 1 + below(w->random, 3), t);
+    for (unsigned child = t + 1, n = count + 1; child < w->templates; child++)
+        if (w->parent[child] == t) {
+            w->kind[n] = TEMPLATE_ENTRY;
+            w->number[n] = (uint8_t)child;
+            put_number(&w->sheet, TEMPLATE_ENTRY, child);
+            n++;
+        }
 }
 
 /* An index of that kind, or 0 where the template has none. */
@@ -456,6 +475,8 @@ static void write_template(Writer *w, unsigned t)
         put1(&w->sheet, CHECKARGS, miscounted(w, p.depth));
     if (t > 0 && chance(w->random, 70))
         write_make_env(w, &p);
+    for (unsigned n = w->entries - children_of(w, t) + 1; n <= w->entries; n++)
+        put_closure(w, &p, n);
     write_closed_list(w, &p);
 }
 
@@ -464,8 +485,11 @@ static void write_sensible_sheet(Writer *w)
     w->templates = chance(w->random, 3) ? 64 : 1 + below(w->random, 6);
     w->careless = chance(w->random, 60) ? 0 : 1 + below(w->random, 8);
     w->confused = chance(w->random, 90) ? 0 : 4;
-    for (unsigned t = 1; t < w->templates; t++)
+    unsigned orphans = chance(w->random, 90) ? 0 : 40; /* of a hundred templates; such a one may be named all the same */
+    for (unsigned t = 1; t < w->templates; t++) {
         w->arity[t] = below(w->random, 4);
+        w->parent[t] = chance(w->random, orphans) ? t : below(w->random, t);
+    }
     sheet_begin(&w->sheet, w->templates);
     for (unsigned t = 0; t < w->templates; t++)
         write_template(w, t);
@@ -516,11 +540,13 @@ static void write_loop(Random *random, Sheet *s)
     static const unsigned rounds[] = { 3, 60, 700, 2200 };
     unsigned burn = below(random, 5), stop = !chance(random, 25);
     sheet_begin(s, 3);
-    put_field(s, 8, 4);
+    put_field(s, 8, 5);
     put_integer(s, (int32_t)(1 + below(random, rounds[below(random, 4)])));
     put_number(s, GLOBAL_ENTRY, 7);
     put_number(s, TEMPLATE_ENTRY, 1);
     put_number(s, GLOBAL_ENTRY, 255);
+    put_number(s, TEMPLATE_ENTRY, 2);
+    put1(s, CLOSURE, 5); /* template 1 may name template 2 or not */
     put1(s, LITERAL, 1);
     put1(s, SET_GLOBAL, 2);
     for (unsigned n = 1 + below(random, 4); n > 0; n--)
@@ -731,6 +757,7 @@ static void write_values(Random *random, Sheet *s)
     put_number(s, TEMPLATE_ENTRY, 1);
     for (unsigned g = 8; g < 12; g++)
         put_number(s, GLOBAL_ENTRY, g);
+    put1(s, CLOSURE, 8);
     for (unsigned round = 0; round < rounds; round++) {
         unsigned code = round < 4 ? CONS : primitives[below(random, sizeof primitives)];
         for (unsigned n = code == CONS || code == EQV ? 2 + chance(random, 10) : 1; n > 0; n--) {
@@ -829,13 +856,27 @@ static void put_offset_list(Random *random, Sheet *s, unsigned kind, unsigned of
     put_end(s);
 }
 
-/* Offsets of all four kinds, one below their limit to two beyond, in any of a few templates; some sheets have two of them. */
+/* Closures of all the templates, by template 0; a sheet that leaves one out has an orphan. */
+static void put_closures(Sheet *s, unsigned templates, unsigned without)
+{
+    put_field(s, 8, templates - 1);
+    for (unsigned t = 1; t < templates; t++)
+        put_number(s, TEMPLATE_ENTRY, t);
+    for (unsigned t = 1; t < templates; t++)
+        if (t != without)
+            put1(s, CLOSURE, t);
+}
+
+/* Offsets of all four kinds, one below their limit to two beyond, in any of a few templates; some sheets have two of them, some an
+   orphan as well. */
 static void write_large_offset(Random *random, Sheet *s)
 {
     unsigned count = 1 + below(random, 4), large = below(random, count), second = chance(random, 30) ? below(random, count) : large;
     sheet_begin(s, count);
+    put_closures(s, count, chance(random, 10) ? 1 : 0);
     for (unsigned t = 0; t < count; t++) {
-        put_field(s, 8, 0);
+        if (t > 0)
+            put_field(s, 8, 0);
         if (t == large || t == second)
             put_offset_list(random, s, below(random, 4), 65534 + below(random, 4));
         else

@@ -398,6 +398,19 @@ static bool read_template(unsigned t)
     return read_list(t, 1, &tree->code);
 }
 
+/* Request 4: a closure instruction somewhere names each template but 0, whether it runs or not. Every index fits by now. */
+static bool no_orphan(void)
+{
+    bool named[TEMPLATES] = { false };
+    for (size_t i = 0; i < node_count; i++)
+        if (nodes[i].code == CLOSURE)
+            named[nodes[i].held] = true;
+    for (unsigned t = 1; t < templates; t++)
+        if (!named[t])
+            return refuse(24, t);
+    return true;
+}
+
 static bool read_tree(const uint8_t *file, size_t len)
 {
     node_count = 0;
@@ -414,7 +427,7 @@ static bool read_tree(const uint8_t *file, size_t len)
     for (unsigned t = 0; t < templates; t++)
         if (!trees[t].entries_fit)
             return refuse(7, t);
-    return true;
+    return no_orphan();
 }
 
 /* Flattening, into a buffer of our own: a refusal must leave the caller's as it was. */

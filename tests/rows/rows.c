@@ -1,5 +1,5 @@
-/* The rows of document 01 that are run: sizes at their limits, on the library. Each line says what was tried and what came of it; the file
-   expected has what must. */
+/* The rows of document 01 that are run: sizes at their limits, on the library; and orphans (request 4) beside them. Each line says what was
+   tried and what came of it; the file expected has what must. */
 #include "../plain/library.h"
 #include "../plain/sheet.h"
 
@@ -107,11 +107,26 @@ static void closed_first_arm(size_t n)
     put0(&sheet, END);
 }
 
+static void make_cont_and_rest(size_t n)
+{
+    put1(&sheet, MAKE_CONT, 0), finish();
+    body(n - 1), finish();
+}
+
 static void rest_of_make_cont(size_t n)
 {
     begin();
-    put1(&sheet, MAKE_CONT, 0), finish();
-    body(n - 1), finish();
+    make_cont_and_rest(n);
+}
+
+/* The same, and a template that no closure names. */
+static void orphan(size_t n)
+{
+    sheet_begin(&sheet, 2);
+    put_field(&sheet, 8, 0);
+    make_cont_and_rest(n);
+    put_field(&sheet, 8, 0);
+    finish();
 }
 
 static void levels(int n)
@@ -157,6 +172,7 @@ static void long_list(void)
 
 int main(void)
 {
+    static const uint8_t shelved[] = { 2, 0, 0, 0, 1, 1, 0, 0, 0, 1, 1 }; /* two templates, each a return */
     open_first_arm(65532), flatten_row("open first arm of 65,532", OUT);
     open_first_arm(65533), flatten_row("open first arm of 65,533", OUT);
     open_second_arm(65535), flatten_row("open second arm of 65,535", OUT);
@@ -174,5 +190,8 @@ int main(void)
     chain(29000, 0), flatten_row("29,000 make-conts, saved lists empty", OUT);
     chain(22000, 1), flatten_row("22,000 make-conts, saved lists closed", OUT);
     chain(13000, 1), flatten_row("13,000 make-conts, saved lists closed", OUT), both_rows("13,000 make-conts", 1000000);
+    orphan(65536), flatten_row("an orphan beside an offset of 65,536", OUT), both_rows("an orphan", 1000000);
+    orphan(1), flatten_row("an orphan, no output", 0);
+    run_row("a linear file with an orphan", exporter_run_linear, shelved, sizeof shelved, 2000000);
     return 0;
 }

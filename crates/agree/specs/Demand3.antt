@@ -1,7 +1,7 @@
 -- Demand 3 and request 8, the statement. Its proof stands in Proved.antt. Everything it speaks of is defined in the specs of files, flatten and
 -- machines.
 --
--- For a file the flattener accepts, the same starting globals and a budget of b steps (at most 1,000,000):
+-- For a file the flattener accepts (request 4: 24 is one of its refusals), the same starting globals and a budget of b steps (at most 1,000,000):
 --   Forward: if the tree machine with budget b ends (halts or goes wrong, not out of budget), the linear machine with budget 2 b ends alike;
 --   Backward: if the linear machine ends with budget b, so does the tree machine with b, alike.
 -- Alike: same end, answer, globals, stack, store, frames (only saved code places aside) and used counts; the linear machine takes the tree
@@ -18,7 +18,7 @@ use Rattle.cells.specs.declared.Value.{Value}
 use Rattle.files.specs.Reading.{Got, got, refused}
 use Rattle.files.specs.Tree.{Template}
 use Rattle.files.specs.Linear.{Linear, linearRead}
-use Rattle.files.specs.Accepted.{treeChecked}
+use Rattle.files.specs.Accepted.{treeAccepted}
 use Rattle.flatten.specs.Flatten.{flattened}
 use Rattle.machines.specs.Machine.{Counts, noCounts, treeProgram, linearProgram}
 use Rattle.machines.specs.Runs.{Memory, Ran, runOf, leftOf, rightLengths, lowestUnfit, programRun, treeRun, linearRun}
@@ -41,7 +41,7 @@ abbrev pub jumpsMade : List ℕ → ℕ → List ℕ → ℕ
 jumpsMade w b g = linearCounts b g (linearRead w) .jumps
 
 abbrev pub firstArms : List ℕ → ℕ → List ℕ → ℕ
-firstArms s b g = treeCounts b g (treeChecked s) .firsts
+firstArms s b g = treeCounts b g (treeAccepted s) .firsts
 
 -- x of the tree machine, y of the linear machine
 pub record EndAlike (x y : Ran) (jumps firsts : ℕ) : Type 0 where

@@ -17,7 +17,7 @@ use Rattle.files.specs.Accepted.{treeChecked}
 use Rattle.readback.specs.Templates.{linears}
 use Rattle.readback.specs.TreeFacts.{TemplateFacts, tree-facts}
 use Rattle.readback.specs.Led.{lowest-led}
-use Rattle.readback.specs.ReadBack.{checked}
+use Rattle.files.specs.AcceptedLaws.{checked}
 use Rattle.machines.specs.Fetched.{noTemplate, noLinear}
 use Rattle.agree.specs.Suits.{Only, Shut, Ok, closed-ok}
 use Rattle.agree.specs.Places.{Twins}

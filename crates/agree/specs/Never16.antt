@@ -1,5 +1,6 @@
 -- 16 is a matter of linear code alone (document 01, 'Rules'): no sheet ends so. For every tree file, budget and memory no run of the tree machine
--- ends wrong 16; for every file that the flattener writes no run of the linear machine does. Assumes nothing.
+-- ends wrong 16, nor does one with request 4's check left aside; for every file that the flattener writes, or wrote before that check, no run of
+-- the linear machine does. Assumes nothing.
 use Prim.Native.Nat.{ℕ, _*_}
 use native.Mathlib.Omega.{arith}
 use mathlib.Core.Path.{_≡_, refl, _∙_}
@@ -10,27 +11,32 @@ use lib.Dec.{leb}
 use lib.ListN.{length}
 use Rattle.files.specs.Reading.{Got, got, refused}
 use Rattle.files.specs.Tree.{Template}
-use Rattle.files.specs.Linear.{Linear, linearRead}
-use Rattle.files.specs.Accepted.{treeChecked}
+use Rattle.files.specs.Linear.{linearFile}
+use Rattle.files.specs.Accepted.{treeChecked, flatChecked, treeAccepted}
 use Rattle.readback.specs.Templates.{linears}
-use Rattle.readback.specs.ReadBack.{flat-checked}
+use Rattle.files.specs.AcceptedLaws.{flat-checked, accepted-checked, flat-accepted-checked}
+use Rattle.readback.specs.ReadBack.{flattened-reads}
 use Rattle.machines.specs.Machine.{treeProgram, linearProgram, Ending, halted, wrongly, spent, Ended}
 use Rattle.machines.specs.Runs.{Memory, Ran, runOf, refusedRun, rightLengths, lowestUnfit, fitGlobals, started, endOf, reported, programRun}
-use Rattle.machines.specs.Runs.{onTree, onLinear, treeRun, linearRun}
+use Rattle.machines.specs.Runs.{onTree, onLinear, treeRun, checkedRun, linearRun}
 use Rattle.machines.specs.declared.End.the-variants.{Wrong}
 use Rattle.lockstep.specs.Same.{same-but-places}
 use Rattle.agree.specs.Demand3.{Flattens}
-use Rattle.agree.specs.Proved.{flattens-read, linear-read, AlikeHere, tree-ends, linear-ends}
+use Rattle.agree.specs.Proved.{flattens-read, AlikeHere, tree-ends, linear-ends}
 
 -- ---- the statements
 abbrev pub Ends16 : Ran → Type 0
 Ends16 x = runOf x .end ≡ Wrong 16
 
 abbrev pub TreeNever16 : Type 0
-TreeNever16 = (s : List ℕ) (b : ℕ) (m : Memory) → Ends16 (treeRun s b m) → ⊥
+TreeNever16 = (s : List ℕ) (b : ℕ) (m : Memory) → (Ends16 (treeRun s b m) → ⊥) × (Ends16 (checkedRun s b m) → ⊥)
+
+-- w is the linear file of s; 24 is left aside, since files on the shelf may hold orphans
+abbrev pub LinearOf : List ℕ → List ℕ → Type 0
+LinearOf s w = (ts : List Template) × (q : ℕ) × (flatChecked s ≡ got ts q) × (w ≡ linearFile ts)
 
 abbrev pub LinearNever16 : Type 0
-LinearNever16 = (s w : List ℕ) (n b : ℕ) (m : Memory) → Flattens s n w → Ends16 (linearRun w b m) → ⊥
+LinearNever16 = (s w : List ℕ) (b : ℕ) (m : Memory) → LinearOf s w → Ends16 (linearRun w b m) → ⊥
 
 -- ---- a start that is refused ends otherwise
 refused-never : (n p : ℕ) (m : Memory) → Ends16 (refusedRun n p m) → ⊥
@@ -83,17 +89,29 @@ module _ (s : List ℕ) (ts : List Template) (q : ℕ) (read : treeChecked s ≡
       let a = linear-ends s ts q read g b (not-spent y e) in
       alike-never _ y a (same-ending _ y a ∙ e)
 
+on-tree-never : (s : List ℕ) (b : ℕ) (m : Memory) (x : Got (List Template)) → ((ts : List Template) (q : ℕ) → x ≡ got ts q → treeChecked s ≡ got ts q)
+    → Ends16 (onTree b m x) → ⊥
+unfolding onTree
+on-tree-never s b m (got ts q) k = tree-program-never s ts q (k ts q refl) (m .globals) b
+on-tree-never s b m (refused n p) k = refused-never n p m
+
 pub tree-never-16 : TreeNever16
-unfolding treeRun onTree
-tree-never-16 s b m = started-never 1000000 b m _ (by (treeChecked s) refl)
-  where
-    by : (x : Got (List Template)) → treeChecked s ≡ x → Ends16 (onTree b m x) → ⊥
-    by (got ts q) e = tree-program-never s ts q e (m .globals) b
-    by (refused n p) e = refused-never n p m
+unfolding treeRun checkedRun
+tree-never-16 s b m = (
+  started-never 1000000 b m _ (on-tree-never s b m (treeAccepted s) (λ ts q e. accepted-checked s ts q e)),
+  started-never 1000000 b m _ (on-tree-never s b m (treeChecked s) (λ ts q e. e)),
+)
 
 pub linear-never-16 : LinearNever16
 unfolding linearRun onLinear
-linear-never-16 s w n b m f =
+linear-never-16 s w b m f =
+    let ts = f .0 in
+    let q = f .1 in
+    let e = f .2 in
+    started-never 2000000 b m _ (rw (f .3, flattened-reads s ts q e) (linear-program-never s ts q (flat-checked s ts q e) (m .globals) b))
+
+-- what the flattener writes is a linear file of the sheet
+pub flattens-linear : (s w : List ℕ) (n : ℕ) → Flattens s n w → LinearOf s w
+flattens-linear s w n f =
     let r = flattens-read s w n (f .0) (f .1) in
-    started-never 2000000 b m _
-    (rw (linear-read s w (r .0) (f .0) (r .1) (r .2)) (linear-program-never s (r .0) (f .0) (flat-checked s (r .0) (f .0) (r .1)) (m .globals) b))
+    (r .0, f .0, flat-accepted-checked s (r .0) (f .0) (r .1), r .2)

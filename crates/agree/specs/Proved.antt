@@ -15,10 +15,11 @@ use Rattle.files.specs.Reading.{got, refused}
 use Rattle.files.specs.Tree.{Template}
 use Rattle.files.specs.Linear.{Linear, linearFile, linearRead}
 use Rattle.files.specs.AllGot.{refused-got, then-led}
-use Rattle.files.specs.Accepted.{treeChecked, flatChecked}
+use Rattle.files.specs.Accepted.{treeChecked, treeAccepted, flatAccepted}
 use Rattle.flatten.specs.Flatten.{flattened}
 use Rattle.readback.specs.Templates.{linears}
-use Rattle.readback.specs.ReadBack.{flat-checked, flattened-reads}
+use Rattle.files.specs.AcceptedLaws.{accepted-checked, flat-accepted-led, flat-accepted-checked}
+use Rattle.readback.specs.ReadBack.{flattened-reads}
 use Rattle.rules.specs.Rules.{Data}
 use Rattle.rules.specs.Lists.{by-lt}
 use Rattle.lockstep.specs.Frames.{noneF, moreF, FrameFits}
@@ -121,17 +122,17 @@ module _ (ts : List Template) (ls : List Linear) (twins : (t : ℕ) → Twins (g
   }
 
 -- ---- from the files' bytes
-pub flattens-read : (s w : List ℕ) (n q : ℕ) → flattened s n ≡ got w q → (ts : List Template) × (flatChecked s ≡ got ts q) × (w ≡ linearFile ts)
+pub flattens-read : (s w : List ℕ) (n q : ℕ) → flattened s n ≡ got w q → (ts : List Template) × (flatAccepted s ≡ got ts q) × (w ≡ linearFile ts)
 unfolding flattened
 flattens-read s w n q e =
-    then-led (flatChecked s) _ e (λ ts r first on. let x = into (leb (length (linearFile ts)) n) on in (ts, first ∙ ap (λ z. got ts z) (x .0), x .1))
+    then-led (flatAccepted s) _ e (λ ts r first on. let x = into (leb (length (linearFile ts)) n) on in (ts, first ∙ ap (λ z. got ts z) (x .0), x .1))
   where
     into : {v : List ℕ} {r : ℕ} (b : Bool) → cond b (got v r) (refused 9 (length v)) ≡ got w q → (r ≡ q) × (w ≡ v)
     into true e = (cc, cc)
     into false e = refused-got e
 
 module _ {g : List ℕ} (m : Memory) (st : StartsFrom g m) (b : ℕ) where
-  tree-is : (s : List ℕ) {ts : List Template} {q : ℕ} → treeChecked s ≡ got ts q → b ≤ 1000000 → treeRun s b m ≡ reported (programRun (treeProgram ts) b g)
+  tree-is : (s : List ℕ) {ts : List Template} {q : ℕ} → treeAccepted s ≡ got ts q → b ≤ 1000000 → treeRun s b m ≡ reported (programRun (treeProgram ts) b g)
   unfolding treeRun started fitGlobals onTree
   tree-is s e h = rw (st .lengths, le-leb b 1000000 h, st .globals, st .fit, e) refl
 
@@ -167,12 +168,15 @@ module _ (s : List ℕ) (ts : List Template) (q : ℕ) (read : treeChecked s ≡
   linear-ends b h =
       backward (R ts ls twins) (same-but-places (R ts ls twins)) 1 ⊥ (treeProgram ts) (linearProgram ls) (A ts ls twins) (begin ts ls twins g) b h
 
-module _ (s w : List ℕ) (ts : List Template) (q : ℕ) (checked : flatChecked s ≡ got ts q) (is : w ≡ linearFile ts) where
+module _ (s w : List ℕ) (ts : List Template) (q : ℕ) (accepted : flatAccepted s ≡ got ts q) (is : w ≡ linearFile ts) where
+  tree-accepted : treeAccepted s ≡ got ts q
+  tree-accepted = flat-accepted-led s ts q accepted .0
+
   tree-read : treeChecked s ≡ got ts q
-  tree-read = flat-checked s ts q checked
+  tree-read = accepted-checked s ts q tree-accepted
 
   pub linear-read : linearRead w ≡ got (linears 1 ts) (8 * length (linearFile ts))
-  linear-read = ap linearRead is ∙ flattened-reads s ts q checked
+  linear-read = ap linearRead is ∙ flattened-reads s ts q (flat-accepted-checked s ts q accepted)
 
   module _ (g : List ℕ) (m m′ : Memory) (st : StartsFrom g m) (st′ : StartsFrom g m′) (b b′ : ℕ) (h : b ≤ 1000000) (h′ : b′ ≤ 2000000) where
     abbrev x : Ended
@@ -187,8 +191,8 @@ module _ (s w : List ℕ) (ts : List Template) (q : ℕ) (checked : flatChecked 
     unfolding linearCounts treeCounts
     of-programs e =
         let j : jumpsMade w b′ g ≡ y .counts .jumps = ap (λ z. linearCounts b′ g z .jumps) linear-read in
-        let f : firstArms s b g ≡ x .counts .firsts = ap (λ z. treeCounts b g z .firsts) tree-read in
-        rw (tree-is m st b s tree-read h, linear-is m′ st′ b′ w linear-read h′, j, f) e
+        let f : firstArms s b g ≡ x .counts .firsts = ap (λ z. treeCounts b g z .firsts) tree-accepted in
+        rw (tree-is m st b s tree-accepted h, linear-is m′ st′ b′ w linear-read h′, j, f) e
 
     end-alike : AlikeHere s ts q tree-read g x y → EndAlike (treeRun s b m) (linearRun w b′ m′) (jumpsMade w b′ g) (firstArms s b g)
     unfolding AlikeHere
@@ -199,7 +203,7 @@ module _ (s w : List ℕ) (ts : List Template) (q : ℕ) (checked : flatChecked 
     unfolding reported
     forward-here e =
         let x = treeEnd s ts q tree-read g b in
-        let e′ : Ends (reported x) = rw (tree-is m st b s tree-read h) at e in
+        let e′ : Ends (reported x) = rw (tree-is m st b s tree-accepted h) at e in
         end-alike g m m′ st st′ b (2 * b) h (omega arith) (tree-ends s ts q tree-read g b (λ z. e′ (spends (x .ending) (x .state .now .regs .v) z)))
 
     backward-here : Ends (linearRun w b m′) → EndAlike (treeRun s b m) (linearRun w b m′) (jumpsMade w b g) (firstArms s b g)

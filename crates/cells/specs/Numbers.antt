@@ -31,7 +31,11 @@ notClosed = 6
 abbrev pub wrongIndex : ℕ
 wrongIndex = 7
 
--- 8 an offset exceeds 65,535; lowest template: flatChecked (files, Accepted), by offsetTemplate
+-- 24 no closure instruction names a template other than 0; lowest such template: treeAccepted (files, Accepted), by lowestOrphan (request 4)
+abbrev pub orphan : ℕ
+orphan = 24
+
+-- 8 an offset exceeds 65,535; lowest template: flatChecked, flatAccepted (files, Accepted), by offsetTemplate
 abbrev pub farOffset : ℕ
 farOffset = 8
 

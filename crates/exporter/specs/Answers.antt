@@ -10,7 +10,7 @@ use Rattle.cells.specs.declared.Value.the-variants.{False, True, Null, Unspecif
 use Rattle.files.specs.Reading.{Got, got, refused}
 use Rattle.files.specs.Tree.{Template}
 use Rattle.files.specs.Linear.{Linear, linearRead}
-use Rattle.files.specs.Accepted.{treeChecked}
+use Rattle.files.specs.Accepted.{treeAccepted}
 use Rattle.rules.specs.Lists.{either}
 use Rattle.machines.specs.Machine.{Ending, halted, wrongly, spent, Ended}
 use Rattle.machines.specs.Runs.{Memory, Ran, ran, refusedRun, lowestUnfit, fitGlobals, rightLengths, started, endOf, reported, onTree, onLinear, treeRun, linearRun}
@@ -76,7 +76,7 @@ started-fits most b m r h =
 
 pub tree-fits : (s : List ℕ) (b : ℕ) (m : Memory) → RanFits (treeRun s b m)
 unfolding treeRun
-tree-fits s b m = started-fits 1000000 b m _ (on (treeChecked s))
+tree-fits s b m = started-fits 1000000 b m _ (on (treeAccepted s))
   where
     on : (g : Got (List Template)) → RanFits (onTree b m g)
     on (got ts q) = reported-fits _

@@ -122,13 +122,13 @@ module _ (s : List ℕ) (p : ℕ) (small : getD s (p / 8 + 1) 0 < 256) where
       let e₂ : 16 - p % 8 - w ≡ suc (15 - p % 8 - w) = omega arith in
       rw e₁ (one-more _ (15 - p % 8 - w) w _ _ (rw (← e₂) (window w (omega arith))) (two-bit w (omega arith)))
 
--- 1 << w is 2 ^ w
-pub shl-one : (w : ℕ) → w < 32 → 1 * 2 ^ w % 2 ^ 32 ≡ 2 ^ w
-shl-one w h = rw one-mul (mod-eq-of-lt (pow-lt h))
+-- 1 << w is 2 ^ w, in n bits
+pub shl-one : (n w : ℕ) → w < n → 1 * 2 ^ w % 2 ^ n ≡ 2 ^ w
+shl-one n w h = rw one-mul (mod-eq-of-lt (pow-lt h))
 
 -- the two bytes, shifted and cut
 pub shifted : (s : List ℕ) (p w a b : ℕ) → a ≡ getD s (p / 8) 0 → b ≡ getD s (p / 8 + 1) 0 → b < 256 → w ≤ 8
     → ((a * 256 + b) / 2 ^ (16 - p % 8 - w) % (1 * 2 ^ w % 2 ^ 32) ≡ fieldAt s p w) × ((a * 256 + b) / 2 ^ (16 - p % 8 - w) % (1 * 2 ^ w % 2 ^ 32) < 256)
 shifted s p w a b ea eb small h =
     let l : 2 ^ w ≤ 2 ^ 8 = pow-mono h in
-    rw (ea, eb, shl-one w (omega arith), window s p (rw eb at small) w h) (refl, omega (arith, field-small s p w))
+    rw (ea, eb, shl-one 32 w (omega arith), window s p (rw eb at small) w h) (refl, omega (arith, field-small s p w))

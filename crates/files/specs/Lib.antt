@@ -7,6 +7,7 @@ pub mod Entries
 pub mod Tree
 pub mod Grammar
 pub mod GrammarLaws
+pub mod Orphans
 pub mod Flat
 pub mod Linear
 pub mod Accepted

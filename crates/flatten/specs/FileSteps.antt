@@ -5,7 +5,7 @@ use native.Mathlib.Omega.{arith}
 use mathlib.Core.Path.{_≡_, refl, sym, ap, _∙_}
 use mathlib.Core.Bool.{true}
 use mathlib.Core.List.{List, [], _∷_, _++_, append-assoc}
-use mathlib.Core.Option.{none}
+use mathlib.Core.Option.{none, some}
 use borrow.Author.Tests.{le-leb, lt-leb}
 use lib.ListN.{length, getD, set, length-append}
 use lib.Seq.{sets, sets-eq, getD-append-seam}
@@ -13,8 +13,8 @@ use Rattle.files.specs.Reading.{got, refused}
 use Rattle.files.specs.Entries.{then}
 use Rattle.files.specs.Grammar.{lowest}
 use Rattle.files.specs.Flat.{offsetTemplate}
-use Rattle.files.specs.AcceptedLaws.{lowest-none}
-use Rattle.files.specs.Accepted.{flatChecked}
+use Rattle.files.specs.AcceptedLaws.{accepted-checked, checked-read}
+use Rattle.files.specs.Accepted.{orLowest, treeAccepted, flatAccepted}
 use Rattle.files.specs.Linear.{templateBytes, templatesBytes, linearFile}
 use Rattle.files.specs.Tree.{Template, templatesAt, treeRead}
 use Rattle.files.specs.Table.{treeTable}
@@ -22,12 +22,12 @@ use Rattle.files.specs.TableLaws.{Few, treeEntries, row-start, tree-slot}
 use Rattle.files.specs.AllGot.{got-value, field-got, tree-read}
 use Rattle.readback.specs.Led.{lowest-led}
 use Rattle.tree.specs.declared.Summary.{Summary}
-use Rattle.tree.specs.declared.TreeFile.the-variants.{Read}
-use Rattle.tree.specs.Summary.{summaryOf, treeTold}
+use Rattle.tree.specs.declared.Judged.the-variants.{Accepted}
+use Rattle.tree.specs.Summary.{numberOr64, summaryOf, judgedTold}
 use Rattle.tree.specs.Filled.{treeFilled}
 use Rattle.tree.specs.FilledLaws.{tree-table}
 use Rattle.tree.specs.Parts.{TemplatesParts, templates-parts, templates-count, FileParts, tree-parts}
-use Rattle.tree.specs.Judged.{file, judged-near, judged-flat}
+use Rattle.tree.specs.Judged.{ReadAs, judged-told, number-some, number-none}
 use Rattle.emit.specs.Stores.{sets-append}
 use Rattle.flatten.specs.declared.Past.{Past}
 use Rattle.flatten.specs.declared.Flattened.{Flattened}
@@ -115,11 +115,16 @@ module _ (s old : List ℕ) where
   abbrev pub FlattenDone : Flattened → List ℕ → Type 0
   FlattenDone r o = (r ≡ answered (flattened s (length old))) × (o ≡ written old (flattened s (length old)))
 
-  pub flatten-refused : {n p : ℕ} → flatChecked s ≡ refused n p → FlattenDone (Refused n p) old
+  flat-refused : {n p : ℕ} → flatAccepted s ≡ refused n p → FlattenDone (Refused n p) old
   unfolding flattened then answered written
-  flatten-refused e = rw e (refl, refl)
+  flat-refused e = rw e (refl, refl)
 
-  module _ {ts : List Template} {q : ℕ} (accepted : flatChecked s ≡ got ts q) where
+  -- what the tree machine refuses the flattener refuses
+  pub flatten-refused : {n p : ℕ} → treeAccepted s ≡ refused n p → FlattenDone (Refused n p) old
+  unfolding flatAccepted then
+  flatten-refused e = flat-refused (rw e refl)
+
+  module _ {ts : List Template} {q : ℕ} (accepted : flatAccepted s ≡ got ts q) where
     accepted-short : length old < length (linearFile ts) → FlattenDone (Refused 9 (length (linearFile ts))) old
     unfolding flattened then intoBytes answered written
     accepted-short h = rw (accepted, lt-leb (length (linearFile ts)) (length old) h) (refl, refl)
@@ -130,27 +135,49 @@ module _ (s old : List ℕ) where
         let z : 0 + length (linearFile ts) ≡ length (linearFile ts) = zero-add (length (linearFile ts)) in
         rw (accepted, le-leb (length (linearFile ts)) (length old) h) (refl, e ∙ (rw z at (sets-eq (linearFile ts) old 0 (rw z h))))
 
-  module _ {m : Summary} (told : treeTold (treeRead s) ≡ Read m) (closed : 64 ≤ m .unclosed) (named : 64 ≤ m .misnamed) (near : 64 ≤ m .far) where
+  module _ {m : Summary} (told : judgedTold (treeAccepted s) ≡ Accepted m) where
+    file : ReadAs (treeAccepted s) m
+    file = judged-told (treeAccepted s) told
+
     abbrev templates : List Template
-    templates = file s told .templates
+    templates = file .templates
+
+    read : treeRead s ≡ got templates (file .past)
+    read = checked-read s templates (file .past) (accepted-checked s templates (file .past) (file .is))
+
+    far-is : numberOr64 (lowest offsetTemplate 0 templates) ≡ m .far
+    unfolding summaryOf
+    far-is = ap (λ (x : Summary). x .far) (file .summary)
+
+    -- 8
+    pub flatten-far : m .far < 64 → FlattenDone (Refused 8 (m .far)) old
+    unfolding flatAccepted then orLowest
+    flatten-far h = flat-refused (rw (file .is, number-some (lowest offsetTemplate 0 templates) (rw far-is h), far-is) refl)
+
+    near : 64 ≤ m .far → lowest offsetTemplate 0 templates ≡ none
+    near h = number-none offsetTemplate 0 templates (omega (arith, tree-read s read)) (rw far-is h)
+
+    flat : 64 ≤ m .far → flatAccepted s ≡ got templates (file .past)
+    unfolding flatAccepted then orLowest
+    flat h = rw (file .is, near h) refl
 
     size-is : m .size ≡ length (linearFile templates)
     unfolding summaryOf
-    size-is = ap (λ (x : Summary). x .size) (sym (file s told .summary))
+    size-is = ap (λ (x : Summary). x .size) (sym (file .summary))
 
     count-is : m .count ≡ length templates
     unfolding summaryOf
-    count-is = ap (λ (x : Summary). x .count) (sym (file s told .summary))
+    count-is = ap (λ (x : Summary). x .count) (sym (file .summary))
 
-    pub flatten-short : length old < m .size → FlattenDone (Refused 9 (m .size)) old
-    flatten-short h = let d = accepted-short (judged-flat s told closed named near) (omega (arith, size-is)) in (ap (Refused 9) size-is ∙ d .0, d .1)
+    pub flatten-short : 64 ≤ m .far → length old < m .size → FlattenDone (Refused 9 (m .size)) old
+    flatten-short k h = let d = accepted-short (flat k) (omega (arith, size-is)) in (ap (Refused 9) size-is ∙ d .0, d .1)
 
     pub some-bytes : 1 ≤ m .size
     unfolding linearFile
     some-bytes = omega (arith, size-is)
 
-    parts : FileParts s templates (file s told .past)
-    parts = tree-parts s (file s told .is)
+    parts : FileParts s templates (file .past)
+    parts = tree-parts s (read)
 
     pub file-short : length s ≤ 65536
     file-short = parts .short
@@ -158,7 +185,7 @@ module _ (s old : List ℕ) where
     counts : m .count ≡ parts .count
     counts = count-is ∙ templates-count s (parts .count) (parts .count) 0 (parts .first) (parts .read)
 
-    module _ {table : List ℕ} (filled : table ≡ treeFilled s) (bytes : ℕ) (enough : m .size ≤ bytes) where
+    module _ (close : 64 ≤ m .far) {table : List ℕ} (filled : table ≡ treeFilled s) (bytes : ℕ) (enough : m .size ≤ bytes) where
       pub file-to-write : TemplatesToWrite s table (m .count) 0 8 1 bytes
       unfolding linearFile
       file-to-write =
@@ -168,12 +195,12 @@ module _ (s old : List ℕ) where
             past = parts .past;
             few = omega (arith, counts, parts .few);
             read = ap (λ (n : ℕ). templatesAt s n 0 (n - 0) 8) counts ∙ ap (λ (n : ℕ). templatesAt s (parts .count) 0 n 8) (sub-zero (parts .count)) ∙ ap (templatesAt s (parts .count) 0 (parts .count)) first ∙ parts .read;
-            good = rw (filled, tree-table s (file s told .is)) (all-flattenable templates (tree-read s (file s told .is) .1 .1) [] templates 0 refl refl (judged-near s told closed named near));
+            good = rw (filled, tree-table s (read)) (all-flattenable templates (tree-read s (read) .1 .1) [] templates 0 refl refl (near close));
             fit-room = omega (arith, size-is);
           }
 
       pub flatten-written : bytes ≡ length old → {o : List ℕ} → ((w : TemplatesToWrite s table (m .count) 0 8 1 bytes) → o ≡ sets (set old 0 (m .count)) 1 (templatesBytes (w .templates))) → FlattenDone (Written (m .size)) o
       unfolding file-to-write linearFile
       flatten-written h e =
-          let d = accepted-written (judged-flat s told closed named near) (omega (arith, size-is)) (e file-to-write ∙ ap (λ (n : ℕ). sets (set old 0 n) 1 (templatesBytes templates)) count-is) in
+          let d = accepted-written (flat close) (omega (arith, size-is)) (e file-to-write ∙ ap (λ (n : ℕ). sets (set old 0 n) 1 (templatesBytes templates)) count-is) in
           (ap Written size-is ∙ d .0, d .1)

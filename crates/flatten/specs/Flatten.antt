@@ -7,7 +7,7 @@ use lib.Dec.{leb}
 use Rattle.cells.specs.Numbers.{shortOutput}
 use Rattle.files.specs.Reading.{Got, got, refused}
 use Rattle.files.specs.Entries.{then}
-use Rattle.files.specs.Accepted.{flatChecked}
+use Rattle.files.specs.Accepted.{flatAccepted}
 use Rattle.files.specs.Linear.{linearFile}
 use Rattle.flatten.specs.declared.Flattened.{Flattened}
 use Rattle.flatten.specs.declared.Flattened.the-variants.{Written, Refused}
@@ -19,7 +19,7 @@ intoBytes n w q = cond (leb (length w) n) (got w q) (refused shortOutput (length
 -- the linear file of the tree file s, for an output of n bytes
 unfoldable pub flattened : List ℕ → ℕ → Got (List ℕ)
 unfolding intoBytes
-flattened s n = then (flatChecked s) (λ ts q. intoBytes n (linearFile ts) q)
+flattened s n = then (flatAccepted s) (λ ts q. intoBytes n (linearFile ts) q)
 
 -- what the flattener answers
 unfoldable pub answered : Got (List ℕ) → Flattened

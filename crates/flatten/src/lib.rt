@@ -1,6 +1,6 @@
 // The flattener (document 01, 'Flattening').
 use cells::BitPlace;
-use tree::TreeFile;
+use tree::Judged;
 ghost use mathlib.Core.Path.{_≡_};
 ghost use Prim.Native.Nat.{_+_, _*_, _-_, _/_, _≤_, _<_};
 ghost use lib.ListN.{length};
@@ -107,14 +107,8 @@ pub fn flatten(s: &[u8], out: &mut [u8]) -> Flattened
     ensures { λ _. ⌜ now (out .exit) ≡ written (now (out .entry)) (flattened (now (s .entry)) (length (now (out .entry)))) ⌝ }
 {
     let mut table = [0u64; 16384];
-    match tree::read_tree(s, &mut table) {
-        TreeFile::Read(sum) => {
-            if sum.unclosed < 64 {
-                return Flattened::Refused(6, sum.unclosed as usize);
-            }
-            if sum.misnamed < 64 {
-                return Flattened::Refused(7, sum.misnamed as usize);
-            }
+    match tree::read_accepted(s, &mut table) {
+        Judged::Accepted(sum) => {
             if sum.far < 64 {
                 return Flattened::Refused(8, sum.far as usize);
             }
@@ -127,6 +121,6 @@ pub fn flatten(s: &[u8], out: &mut [u8]) -> Flattened
             write_templates(s, &table, count as usize, out);
             Flattened::Written(size)
         }
-        TreeFile::Refused(no, place) => Flattened::Refused(no, place.0),
+        Judged::Refused(no, place) => Flattened::Refused(no, place),
     }
 }

@@ -10,10 +10,10 @@ use Rattle.cells.specs.Laws.{clash}
 use Rattle.files.specs.Reading.{Got, got, refused}
 use Rattle.files.specs.Entries.{then}
 use Rattle.files.specs.Tree.{Template}
-use Rattle.files.specs.Accepted.{flatChecked}
+use Rattle.files.specs.Accepted.{flatAccepted}
 use Rattle.files.specs.Linear.{linearFile}
 use Rattle.readback.specs.TreeFacts.{tree-short}
-use Rattle.readback.specs.ReadBack.{checked-read, flat-checked}
+use Rattle.files.specs.AcceptedLaws.{checked-read, flat-checked, flat-accepted-checked}
 use Rattle.flatten.specs.Flatten.{intoBytes, flattened, answered, written}
 use Rattle.flatten.specs.declared.Flattened.the-variants.{Written, Refused}
 use Rattle.lines.specs.Lines.{linearOf, refusedLine, acceptedLines, sheetLines}
@@ -24,23 +24,23 @@ Short (got w q) = length w ≤ 16384
 Short (refused n p) = Unit
 
 module _ (s : List ℕ) (small : length s ≤ 4096) where
-  short : (ts : List Template) (q : ℕ) → flatChecked s ≡ got ts q → length (linearFile ts) ≤ 16384
-  short ts q e = omega (arith, tree-short s ts q (checked-read s ts q (flat-checked s ts q e)))
+  short : (ts : List Template) (q : ℕ) → flatAccepted s ≡ got ts q → length (linearFile ts) ≤ 16384
+  short ts q e = omega (arith, tree-short s ts q (checked-read s ts q (flat-checked s ts q (flat-accepted-checked s ts q e))))
 
   -- 9 is not given
   enough : flattened s 16384 ≡ linearOf s
   unfolding flattened linearOf intoBytes then
-  enough = by (flatChecked s) refl
+  enough = by (flatAccepted s) refl
     where
-      by : (g : Got (List Template)) → flatChecked s ≡ g → then g (λ ts q. intoBytes 16384 (linearFile ts) q) ≡ then g (λ ts q. got (linearFile ts) q)
+      by : (g : Got (List Template)) → flatAccepted s ≡ g → then g (λ ts q. intoBytes 16384 (linearFile ts) q) ≡ then g (λ ts q. got (linearFile ts) q)
       by (got ts q) e = rw (le-leb (length (linearFile ts)) 16384 (short ts q e))
       by (refused n p) e = refl
 
   all-short : Short (linearOf s)
   unfolding linearOf then
-  all-short = by (flatChecked s) refl
+  all-short = by (flatAccepted s) refl
     where
-      by : (g : Got (List Template)) → flatChecked s ≡ g → Short (then g (λ ts q. got (linearFile ts) q))
+      by : (g : Got (List Template)) → flatAccepted s ≡ g → Short (then g (λ ts q. got (linearFile ts) q))
       by (got ts q) e = short ts q e
       by (refused n p) e = tt
 

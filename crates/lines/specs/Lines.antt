@@ -10,7 +10,7 @@ use Rattle.cells.specs.declared.Value.the-variants.{False, True, Null, Unspecif
 use Rattle.text.specs.Text.{decimal, integer, line}
 use Rattle.files.specs.Reading.{Got, got, refused}
 use Rattle.files.specs.Entries.{then}
-use Rattle.files.specs.Accepted.{flatChecked}
+use Rattle.files.specs.Accepted.{flatAccepted}
 use Rattle.files.specs.Linear.{linearFile}
 use Rattle.machines.specs.Runs.{freshMemory, runOf, treeRun, linearRun}
 use Rattle.machines.specs.declared.End.{End}
@@ -78,7 +78,7 @@ acceptedLines s w = linearLine (length w) ++ machineLine tabularWord (tabularRun
 
 -- a sheet's linear file
 unfoldable pub linearOf : List ℕ → Got (List ℕ)
-linearOf s = then (flatChecked s) (λ ts q. got (linearFile ts) q)
+linearOf s = then (flatAccepted s) (λ ts q. got (linearFile ts) q)
 
 unfoldable pub sheetLines : List ℕ → Got (List ℕ) → List ℕ
 sheetLines s (got w q) = acceptedLines s w

@@ -1,4 +1,6 @@
 -- The specs of the crate lists.
+pub mod Sets
+pub mod SetsLaws
 pub mod Facts
 pub mod Pass
 pub mod Each

@@ -17,15 +17,16 @@ use Rattle.lists.specs.declared.Item.{Item}
 use Rattle.lists.specs.declared.Item.the-variants.{End, More, Bad}
 use Rattle.lists.specs.declared.Classes.{Classes}
 use Rattle.lists.specs.declared.State.{State}
-use Rattle.lists.specs.Facts.{slotNamed, factsOf}
+use Rattle.lists.specs.Sets.{unite}
+use Rattle.lists.specs.Facts.{slotNamed, slotCloses, factsOf}
 
 -- ---- one instruction
 -- without lists: its code, how many operands it has, the first of them
 unfoldable pub simpleAdded : List ℕ → ℕ → ℕ → ℕ → ℕ → Added
 simpleAdded table own v k n =
     cond (ltb v 6)
-    (record { kind = Ending; size = 1 + k; named = true; fits = true })
-    (record { kind = Neutral; size = 1 + k; named = slotNamed table own v n; fits = true })
+    (record { kind = Ending; size = 1 + k; named = true; fits = true; closes = 0 })
+    (record { kind = Neutral; size = 1 + k; named = slotNamed table own v n; fits = true; closes = slotCloses table own v n })
 
 -- unless-false, by the classes of its arms
 unfoldable pub conditionalKind : ℕ → ℕ → Kind
@@ -42,6 +43,7 @@ conditionalAdded x y =
       size = conditionalSize (x .class) (x .size) (y .size);
       named = x .named && y .named;
       fits = armsFit (eqb (x .class) 2) (x .size) (y .size) && (x .fits && y .fits);
+      closes = unite (x .closes) (y .closes);
     }
 
 -- make-cont, by the class of its saved list
@@ -49,12 +51,19 @@ unfoldable pub saveKind : ℕ → Kind
 saveKind x = cond (leb x 1) SavesOpen (cond (eqb x 2) SavesClosed SavesNeither)
 
 unfoldable pub saveAdded : Facts → Added
-saveAdded x = record { kind = saveKind (x .class); size = 4 + x .size; named = x .named; fits = x .fits }
+saveAdded x = record { kind = saveKind (x .class); size = 4 + x .size; named = x .named; fits = x .fits; closes = x .closes }
 
 unfoldable pub addedBy : List ℕ → ℕ → Instr → Added
-addedBy table own (neutral-i op ns) = record { kind = Neutral; size = 1 + length ns; named = slotNamed table own op (getD ns 0 0); fits = true }
-addedBy table own return-i = record { kind = Ending; size = 1; named = true; fits = true }
-addedBy table own (call-i n) = record { kind = Ending; size = 2; named = true; fits = true }
+addedBy table own (neutral-i op ns) =
+    record {
+      kind = Neutral;
+      size = 1 + length ns;
+      named = slotNamed table own op (getD ns 0 0);
+      fits = true;
+      closes = slotCloses table own op (getD ns 0 0);
+    }
+addedBy table own return-i = record { kind = Ending; size = 1; named = true; fits = true; closes = 0 }
+addedBy table own (call-i n) = record { kind = Ending; size = 2; named = true; fits = true; closes = 0 }
 addedBy table own (unless-i x y) = conditionalAdded (factsOf table own x) (factsOf table own y)
 addedBy table own (cont-i n x) = saveAdded (factsOf table own x)
 
@@ -84,6 +93,7 @@ stateAfter st o =
       tail = cond (st .seen) (st .tail + o .size) (st .tail);
       named = st .named && o .named;
       fits = st .fits && o .fits;
+      closes = unite (st .closes) (o .closes);
     }
 
 unfoldable pub begun : State
@@ -95,10 +105,12 @@ begun =
       tail = 0;
       named = true;
       fits = true;
+      closes = 0;
     }
 
 unfoldable pub finish : State → Facts
-finish st = record { class = st .classes .empty; size = st .size; named = st .named; fits = st .fits && fitsOffset (st .tail) }
+finish st =
+    record { class = st .classes .empty; size = st .size; named = st .named; fits = st .fits && fitsOffset (st .tail); closes = st .closes }
 
 unfoldable pub run : List ℕ → ℕ → Code → State → State
 run table own done st = st

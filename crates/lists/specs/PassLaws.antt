@@ -17,7 +17,9 @@ use Rattle.lists.specs.declared.Kind.the-variants.{Neutral, Ending, Save
 use Rattle.lists.specs.declared.Classes.{Classes}
 use Rattle.lists.specs.declared.Added.{Added}
 use Rattle.lists.specs.declared.State.{State}
-use Rattle.lists.specs.Facts.{classBy, classOf, slotsFit, factsOf, listed}
+use Rattle.lists.specs.Sets.{unite}
+use Rattle.lists.specs.SetsLaws.{unite-zero, unite-assoc}
+use Rattle.lists.specs.Facts.{classBy, classOf, slotsFit, uniteNeutral, slotsClose, factsOf, listed}
 use Rattle.lists.specs.Pass.{conditionalKind, conditionalSize, conditionalAdded, saveKind, saveAdded, addedBy, classesAfter, isSave, stateAfter, begun, finish, run, listedFrom}
 
 -- ---- a list is empty, or an instruction and a list
@@ -203,6 +205,14 @@ module _ (table : List ℕ) (own : ℕ) where
   put-named (unless-i x y) r = refl
   put-named (cont-i n x) r = refl
 
+  put-closes : (i : Instr) (r : Code) → slotsClose table own (put i r) ≡ unite (addedBy table own i .closes) (slotsClose table own r)
+  unfolding addedBy conditionalAdded saveAdded factsOf put slotsClose uniteNeutral unite
+  put-closes (neutral-i op ns) r = refl
+  put-closes return-i r = refl
+  put-closes (call-i n) r = refl
+  put-closes (unless-i x y) r = refl
+  put-closes (cont-i n x) r = refl
+
   put-fits : (i : Instr) (r : Code) → offsetsFit (put i r) ≡ (cond (isSave (addedBy table own i .kind)) (fitsOffset (length (flat r))) true && (addedBy table own i .fits && offsetsFit r))
   unfolding addedBy conditionalAdded saveAdded factsOf put offsetsFit isSave
   put-fits (neutral-i op ns) r = refl
@@ -282,13 +292,28 @@ module _ (table : List ℕ) (own : ℕ) where
   unfolding stateAfter slotsFit eachNeutral
   run-named = by-run (λ c st st′. st′ .named ≡ (st .named && slotsFit table own c)) (λ st. sym (and-true (st .named))) (λ i c st st′ h. h ∙ and-assoc (st .named) _ _ ∙ rw (put-named table own i c) refl)
 
+  run-closes : (c : Code) (st : State) → run table own c st .closes ≡ unite (st .closes) (slotsClose table own c)
+  unfolding stateAfter slotsClose uniteNeutral
+  run-closes =
+      by-run (λ c st st′. st′ .closes ≡ unite (st .closes) (slotsClose table own c)) (λ st. sym (unite-zero (st .closes)))
+      (λ i c st st′ h. h ∙ unite-assoc (st .closes) _ _ ∙ rw (put-closes table own i c) refl)
+
   run-fits : (c : Code) (st : State) → Fit c st (run table own c st)
   run-fits = by-run Fit fit-done (λ i c st st′ h. fit-more (addedBy table own i) c (put i c) st st′ (put-size table own i c) (put-fits table own i c) h)
 
   -- the pass finds the facts
   pub pass-facts : (c : Code) → finish (run table own c begun) ≡ factsOf table own c
-  unfolding finish factsOf begun
-  pass-facts c = rw (run-class c begun, run-size c begun, run-named c begun, run-fits c begun .1 refl refl, begun-class c, zero-add (length (flat c))) refl
+  unfolding finish factsOf begun unite
+  pass-facts c =
+      rw (
+        run-class c begun,
+        run-size c begun,
+        run-named c begun,
+        run-closes c begun,
+        run-fits c begun .1 refl refl,
+        begun-class c,
+        zero-add (length (flat c)),
+      ) refl
 
   pub listed-begun : (x : Got Code) → listed table own x ≡ listedFrom table own begun x
   unfolding listed listedFrom

@@ -1,27 +1,31 @@
 -- Where the table's row of a template has the template's entries, codes 6 to 9 are right by the table as they are by the entries
--- (refusal 7). Assumes nothing.
-use Prim.Native.Nat.{ℕ, _+_, _*_, _≤_, _<_}
+-- (refusal 7), and closures name the same templates (refusal 24). Assumes nothing.
+use Prim.Native.Nat.{ℕ, zero, suc, _+_, _*_, _%_, _^_, _≤_, _<_}
 use native.Mathlib.Omega.{arith}
 use mathlib.Core.Path.{_≡_, refl, sym, ap, ap₂, _∙_}
-use mathlib.Core.Bool.{Bool, true, false, cond, _&&_, _||_}
-use mathlib.Core.List.{List, _++_}
+use mathlib.Core.Bool.{Bool, true, false, cond, _&&_, _||_, or-assoc}
+use mathlib.Core.List.{List, [], _∷_, _++_}
 use mathlib.Core.Option.{Option, none, some}
 use borrow.Author.Tests.{le-leb, leb-true, eqb-true, eqb-false, ne-eqb}
 use lib.ListN.{length, getD, List·getD-append}
 use lib.Seq.{getD-append-add}
 use lib.Dec.{leb, eqb}
 use Rattle.cells.specs.Cells.{tagOf}
+use Rattle.cells.specs.Laws.{clash}
 use Rattle.files.specs.Codes.{isNeutral}
 use Rattle.files.specs.CodesLaws.{neutral-six}
 use Rattle.files.specs.Code.{Code, done, neutral, return, call, unless-false, make-cont}
 use Rattle.files.specs.Entries.{Entry, constant, global, template}
 use Rattle.files.specs.EntriesLaws.{EntriesOk}
 use Rattle.files.specs.Grammar.{entryOf, suits, indexFits, eachNeutral, indicesFit}
+use Rattle.files.specs.Orphans.{isTemplate, closes}
 use Rattle.files.specs.Table.{constantCell, slotOf, rowOf}
 use Rattle.files.specs.TableLaws.{slotOr, EntryFits, FoundFits, found-fits, constant-tag, row-length, row-entry}
 use Rattle.files.specs.Valid.{Bytes, Valid}
 use Rattle.files.specs.ReadingLaws.{first-byte}
-use Rattle.lists.specs.Facts.{slotFits, slotNamed, slotsFit}
+use Rattle.lists.specs.Sets.{unite, has}
+use Rattle.lists.specs.SetsLaws.{has-none, has-unite, has-one}
+use Rattle.lists.specs.Facts.{slotFits, slotNamed, slotsFit, uniteNeutral, slotCloses, slotsClose, entrySet, indexCloses, indicesClose}
 use Rattle.lists.specs.Each.{each}
 
 -- the table's row of template own has the entries es
@@ -46,6 +50,21 @@ slot-suits op (some (template t)) h i v =
     let z : tagOf (0xC000000000000000 + t) ≡ 12 = omega arith in
     rw z (six-to-nine (λ op. cond (eqb op 6) false (cond (eqb op 7) true false) ≡ eqb op 7) refl refl refl refl op h i)
 
+-- ---- what an index finds
+template-low : (own T : ℕ) (es : List Entry) (n t : ℕ) → EntriesOk own T es → entryOf es n ≡ some (template t) → t < 64
+unfolding entryOf
+template-low own T es zero t h e = clash (cc)
+template-low own T [] (suc n) t h e = clash (cc)
+template-low own T (constant k x ∷ es) (suc zero) t h e = clash (cc)
+template-low own T (global g ∷ es) (suc zero) t h e = clash (cc)
+template-low own T (template k ∷ es) (suc zero) t h e = let z : k ≡ t = cc in omega (arith, h .0)
+template-low own T (x ∷ es) (suc (suc n)) t h e = template-low own T es (suc n) t (h .1) e
+
+found-index : (es : List Entry) (n : ℕ) (x : Entry) → entryOf es n ≡ some x → 1 ≤ n
+unfolding entryOf
+found-index es zero x e = clash (cc)
+found-index es (suc n) x e = omega arith
+
 -- ---- a list
 module _ (table : List ℕ) (own T : ℕ) (es : List Entry) (row : Row table own es) (fit : EntriesOk own T es) where
   index-named : (op n : ℕ) → isNeutral op ≡ true → n < 256 → slotNamed table own op n ≡ indexFits es op n
@@ -67,6 +86,61 @@ module _ (table : List ℕ) (own T : ℕ) (es : List Entry) (row : Row table own
   slots-named (call n r) v = slots-named r (v .1)
   slots-named (unless-false x y r) v = ap₂ _&&_ (ap₂ _&&_ (slots-named x (v .0)) (slots-named y (v .1))) (slots-named r (v .2))
   slots-named (make-cont n x r) v = ap₂ _&&_ (slots-named x (v .1)) (slots-named r (v .2))
+
+  -- ---- which templates closures name
+  slot-set : (n t : ℕ) → 1 ≤ n → n < 256 → entryOf es n ≡ some (template t) → 2 ^ (getD table (256 * own + n) 0 % 64) ≡ 2 ^ t
+  unfolding slotOf
+  slot-set n t h b e =
+      let s : getD table (256 * own + n) 0 ≡ 0xC000000000000000 + t = row n h b ∙ ap slotOr e in
+      let k : getD table (256 * own + n) 0 % 64 ≡ t = omega (arith, template-low own T es n t fit e) in
+      rw k refl
+
+  index-closes : (op n : ℕ) → isNeutral op ≡ true → n < 256 → slotCloses table own op n ≡ indexCloses es op n
+  unfolding slotCloses indexCloses indexFits suits entrySet
+  index-closes op n h b = by (eqb op 7) refl
+    where
+      named : (o : Option Entry) → entryOf es n ≡ o → cond (suits 7 o) (2 ^ (getD table (256 * own + n) 0 % 64)) 0 ≡ entrySet o
+      named none e = refl
+      named (some (constant t x)) e = refl
+      named (some (global g)) e = refl
+      named (some (template t)) e = slot-set n t (found-index es n (template t) e) b e
+
+      by : (x : Bool) → eqb op 7 ≡ x
+          → cond x (cond (slotNamed table own op n) (2 ^ (getD table (256 * own + n) 0 % 64)) 0) 0 ≡ cond x (entrySet (entryOf es n)) 0
+      by false e = refl
+      by true e = rw (index-named op n h b, eqb-true op 7 e) (named (entryOf es n) refl)
+
+  pub slots-close : (c : Code) → Valid c → slotsClose table own c ≡ indicesClose es c
+  unfolding slotsClose indicesClose uniteNeutral Valid
+  slots-close done v = refl
+  slots-close (neutral op ns r) v = ap₂ unite (index-closes op (getD ns 0 0) (v .0) (first-byte ns (v .2))) (slots-close r (v .3))
+  slots-close (return r) v = slots-close r v
+  slots-close (call n r) v = slots-close r (v .1)
+  slots-close (unless-false x y r) v = ap₂ unite (ap₂ unite (slots-close x (v .0)) (slots-close y (v .1))) (slots-close r (v .2))
+  slots-close (make-cont n x r) v = ap₂ unite (slots-close x (v .1)) (slots-close r (v .2))
+
+-- what is in the set is what the closures name
+module _ (es : List Entry) (u : ℕ) where
+  entry-named : (o : Option Entry) → has (entrySet o) u ≡ isTemplate u o
+  unfolding entrySet isTemplate
+  entry-named none = has-none u
+  entry-named (some (constant t x)) = has-none u
+  entry-named (some (global g)) = has-none u
+  entry-named (some (template t)) = has-one t u
+
+  index-closed : (b : Bool) (o : Option Entry) → has (cond b (entrySet o) 0) u ≡ (b && isTemplate u o)
+  index-closed true o = entry-named o
+  index-closed false o = has-none u
+
+  pub closes-has : (c : Code) → has (indicesClose es c) u ≡ closes es u c
+  unfolding indicesClose uniteNeutral indexCloses closes
+  closes-has done = has-none u
+  closes-has (neutral op ns r) = has-unite _ _ u ∙ ap₂ _||_ (index-closed (eqb op 7) (entryOf es (getD ns 0 0))) (closes-has r)
+  closes-has (return r) = closes-has r
+  closes-has (call n r) = closes-has r
+  closes-has (unless-false x y r) =
+      has-unite _ _ u ∙ ap₂ _||_ (has-unite _ _ u ∙ ap₂ _||_ (closes-has x) (closes-has y)) (closes-has r) ∙ or-assoc (closes es u x) _ _
+  closes-has (make-cont n x r) = has-unite _ _ u ∙ ap₂ _||_ (closes-has x) (closes-has r)
 
 -- ---- a row among others
 pub row-among : (front back : List ℕ) (own start : ℕ) (es : List Entry) → length front ≡ 256 * own → length es < 256 → Row (front ++ (rowOf start es ++ back)) own es

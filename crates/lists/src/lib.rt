@@ -1,4 +1,4 @@
-// Reading a code list of a tree file in one pass, with the facts that refusals 6, 7 and 8 and the flattener need.
+// Reading a code list of a tree file in one pass, with the facts that refusals 6, 7, 24 and 8 and the flattener need.
 use cells::BitPlace;
 use fields::Field;
 ghost use mathlib.Core.Path.{_≡_};
@@ -9,16 +9,18 @@ ghost use lib.Dec.{eqb};
 ghost use Rattle.files.specs.Codes.{shapeOf};
 ghost use Rattle.files.specs.Flat.{armsFit};
 ghost use Rattle.files.specs.Reading.{headAt, deepOf, listAt};
-ghost use Rattle.lists.specs.Facts.{slotFits, slotNamed, listed};
+ghost use Rattle.lists.specs.Sets.{unite};
+ghost use Rattle.lists.specs.Facts.{slotFits, slotNamed, slotCloses, listed};
 ghost use Rattle.lists.specs.Pass.{classesAfter, isSave, stateAfter, begun, finish, simpleAdded, conditionalKind, conditionalSize, conditionalAdded, saveKind, saveAdded, simpleAt, deepAt, itemed};
 
 // What is to be known of a list: its class (0 empty, 1 open, 2 closed, 3 neither), how many bytes its flat code has, whether codes 6 to 9
-// name entries that suit them, and whether its offsets fit.
+// name entries that suit them, whether its offsets fit, and which templates its closures name: bit t, from the lowest, for template t.
 pub struct Facts {
     pub class: u8,
     pub size: usize,
     pub named: bool,
     pub fits: bool,
+    pub closes: u64,
 }
 
 // What reading a list finds: the place past it and its facts, or a refusal's number and place.
@@ -46,6 +48,7 @@ struct Added {
     pub size: usize,
     pub named: bool,
     pub fits: bool,
+    pub closes: u64,
 }
 
 // What reading one instruction finds: the list's end, an instruction, or a refusal.
@@ -71,6 +74,7 @@ struct State {
     pub tail: usize,
     pub named: bool,
     pub fits: bool,
+    pub closes: u64,
 }
 
 // How a code is followed in a tree, by code (document 01, 'Codes'): 0 the end of the list; 1, 2, 3 no, one or two operand bytes; 4 two
@@ -158,6 +162,28 @@ fn slot_named(table: &[u64], own: usize, code: u32, n: u32) -> bool
     slot_fits(code, table[slot])
 }
 
+// Both sets of templates together.
+fn unite(x: u64, y: u64) -> u64
+    ensures { λ r. ⌜ r ≡ unite x y ⌝ }
+{
+    x | y
+}
+
+// The set of the template that a neutral code names: a closure's, where its entry suits it.
+fn slot_closes(table: &[u64], own: usize, code: u32, n: u32) -> u64
+    requires { ⌜ (length (now table) ≡ 16384) × (own < 64) × (n < 256) ⌝ }
+    ensures { λ r. ⌜ r ≡ slotCloses (now (table .entry)) own code n ⌝ }
+{
+    if code != 7 {
+        return 0;
+    }
+    if slot_named(table, own, code, n) {
+        let slot = 256 * own + n as usize;
+        return 1u64 << (table[slot] % 64);
+    }
+    0
+}
+
 // What an instruction without lists adds: its code, how many operands it has, and the first of them.
 fn simple_added(table: &[u64], own: usize, code: u32, operands: usize, n: u32) -> Added
     requires { ⌜ (length (now table) ≡ 16384) × (own < 64) × (operands ≤ 2) × (n < 256) ⌝ }
@@ -170,6 +196,7 @@ fn simple_added(table: &[u64], own: usize, code: u32, operands: usize, n: u32) -
             size,
             named: true,
             fits: true,
+            closes: 0,
         };
     }
     Added {
@@ -177,6 +204,7 @@ fn simple_added(table: &[u64], own: usize, code: u32, operands: usize, n: u32) -
         size,
         named: slot_named(table, own, code, n),
         fits: true,
+        closes: slot_closes(table, own, code, n),
     }
 }
 
@@ -225,6 +253,7 @@ fn conditional_added(x: Facts, y: Facts) -> Added
         size: conditional_size(x.class, x.size, y.size),
         named: both(x.named, y.named),
         fits: both(arms_fit(x.class, x.size, y.size), both(x.fits, y.fits)),
+        closes: unite(x.closes, y.closes),
     }
 }
 
@@ -251,6 +280,7 @@ fn save_added(x: Facts) -> Added
         size: 4 + x.size,
         named: x.named,
         fits: x.fits,
+        closes: x.closes,
     }
 }
 
@@ -327,6 +357,7 @@ fn state_after(st: State, added: Added) -> State
         tail: tail_after(st, added.size),
         named: both(st.named, added.named),
         fits: both(st.fits, added.fits),
+        closes: unite(st.closes, added.closes),
     }
 }
 
@@ -346,6 +377,7 @@ fn begin() -> State
         tail: 0,
         named: true,
         fits: true,
+        closes: 0,
     }
 }
 
@@ -359,6 +391,7 @@ fn finished(st: State) -> Facts
         size: st.size,
         named: st.named,
         fits: both(st.fits, st.tail <= 65535),
+        closes: st.closes,
     }
 }
 

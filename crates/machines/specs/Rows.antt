@@ -15,7 +15,8 @@ use Rattle.files.specs.Tree.{Template, templateAt, templatesAt, paddedEnd, tree
 use Rattle.files.specs.Grammar.{isEmpty, isOpen, isClosed, entryOf, suits, indexFits, eachNeutral, indicesFit, lowest}
 use Rattle.files.specs.Flat.{offset, conditional, flat, armsFit, offsetsFit}
 use Rattle.files.specs.Linear.{bitsOf, entryBits, entriesBits, byteOf, bytesFrom, bytesOf, templateBytes, templatesBytes, linearFile, codeAt, linearTemplateAt, linearTemplatesAt, linearRead}
-use Rattle.files.specs.Accepted.{orLowest, treeChecked, flatChecked}
+use Rattle.files.specs.Orphans.{isTemplate, closes, closureNames, lowestNumber, lowestOrphan}
+use Rattle.files.specs.Accepted.{orLowest, treeChecked, treeAccepted, flatAccepted}
 use Rattle.files.specs.Table.{constantCell}
 use Rattle.integers.specs.Integers.{signed, within, intBits, totalOf, allIntegers}
 use Rattle.rules.specs.Rules.{literalRule, pushRule, addRule, plainRule, makeContRule, returnRule}
@@ -41,7 +42,7 @@ rowToldOf s (got ts q) = onTwo (linearFile ts) (treeRun s 100 freshMemory) (line
 rowToldOf s (refused n p) = onOne n p (treeRun s 100 freshMemory)
 
 abbrev pub rowTold : List ℕ → Told
-rowTold s = rowToldOf s (flatChecked s)
+rowTold s = rowToldOf s (flatAccepted s)
 
 abbrev pub expected : List Told
 expected =
@@ -58,5 +59,5 @@ expected =
 
 -- P1 to P7, and P8: offset 65,535 splits into 255, 255; 256 into 1, 0
 pub rows : (map rowTold sheets ≡ expected) × (map offset (65535 ∷ 256 ∷ []) ≡ (255 ∷ 255 ∷ []) ∷ (1 ∷ 0 ∷ []) ∷ [])
-unfolding startingGlobal valueOf bitAt fieldAt fieldRead pickField shapeOf isNeutral operandBytes put simple bits withField withList withDeep shaped headAt before after items deepOf listAt then field fieldGot tagWidth constantAt kindAt entryAt entriesAt zeroBits nothingMore templateAt templatesAt paddedEnd treeRead isEmpty isOpen isClosed entryOf suits indexFits eachNeutral indicesFit lowest conditional flat armsFit offsetsFit bitsOf entryBits entriesBits byteOf bytesFrom bytesOf templateBytes templatesBytes linearFile codeAt linearTemplateAt linearTemplatesAt linearRead orLowest treeChecked flatChecked constantCell signed totalOf within intBits allIntegers literalRule pushRule addRule plainRule makeContRule returnRule namedBy asLiteral ruleOf resolve plainly openCount first beyond look transfer decode treeAt linearAt bind applied called returned act step jumpCount firstCount counted next run refusedRun rightLengths lowestUnfit fitGlobals started startState endOf memoryOf reported programRun onTree onLinear treeRun linearRun
+unfolding startingGlobal valueOf bitAt fieldAt fieldRead pickField shapeOf isNeutral operandBytes put simple bits withField withList withDeep shaped headAt before after items deepOf listAt then field fieldGot tagWidth constantAt kindAt entryAt entriesAt zeroBits nothingMore templateAt templatesAt paddedEnd treeRead isEmpty isOpen isClosed entryOf suits indexFits eachNeutral indicesFit lowest conditional flat armsFit offsetsFit bitsOf entryBits entriesBits byteOf bytesFrom bytesOf templateBytes templatesBytes linearFile codeAt linearTemplateAt linearTemplatesAt linearRead orLowest treeChecked treeAccepted flatAccepted closes isTemplate closureNames lowestNumber lowestOrphan constantCell signed totalOf within intBits allIntegers literalRule pushRule addRule plainRule makeContRule returnRule namedBy asLiteral ruleOf resolve plainly openCount first beyond look transfer decode treeAt linearAt bind applied called returned act step jumpCount firstCount counted next run refusedRun rightLengths lowestUnfit fitGlobals started startState endOf memoryOf reported programRun onTree onLinear treeRun linearRun
 rows = (refl, refl)

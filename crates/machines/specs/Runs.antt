@@ -10,7 +10,7 @@ use Rattle.cells.specs.Numbers.{budgetSpent, wrongLength, largeBudget, unfitGlo
 use Rattle.files.specs.Reading.{Got, got, refused}
 use Rattle.files.specs.Tree.{Template}
 use Rattle.files.specs.Linear.{Linear, linearRead}
-use Rattle.files.specs.Accepted.{treeChecked}
+use Rattle.files.specs.Accepted.{treeChecked, treeAccepted}
 use Rattle.rules.specs.State.{mem, regs}
 use Rattle.rules.specs.Rules.{Data}
 use Rattle.machines.specs.Machine.{Program, treeProgram, linearProgram, State, at, noCounts, Ending, halted, wrongly, spent, Ended, run}
@@ -109,7 +109,12 @@ onLinear b m (refused n p) = refusedRun n p m
 
 unfoldable pub treeRun : List ℕ → ℕ → Memory → Ran
 unfolding onTree started
-treeRun s b m = started 1000000 b m (onTree b m (treeChecked s))
+treeRun s b m = started 1000000 b m (onTree b m (treeAccepted s))
+
+-- the tree machine with request 4's check, 24, left aside: requests 5 and 13 speak of it
+unfoldable pub checkedRun : List ℕ → ℕ → Memory → Ran
+unfolding onTree started
+checkedRun s b m = started 1000000 b m (onTree b m (treeChecked s))
 
 unfoldable pub linearRun : List ℕ → ℕ → Memory → Ran
 unfolding onLinear started

@@ -14,7 +14,6 @@ use Rattle.files.specs.Entries.{valid, toByte, zeroBits, nothingMore}
 use Rattle.files.specs.AllGot.{refused-got, got-value, then-led}
 use Rattle.files.specs.Tree.{Template, paddedEnd}
 use Rattle.files.specs.Grammar.{lowest}
-use Rattle.files.specs.Accepted.{orLowest}
 
 -- ---- a test that a refusal hangs on was passed
 pub cond-led : {A : Type 0} (b : Bool) (g : Got A) (n p : ℕ) {a : A} {q : ℕ} → cond b g (refused n p) ≡ got a q → (b ≡ true) × (g ≡ got a q)
@@ -24,12 +23,6 @@ cond-led false g n p e = refused-got e
 pub valid-led : {A : Type 0} (p : ℕ) (b : Bool) (g : Got A) {a : A} {q : ℕ} → valid p b g ≡ got a q → (b ≡ true) × (g ≡ got a q)
 valid-led p true g e = (refl, e)
 valid-led p false g e = refused-got e
-
--- what 6, 7 and 8 do not refuse is as it was read
-pub or-led : {A : Type 0} (n : ℕ) (o : Option ℕ) (g : Got A) {a : A} {q : ℕ} → orLowest n o g ≡ got a q → (o ≡ none) × (g ≡ got a q)
-unfolding orLowest
-or-led n (some t) g e = refused-got e
-or-led n none g e = (refl, e)
 
 -- what a check over all templates lets pass, passes at each
 pub lowest-led : (ok : Template → Bool) (n : ℕ) (t : Template) (ts : List Template) → lowest ok n (t ∷ ts) ≡ none

@@ -15,7 +15,8 @@ use Rattle.files.specs.ReadingLaws.{list-bits, list-valid}
 use Rattle.files.specs.AllGot.{AllGot, got-all, then-all, cond-all, nothing-all, zero-all, Each, each-at}
 use Rattle.files.specs.Tree.{Template, templateAt, templatesAt, paddedEnd, treeRead}
 use Rattle.files.specs.Linear.{Linear, codeAt, linearTemplateAt, linearTemplatesAt, linearRead}
-use Rattle.files.specs.Accepted.{orLowest, treeChecked}
+use Rattle.files.specs.Orphans.{lowestOrphan}
+use Rattle.files.specs.Accepted.{orLowest, treeChecked, treeAccepted}
 use Rattle.files.specs.Grammar.{lowest, closedTemplate, indexedTemplate}
 use Rattle.files.specs.Valid.{Bytes}
 use Rattle.machines.specs.Fetched.{noTemplate, noLinear}
@@ -84,13 +85,20 @@ unfolding orLowest
 lowest-all Q n (some t) g h = tt
 lowest-all Q n none g h = h
 
--- THE LAW for tree files
+-- THE LAWS for tree files, with 24 left aside and with it
 pub tree-ok : (s : List ℕ) → AllGot (λ ts. ProgramOk (treeProgram ts)) (treeChecked s)
 unfolding treeChecked
 tree-ok s =
     then-all Q (treeRead s) _
     (λ ts q e. lowest-all Q 6 (lowest closedTemplate 0 ts) _ (lowest-all Q 7 (lowest indexedTemplate 0 ts) (got ts q)
     (tree-program-ok (length ts) ts (λ t h. file-at TemplateOk ts (got-all (FileOk TemplateOk) (tree-read-ok s) e) t h noTemplate))))
+  where
+    Q : List Template → Type 0
+    Q ts = ProgramOk (treeProgram ts)
+
+pub tree-accepted-ok : (s : List ℕ) → AllGot (λ ts. ProgramOk (treeProgram ts)) (treeAccepted s)
+unfolding treeAccepted
+tree-accepted-ok s = then-all Q (treeChecked s) _ (λ ts q e. lowest-all Q 24 (lowestOrphan ts) (got ts q) (got-all Q (tree-ok s) e))
   where
     Q : List Template → Type 0
     Q ts = ProgramOk (treeProgram ts)

@@ -14,7 +14,7 @@ use Rattle.files.specs.Reading.{Got, got, refused}
 use Rattle.files.specs.AllGot.{AllGot}
 use Rattle.files.specs.Tree.{Template}
 use Rattle.files.specs.Linear.{Linear, linearRead}
-use Rattle.files.specs.Accepted.{treeChecked}
+use Rattle.files.specs.Accepted.{treeAccepted}
 use Rattle.files.specs.Valid.{Bytes}
 use Rattle.rules.specs.Clean.{ZeroFrom}
 use Rattle.machines.specs.Machine.{Program, treeProgram, linearProgram, noCounts, Ending, halted, wrongly, spent, run}
@@ -26,7 +26,7 @@ use Rattle.machines.specs.declared.End.the-variants.{Halted, Wrong, OutOfBudget
 use Rattle.machines.specs.declared.Run.{Run}
 use Rattle.sound.specs.Programs.{ProgramOk}
 use Rattle.sound.specs.Runs.{Kept, FitGlobals, fit-globals, kept-run, value-run}
-use Rattle.sound.specs.Files.{tree-ok, linear-ok}
+use Rattle.sound.specs.Files.{tree-accepted-ok, linear-ok}
 
 -- ---- the statements
 -- a memory of the right lengths, zero from the used counts on, which are within it
@@ -121,7 +121,7 @@ started-ok most b m r h = lengths (rightLengths m) refl
 -- ---- THE LAWS: whatever the file, the budget and the memory lent
 pub tree-run-ok : (s : List ℕ) (b : ℕ) (m : Memory) → RanOk (treeRun s b m)
 unfolding treeRun onTree
-tree-run-ok s b m = started-ok 1000000 b m _ (λ g. read g (treeChecked s) (tree-ok s))
+tree-run-ok s b m = started-ok 1000000 b m _ (λ g. read g (treeAccepted s) (tree-accepted-ok s))
   where
     read : FitGlobals (m .globals) → (x : Got (List Template)) → AllGot (λ ts. ProgramOk (treeProgram ts)) x → RanOk (onTree b m x)
     read g (got ts q) h = program-ok (treeProgram ts) h b (m .globals) g

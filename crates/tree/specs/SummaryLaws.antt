@@ -13,8 +13,10 @@ use Rattle.files.specs.Tree.{Template}
 use Rattle.files.specs.Flat.{flat, offsetTemplate}
 use Rattle.files.specs.Grammar.{lowest, closedTemplate, indexedTemplate}
 use Rattle.files.specs.Linear.{entriesBits, bytesOf, threeBytes, templateBytes, templatesBytes, linearFile}
+use Rattle.lists.specs.Sets.{unite}
+use Rattle.lists.specs.SetsLaws.{unite-zero, unite-assoc}
 use Rattle.tree.specs.declared.Summary.{Summary}
-use Rattle.tree.specs.Summary.{reportOf, numberOr64, summaryOf, lower, summaryAfter, begun, summaryFrom}
+use Rattle.tree.specs.Summary.{reportOf, numberOr64, closesOf, summaryOf, lower, summaryAfter, begun, summaryFrom}
 
 -- ---- how many bytes a template takes
 pub template-length : (t : Template) → length (templateBytes t) ≡ 1 + (length (entriesBits (t .entries)) + 7) / 8 + (3 + length (flat (t .code)))
@@ -53,14 +55,25 @@ summary-from : (own : ℕ) (m : Summary) (ts : List Template) → summaryFrom ow
   misnamed = lowFrom indexedTemplate own (m .misnamed) ts;
   far = lowFrom offsetTemplate own (m .far) ts;
   size = m .size + length (templatesBytes ts);
+  closes = unite (m .closes) (closesOf ts);
 }
-unfolding summaryFrom summaryAfter reportOf templatesBytes lowFrom
-summary-from own m [] = rw add-zero refl
-summary-from own m (t ∷ ts) = summary-from (own + 1) (summaryAfter own (reportOf t) m) ts ∙ simp (length-append, add-assoc)
+unfolding summaryFrom summaryAfter reportOf templatesBytes lowFrom closesOf
+summary-from own m [] = rw (add-zero, unite-zero (m .closes)) refl
+summary-from own m (t ∷ ts) = summary-from (own + 1) (summaryAfter own (reportOf t) m) ts ∙ simp (length-append, add-assoc, unite-assoc)
 
 pub summary-all : (ts : List Template) → length ts ≤ 64 → summaryFrom 0 (begun (length ts)) ts ≡ summaryOf ts
-unfolding begun summaryOf linearFile
-summary-all ts h = summary-from 0 (begun (length ts)) ts ∙ rw (low-none closedTemplate 0 ts (omega arith), low-none indexedTemplate 0 ts (omega arith), low-none offsetTemplate 0 ts (omega arith)) (λ i. record { count = length ts; unclosed = numberOr64 (lowest closedTemplate 0 ts); misnamed = numberOr64 (lowest indexedTemplate 0 ts); far = numberOr64 (lowest offsetTemplate 0 ts); size = one i })
+unfolding begun summaryOf linearFile unite
+summary-all ts h =
+    summary-from 0 (begun (length ts)) ts
+    ∙ rw (low-none closedTemplate 0 ts (omega arith), low-none indexedTemplate 0 ts (omega arith), low-none offsetTemplate 0 ts (omega arith))
+    (λ i. record {
+      count = length ts;
+      unclosed = numberOr64 (lowest closedTemplate 0 ts);
+      misnamed = numberOr64 (lowest indexedTemplate 0 ts);
+      far = numberOr64 (lowest offsetTemplate 0 ts);
+      size = one i;
+      closes = closesOf ts;
+    })
   where
     one : 1 + length (templatesBytes ts) ≡ length (length ts ∷ templatesBytes ts)
     one = omega arith

@@ -19,7 +19,7 @@ use Rattle.files.specs.RowFilled.{Unfilled, front-length, row-table}
 use Rattle.lists.specs.declared.Facts.{Facts}
 use Rattle.lists.specs.Facts.{factsOf}
 use Rattle.lists.specs.PassLaws.{closed-class}
-use Rattle.lists.specs.SlotLaws.{Row, slots-named, row-among}
+use Rattle.lists.specs.SlotLaws.{Row, slots-named, slots-close, row-among}
 use Rattle.tree.specs.declared.Report.{Report}
 use Rattle.tree.specs.declared.TemplateRead.{TemplateRead}
 use Rattle.tree.specs.declared.TemplateRead.the-variants.{Done, Refused}
@@ -62,7 +62,16 @@ module _ (s : List ℕ) (own T p : ℕ) (table : List ℕ) where
         unfolding reportBy reportOf factsOf
         report =
             let b : r - q ≡ length (entriesBits es) = omega (arith, entries-read s own T few n q entries .past) in
-            rw (facts, b, slots-named (set t (256 * own) r) own T es row (entries-read s own T few n q entries .ok) c (list-valid s 15 r c (z .0) list), template-length (record { entries = es; start = r; code = c }), closed-class c) refl
+            let ok = entries-read s own T few n q entries .ok in
+            let v = list-valid s 15 r c (z .0) list in
+            rw (
+              facts,
+              b,
+              slots-named (set t (256 * own) r) own T es row ok c v,
+              slots-close (set t (256 * own) r) own T es row ok c v,
+              template-length (record { entries = es; start = r; code = c }),
+              closed-class c,
+            ) refl
 
         pub list-done : {o : Report} → o ≡ reportBy f (r - q) → TemplateDone (Done z o) (set t (256 * own) r)
         unfolding templateAt then templateTold templateFilled rowFilled startFilled

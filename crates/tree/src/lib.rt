@@ -1,5 +1,5 @@
-// Reading a tree file (document 01, 'Two files'; refusals 1 to 5) and a run's table of it, with what refusals 6 to 8 and the linear file's
-// length follow from.
+// Reading a tree file (document 01, 'Two files'; refusals 1 to 5) and a run's table of it, with what refusals 6, 7, 24 and 8 and the
+// linear file's length follow from; and the one judgement of a file that was read, 6, 7 and 24.
 use cells::BitPlace;
 use fields::Field;
 use files::Entries;
@@ -7,22 +7,23 @@ use files::Padding;
 use lists::Facts;
 use lists::Listed;
 ghost use mathlib.Core.Path.{_≡_};
-ghost use Prim.Native.Nat.{_+_, _*_, _≤_, _<_};
+ghost use Prim.Native.Nat.{_+_, _*_, _-_, _/_, _≤_, _<_};
 ghost use lib.ListN.{length, replicate};
 ghost use Rattle.files.specs.Tree.{templateAt, templatesAt, paddedEnd, treeRead};
-ghost use Rattle.files.specs.Accepted.{treeChecked};
+ghost use Rattle.files.specs.Accepted.{treeChecked, treeAccepted};
 ghost use Rattle.files.specs.EntriesRead.{paddingTold};
 ghost use Rattle.files.specs.RowFilled.{Unfilled};
-ghost use Rattle.tree.specs.Summary.{lower, reportBy, summaryAfter, templateTold, templatesTold, treeTold, checkedTold};
+ghost use Rattle.tree.specs.Summary.{lower, reportBy, summaryAfter, templateTold, templatesTold, treeTold, lowestMissing, judgedTold, checkedTold};
 ghost use Rattle.tree.specs.Filled.{templateFilled, templatesFilled, treeFilled};
 
-// What is to be known of a template: whether its list is closed, its instructions name fit indices, its offsets fit; and how many bytes
-// it takes in the linear file.
+// What is to be known of a template: whether its list is closed, its instructions name fit indices, its offsets fit; how many bytes it
+// takes in the linear file; and which templates its closures name (bit t, from the lowest, for template t).
 pub struct Report {
     pub closed: bool,
     pub named: bool,
     pub fits: bool,
     pub size: usize,
+    pub closes: u64,
 }
 
 // What reading a template finds: the place past it and its report, or a refusal's number and place.
@@ -32,13 +33,14 @@ pub enum TemplateRead {
 }
 
 // T; the lowest template whose list is not closed, whose instructions name unfit indices, that has an offset too large (64: none); the
-// bytes of the linear file.
+// bytes of the linear file; which templates closures name.
 pub struct Summary {
     pub count: u8,
     pub unclosed: u8,
     pub misnamed: u8,
     pub far: u8,
     pub size: usize,
+    pub closes: u64,
 }
 
 // What reading the templates finds: the place past them and their summary, or a refusal's number and place.
@@ -51,6 +53,12 @@ pub enum TemplatesRead {
 pub enum TreeFile {
     Read(Summary),
     Refused(u8, BitPlace),
+}
+
+// A file that was judged: the summary of one that is accepted, or a refusal's number and place.
+pub enum Judged {
+    Accepted(Summary),
+    Refused(u8, usize),
 }
 
 // What the tree machine says of a file before it runs it: a refusal has its number and place.
@@ -69,6 +77,7 @@ fn report_by(facts: Facts, bits: usize) -> Report
         named: facts.named,
         fits: facts.fits,
         size: 1 + (bits + 7) / 8 + (3 + facts.size),
+        closes: facts.closes,
     }
 }
 
@@ -95,6 +104,7 @@ fn summary_after(own: u8, report: Report, sum: Summary) -> Summary
         misnamed: lower(report.named, own, sum.misnamed),
         far: lower(report.fits, own, sum.far),
         size: sum.size + report.size,
+        closes: sum.closes | report.closes,
     }
 }
 
@@ -141,6 +151,7 @@ fn read_templates(s: &[u8], table: &mut [u64], count: usize, at: BitPlace) -> Te
         misnamed: 64,
         far: 64,
         size: 1,
+        closes: 0,
     };
     while own < count {
         match read_template(s, table, own, count, here) {
@@ -195,21 +206,67 @@ pub fn read_tree(s: &[u8], table: &mut [u64]) -> TreeFile
     }
 }
 
-// 1 to 7: what the tree machine says of a file.
-pub fn check_tree(s: &[u8]) -> Checked
-    ensures { λ r. ⌜ r ≡ checkedTold (treeChecked (now (s .entry))) ⌝ }
+// The lowest of the templates 1 to `count` - 1 that is not in a set (64: none). A set is of 64 templates at most.
+fn lowest_missing(set: u64, count: u8) -> u8
+    ensures { λ r. ⌜ r ≡ lowestMissing (set / 2) 1 (count - 1) ⌝ }
 {
-    let mut table = [0u64; 16384];
-    match read_tree(s, &mut table) {
+    let mut own: u8 = 1;
+    let mut rest = set / 2;
+    while own < count {
+        if rest % 2 != 1 {
+            return own;
+        }
+        rest = rest / 2;
+        own += 1;
+    }
+    64
+}
+
+// Reads and judges a file, 1 to 7, and fills a run's table.
+pub fn read_checked(s: &[u8], table: &mut [u64]) -> Judged
+    requires { ⌜ now table ≡ replicate 16384 0 ⌝ }
+    ensures { λ r. ⌜ r ≡ judgedTold (treeChecked (now (s .entry))) ⌝ }
+    ensures { λ _. ⌜ now (table .exit) ≡ treeFilled (now (s .entry)) ⌝ }
+{
+    match read_tree(s, table) {
         TreeFile::Read(sum) => {
             if sum.unclosed < 64 {
-                return Checked::Refused(6, sum.unclosed as usize);
+                return Judged::Refused(6, sum.unclosed as usize);
             }
             if sum.misnamed < 64 {
-                return Checked::Refused(7, sum.misnamed as usize);
+                return Judged::Refused(7, sum.misnamed as usize);
             }
-            Checked::Accepted
+            Judged::Accepted(sum)
         }
-        TreeFile::Refused(no, place) => Checked::Refused(no, place.number()),
+        TreeFile::Refused(no, place) => Judged::Refused(no, place.number()),
+    }
+}
+
+// The same with 24.
+pub fn read_accepted(s: &[u8], table: &mut [u64]) -> Judged
+    requires { ⌜ now table ≡ replicate 16384 0 ⌝ }
+    ensures { λ r. ⌜ r ≡ judgedTold (treeAccepted (now (s .entry))) ⌝ }
+    ensures { λ _. ⌜ now (table .exit) ≡ treeFilled (now (s .entry)) ⌝ }
+{
+    match read_checked(s, table) {
+        Judged::Accepted(sum) => {
+            let orphan = lowest_missing(sum.closes, sum.count);
+            if orphan < 64 {
+                return Judged::Refused(24, orphan as usize);
+            }
+            Judged::Accepted(sum)
+        }
+        Judged::Refused(no, place) => Judged::Refused(no, place),
+    }
+}
+
+// 1 to 7 and 24: what the tree machine says of a file.
+pub fn check_tree(s: &[u8]) -> Checked
+    ensures { λ r. ⌜ r ≡ checkedTold (treeAccepted (now (s .entry))) ⌝ }
+{
+    let mut table = [0u64; 16384];
+    match read_accepted(s, &mut table) {
+        Judged::Accepted(_) => Checked::Accepted,
+        Judged::Refused(no, place) => Checked::Refused(no, place),
     }
 }

@@ -14,7 +14,7 @@ use Rattle.files.specs.TableLaws.{Few, treeEntries, row-start, tree-slot, tree-
 use Rattle.files.specs.Tree.{Template}
 use Rattle.files.specs.Accepted.{treeChecked}
 use Rattle.readback.specs.Led.{lowest-at}
-use Rattle.readback.specs.ReadBack.{Checked, checked}
+use Rattle.files.specs.AcceptedLaws.{Checked, checked}
 use Rattle.links.specs.Links.{linkedAll}
 use Rattle.links.specs.Templates.{TemplateLaid, short, template-there, template-stands, template-links}
 use Rattle.machines.specs.Fetched.{Fetched, bad, first, look, treeAt, noTemplate}

@@ -3,12 +3,12 @@ use cells::BitPlace;
 use machines::CodePlace;
 use machines::Run;
 use machines::Start;
-use tree::TreeFile;
+use tree::Judged;
 ghost use mathlib.Core.Path.{_≡_};
 ghost use Prim.Native.Nat.{_*_, _≤_};
 ghost use lib.ListN.{length};
 ghost use Rattle.files.specs.Tree.{treeRead};
-ghost use Rattle.files.specs.Accepted.{treeChecked};
+ghost use Rattle.files.specs.Accepted.{treeAccepted};
 ghost use Rattle.links.specs.TreeSteps.{FileReady};
 ghost use Rattle.machines.specs.Runs.{memory, ran, onTree, treeRun};
 ghost use Rattle.machines.specs.Start.{zeros, MayStart};
@@ -25,8 +25,8 @@ fn run_linked(
     store: &mut [u64],
     frames: &mut [u64],
 ) -> Run
-    requires { ⌜ MayStart 1000000 budget (memory (now globals) (now stack) (now store) (now frames)) × FileReady (now file) (now table) count × (length (now table) ≡ 16384) × (treeChecked (now file) ≡ treeRead (now file)) × (8 * length (now file) ≤ 5 * length (now links)) ⌝ }
-    ensures { λ x. ⌜ ran x (memory (now (globals .exit)) (now (stack .exit)) (now (store .exit)) (now (frames .exit))) ≡ onTree budget (memory (now (globals .entry)) (now (stack .entry)) (now (store .entry)) (now (frames .entry))) (treeChecked (now (file .entry))) ⌝ }
+    requires { ⌜ MayStart 1000000 budget (memory (now globals) (now stack) (now store) (now frames)) × FileReady (now file) (now table) count × (length (now table) ≡ 16384) × (treeAccepted (now file) ≡ treeRead (now file)) × (8 * length (now file) ≤ 5 * length (now links)) ⌝ }
+    ensures { λ x. ⌜ ran x (memory (now (globals .exit)) (now (stack .exit)) (now (store .exit)) (now (frames .exit))) ≡ onTree budget (memory (now (globals .entry)) (now (stack .entry)) (now (store .entry)) (now (frames .entry))) (treeAccepted (now (file .entry))) ⌝ }
 {
     links::link_tree(file, table, count, links);
     let start = machines::slot_at(table, 0, 0) as usize;
@@ -56,8 +56,8 @@ fn run_read(
     store: &mut [u64],
     frames: &mut [u64],
 ) -> Run
-    requires { ⌜ MayStart 1000000 budget (memory (now globals) (now stack) (now store) (now frames)) × FileReady (now file) (now table) count × (length (now table) ≡ 16384) × (treeChecked (now file) ≡ treeRead (now file)) ⌝ }
-    ensures { λ x. ⌜ ran x (memory (now (globals .exit)) (now (stack .exit)) (now (store .exit)) (now (frames .exit))) ≡ onTree budget (memory (now (globals .entry)) (now (stack .entry)) (now (store .entry)) (now (frames .entry))) (treeChecked (now (file .entry))) ⌝ }
+    requires { ⌜ MayStart 1000000 budget (memory (now globals) (now stack) (now store) (now frames)) × FileReady (now file) (now table) count × (length (now table) ≡ 16384) × (treeAccepted (now file) ≡ treeRead (now file)) ⌝ }
+    ensures { λ x. ⌜ ran x (memory (now (globals .exit)) (now (stack .exit)) (now (store .exit)) (now (frames .exit))) ≡ onTree budget (memory (now (globals .entry)) (now (stack .entry)) (now (store .entry)) (now (frames .entry))) (treeAccepted (now (file .entry))) ⌝ }
 {
     if file.len() <= 4096 {
         let mut links = [0u32; 6554];
@@ -99,28 +99,20 @@ fn run_file(
     frames: &mut [u64],
 ) -> Run
     requires { ⌜ MayStart 1000000 budget (memory (now globals) (now stack) (now store) (now frames)) × (now table ≡ zeros 16384) ⌝ }
-    ensures { λ x. ⌜ ran x (memory (now (globals .exit)) (now (stack .exit)) (now (store .exit)) (now (frames .exit))) ≡ onTree budget (memory (now (globals .entry)) (now (stack .entry)) (now (store .entry)) (now (frames .entry))) (treeChecked (now (file .entry))) ⌝ }
+    ensures { λ x. ⌜ ran x (memory (now (globals .exit)) (now (stack .exit)) (now (store .exit)) (now (frames .exit))) ≡ onTree budget (memory (now (globals .entry)) (now (stack .entry)) (now (store .entry)) (now (frames .entry))) (treeAccepted (now (file .entry))) ⌝ }
 {
-    match tree::read_tree(file, table) {
-        TreeFile::Read(sum) => {
-            if sum.unclosed < 64 {
-                return machines::refused(6, sum.unclosed as usize);
-            }
-            if sum.misnamed < 64 {
-                return machines::refused(7, sum.misnamed as usize);
-            }
-            run_read(
-                file,
-                table,
-                sum.count as usize,
-                budget,
-                globals,
-                stack,
-                store,
-                frames,
-            )
-        }
-        TreeFile::Refused(number, place) => machines::refused(number, place.0),
+    match tree::read_accepted(file, table) {
+        Judged::Accepted(sum) => run_read(
+            file,
+            table,
+            sum.count as usize,
+            budget,
+            globals,
+            stack,
+            store,
+            frames,
+        ),
+        Judged::Refused(number, place) => machines::refused(number, place),
     }
 }
 

@@ -37,7 +37,7 @@ shl-result : tie.Need-shl-result
 shl-result c = search needs
 
 rem-result : tie.Need-rem-result
-rem-result c = let w = c .before .before .before .before .args .width in rw (shl-one w (omega arith)) (pow-pos w)
+rem-result c = let w = c .before .before .before .before .args .width in rw (shl-one 32 w (omega arith)) (pow-pos w)
 
 returns : tie.Need-returns
 returns c =

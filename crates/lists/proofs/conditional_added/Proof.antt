@@ -23,9 +23,21 @@ both-requires-2 c κs = search needs
 both-requires-3 : tie.Need-both-requires-3
 both-requires-3 c κs = search needs
 
+unite-requires : tie.Need-unite-requires
+unite-requires c κs = search needs
+
 returns : tie.Need-returns
 unfolding conditionalAdded
-returns c = rw (c .both3 .ensures, c .before .both2 .ensures, c .before .before .arms-fit .ensures, c .before .before .before .both .ensures, c .before .before .before .before .conditional-size .ensures, c .before .before .before .before .before .conditional-kind .ensures) refl
+returns c =
+    rw (
+      c .unite .ensures,
+      c .before .both3 .ensures,
+      c .before .before .both2 .ensures,
+      c .before .before .before .arms-fit .ensures,
+      c .before .before .before .before .both .ensures,
+      c .before .before .before .before .before .conditional-size .ensures,
+      c .before .before .before .before .before .before .conditional-kind .ensures,
+    ) refl
 
 pub conditional-added-spec : {M : Type 1} → statement M
 conditional-added-spec =
@@ -37,4 +49,5 @@ conditional-added-spec =
     arms-fit-requires
     both-requires-2
     both-requires-3
+    unite-requires
     returns)

@@ -26,9 +26,21 @@ both-requires c κs = search needs
 both-requires-2 : tie.Need-both-requires-2
 both-requires-2 c κs = search needs
 
+unite-requires : tie.Need-unite-requires
+unite-requires c κs = search needs
+
 returns : tie.Need-returns
 unfolding stateAfter
-returns c = rw (c .both2 .ensures, c .before .both .ensures, c .before .before .tail-after .ensures, c .before .before .before .either .ensures, c .before .before .before .before .is-save .ensures, c .before .before .before .before .before .before .before .classes-after .ensures) refl
+returns c =
+    rw (
+      c .unite .ensures,
+      c .before .both2 .ensures,
+      c .before .before .both .ensures,
+      c .before .before .before .tail-after .ensures,
+      c .before .before .before .before .either .ensures,
+      c .before .before .before .before .before .is-save .ensures,
+      c .before .before .before .before .before .before .before .before .classes-after .ensures,
+    ) refl
 
 pub state-after-spec : {M : Type 1} → statement M
 state-after-spec =
@@ -41,4 +53,5 @@ state-after-spec =
     tail-after-requires
     both-requires
     both-requires-2
+    unite-requires
     returns)

@@ -1,5 +1,6 @@
 -- `tree::summary_after` meets its contract. Assumes nothing.
 use mathlib.Core.Path.{refl}
+use Rattle.lists.specs.Sets.{unite}
 use Rattle.tree.specs.Summary.{summaryAfter}
 use borrow.Author.Needs.{needs}
 use Rattle.tree.proofs.summary_after.Statement.{statement}
@@ -18,8 +19,13 @@ add-t7 : tie.Need-add-t7
 add-t7 c = search needs
 
 returns : tie.Need-returns
-unfolding summaryAfter
-returns c = rw (c .before .before .before .before .lower .ensures, c .before .before .before .lower2 .ensures, c .before .before .lower3 .ensures) refl
+unfolding summaryAfter unite
+returns c =
+    rw (
+      c .before .before .before .before .before .before .lower .ensures,
+      c .before .before .before .before .before .lower2 .ensures,
+      c .before .before .before .before .lower3 .ensures,
+    ) refl
 
 pub summary-after-spec : {M : Type 1} → statement M
 summary-after-spec =
