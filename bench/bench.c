@@ -316,7 +316,7 @@ static double time_run(Run *run, const uint8_t *file, size_t len, uint64_t budge
     for (unsigned g = 0; g < EXPORTER_GLOBALS; g++)
         globals[g] = UINT64_C(5) << 60;
     double from = seconds();
-    run(file, len, budget, globals, EXPORTER_GLOBALS, stack, EXPORTER_STACK, store, EXPORTER_STORE, frames, EXPORTER_FRAMES,
+    run(file, len, budget, EXPORTER_HOUSE, globals, EXPORTER_GLOBALS, stack, EXPORTER_STACK, store, EXPORTER_STORE, frames, EXPORTER_FRAMES,
         result, EXPORTER_RUN_SLOTS);
     return seconds() - from;
 }

@@ -18,6 +18,9 @@ enum {
     EXPORTER_TREE_BUDGET = 1000000, EXPORTER_LINEAR_BUDGET = 2000000 /* largest budgets, in steps */
 };
 
+/* Whose run it is. The house reads and sets globals 0 to 63 alone; a vendor reads all and sets 64 to 255 alone. */
+enum { EXPORTER_HOUSE, EXPORTER_VENDOR, EXPORTER_HOUSE_GLOBALS = 64 };
+
 /* The slots of a result. */
 enum { EXPORTER_REFUSAL, EXPORTER_LENGTH_OR_PLACE, EXPORTER_FLATTEN_SLOTS };
 enum {
@@ -61,25 +64,26 @@ void exporter_flatten(const uint8_t *file, size_t file_len,
                       uint64_t *result, size_t result_len);
 
 /* Runs a tree file.
+   owner: EXPORTER_HOUSE or EXPORTER_VENDOR.
    globals: read at the start (tags 1 to 6 only, all bits below their fields zero) and left as the run leaves them. stack, store, frames: what they held does
    not matter; after an accepted start the cells not in use are zero.
    result[0]: how it ended: 0 halted, 1 wrong, 2 out of budget, 3 refused.
-   result[1]: halted 0; wrong the number, 10 to 18 or 23; out of budget 19; refused the number, 1 to 7, 24 or 20 to 22.
+   result[1]: halted 0; wrong the number, 10 to 18, 23 or 25; out of budget 19; refused the number, 1 to 7, 20 to 22, 24 or 31.
    result[2]: refused: the place; else 0.
    result[3]: halted: the answer's cell; else 0.
    result[4]: steps; refused 0.
    result[5], result[6], result[7]: stack, store and frame cells used; refused 0.
    Refused: the four memories are as they were.
    result_len is 8 or more; slots after the first 8 stay. Where it is less, nothing at all is done. */
-void exporter_run_tree(const uint8_t *file, size_t file_len, uint64_t budget,
+void exporter_run_tree(const uint8_t *file, size_t file_len, uint64_t budget, uint64_t owner,
                        uint64_t *globals, size_t globals_len,
                        uint64_t *stack, size_t stack_len,
                        uint64_t *store, size_t store_len,
                        uint64_t *frames, size_t frames_len,
                        uint64_t *result, size_t result_len);
 
-/* Runs a linear file, in the same way; refused is 1, 2, 3, 5 or 20 to 22. */
-void exporter_run_linear(const uint8_t *file, size_t file_len, uint64_t budget,
+/* Runs a linear file, in the same way; refused is 1, 2, 3, 5, 20 to 22 or 31. */
+void exporter_run_linear(const uint8_t *file, size_t file_len, uint64_t budget, uint64_t owner,
                          uint64_t *globals, size_t globals_len,
                          uint64_t *stack, size_t stack_len,
                          uint64_t *store, size_t store_len,

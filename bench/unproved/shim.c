@@ -7,26 +7,26 @@ typedef struct {
 } Slice;
 
 void unproved_flatten(Slice *file, Slice *out, Slice *result);
-void unproved_run_tree(Slice *file, uint64_t budget, Slice *globals, Slice *stack, Slice *store, Slice *frames, Slice *result);
-void unproved_run_linear(Slice *file, uint64_t budget, Slice *globals, Slice *stack, Slice *store, Slice *frames, Slice *result);
+void unproved_run_tree(Slice *file, uint64_t budget, uint64_t owner, Slice *globals, Slice *stack, Slice *store, Slice *frames, Slice *result);
+void unproved_run_linear(Slice *file, uint64_t budget, uint64_t owner, Slice *globals, Slice *stack, Slice *store, Slice *frames, Slice *result);
 
 void exporter_flatten(const uint8_t *file, size_t file_len, uint8_t *out, size_t out_len, uint64_t *result, size_t result_len)
 {
     unproved_flatten(&(Slice){ file, file_len }, &(Slice){ out, out_len }, &(Slice){ result, result_len });
 }
 
-void exporter_run_tree(const uint8_t *file, size_t file_len, uint64_t budget, uint64_t *globals, size_t globals_len,
+void exporter_run_tree(const uint8_t *file, size_t file_len, uint64_t budget, uint64_t owner, uint64_t *globals, size_t globals_len,
                        uint64_t *stack, size_t stack_len, uint64_t *store, size_t store_len,
                        uint64_t *frames, size_t frames_len, uint64_t *result, size_t result_len)
 {
-    unproved_run_tree(&(Slice){ file, file_len }, budget, &(Slice){ globals, globals_len }, &(Slice){ stack, stack_len },
+    unproved_run_tree(&(Slice){ file, file_len }, budget, owner, &(Slice){ globals, globals_len }, &(Slice){ stack, stack_len },
                       &(Slice){ store, store_len }, &(Slice){ frames, frames_len }, &(Slice){ result, result_len });
 }
 
-void exporter_run_linear(const uint8_t *file, size_t file_len, uint64_t budget, uint64_t *globals, size_t globals_len,
+void exporter_run_linear(const uint8_t *file, size_t file_len, uint64_t budget, uint64_t owner, uint64_t *globals, size_t globals_len,
                          uint64_t *stack, size_t stack_len, uint64_t *store, size_t store_len,
                          uint64_t *frames, size_t frames_len, uint64_t *result, size_t result_len)
 {
-    unproved_run_linear(&(Slice){ file, file_len }, budget, &(Slice){ globals, globals_len }, &(Slice){ stack, stack_len },
+    unproved_run_linear(&(Slice){ file, file_len }, budget, owner, &(Slice){ globals, globals_len }, &(Slice){ stack, stack_len },
                         &(Slice){ store, store_len }, &(Slice){ frames, frames_len }, &(Slice){ result, result_len });
 }

@@ -15,6 +15,7 @@
 enum { GLOBALS = 256, STACK = 256, STORE = 2048, FRAMES = 2048, MARGIN = 8, RESULT = 8 };
 enum { TREE_BUDGET = 1000000, LINEAR_BUDGET = 2000000 };
 enum { HALTED, WRONG, OUT_OF_BUDGET, REFUSED };
+enum { HOUSE = EXPORTER_HOUSE, VENDOR = EXPORTER_VENDOR, HOUSE_GLOBALS = EXPORTER_HOUSE_GLOBALS };
 
 /* All that is lent to a run, and room for lengths that are too long. */
 typedef struct {
@@ -30,6 +31,7 @@ static const Lengths right_lengths = { GLOBALS, STACK, STORE, FRAMES, RESULT };
 
 static uint64_t seed, differences;
 static uint64_t flatten_tally[32], tree_tally[4][32], linear_tally[4][32];
+static uint64_t ends_of[2], barred[2]; /* by owner: ends that are no refusals, and those that are 25 */
 
 /* What was lent: how often, by kind of length. */
 static uint64_t empty_files, empty_outputs, longer_outputs, empty_memories, shorter_memories, longer_memories, empty_results, short_results, longer_results;
@@ -201,9 +203,14 @@ static void fill(Random *random, Memory *memory, const uint64_t *globals)
     memcpy(memory->globals, globals, GLOBALS * sizeof globals[0]);
 }
 
-static void run(Run *machine, const File *file, uint64_t budget, Memory *m, const Lengths *lengths)
+/* What a run is given besides its file and its memory. */
+typedef struct {
+    uint64_t budget, owner;
+} Given;
+
+static void run(Run *machine, const File *file, Given given, Memory *m, const Lengths *lengths)
 {
-    machine(file->bytes, file->len, budget, m->globals, lengths->globals, m->stack, lengths->stack, m->store, lengths->store,
+    machine(file->bytes, file->len, given.budget, given.owner, m->globals, lengths->globals, m->stack, lengths->stack, m->store, lengths->store,
             m->frames, lengths->frames, m->result, lengths->result);
 }
 
@@ -213,10 +220,11 @@ static uint64_t *lend_cells(Guarded *buffer, const uint64_t *cells, size_t count
 }
 
 /* Answers false where something beside the lent slices was written. */
-static bool run_library(Run *machine, const File *file, uint64_t budget, Memory *m, const Lengths *lengths)
+static bool run_library(Run *machine, const File *file, Given given, Memory *m, const Lengths *lengths)
 {
     bool at_end = next_end(), inside;
-    machine(lend_file(file, at_end), file->len, budget, lend_cells(&lent.globals, m->globals, lengths->globals, at_end), lengths->globals,
+    machine(lend_file(file, at_end), file->len, given.budget, given.owner,
+            lend_cells(&lent.globals, m->globals, lengths->globals, at_end), lengths->globals,
             lend_cells(&lent.stack, m->stack, lengths->stack, at_end), lengths->stack,
             lend_cells(&lent.store, m->store, lengths->store, at_end), lengths->store,
             lend_cells(&lent.frames, m->frames, lengths->frames, at_end), lengths->frames,
@@ -243,22 +251,27 @@ static void count_lengths(const Lengths *lengths)
 }
 
 /* Leaves what the library made of it in memory. */
-static void run_both(const char *what, const File *file, uint64_t budget, Memory *memory, const Lengths *lengths, bool tree)
+static void run_both(const char *what, const File *file, Given given, Memory *memory, const Lengths *lengths, bool tree)
 {
     static Memory plain;
     plain = *memory;
     calling = what;
     count_lengths(lengths);
-    bool inside = run_library(tree ? exporter_run_tree : exporter_run_linear, file, budget, memory, lengths);
-    run(tree ? plain_run_tree : plain_run_linear, file, budget, &plain, lengths);
+    bool inside = run_library(tree ? exporter_run_tree : exporter_run_linear, file, given, memory, lengths);
+    run(tree ? plain_run_tree : plain_run_linear, file, given, &plain, lengths);
     if ((!inside || memcmp(memory, &plain, sizeof plain) != 0) && differs(what)) {
-        printf("  budget %" PRIu64 ", lengths %zu %zu %zu %zu %zu%s\n", budget, lengths->globals, lengths->stack, lengths->store,
+        printf("  budget %" PRIu64 ", owner %" PRIu64 ", lengths %zu %zu %zu %zu %zu%s\n", given.budget, given.owner, lengths->globals, lengths->stack, lengths->store,
                lengths->frames, lengths->result, inside ? "" : ", written beside what was lent");
         tell_memories(memory, &plain);
         dump(tree ? "sheet" : "linear file", file->bytes, file->len);
     }
-    if (lengths->result >= RESULT)
-        (tree ? tree_tally : linear_tally)[plain.result[0]][plain.result[1]]++;
+    if (lengths->result < RESULT)
+        return;
+    (tree ? tree_tally : linear_tally)[plain.result[0]][plain.result[1]]++;
+    if (plain.result[0] != REFUSED) {
+        ends_of[given.owner]++;
+        barred[given.owner] += plain.result[1] == 25;
+    }
 }
 
 static void spoil_length(Random *random, size_t *length)
@@ -272,21 +285,23 @@ static void compare_bad_start(Random *random, const File *file, const uint64_t *
 {
     static Memory memory;
     Lengths lengths = right_lengths;
-    uint64_t budget = generate_budget(random, 1000);
-    unsigned reasons = 1 + below(random, 15);
+    Given given = { generate_budget(random, 1000), below(random, 2) };
+    unsigned reasons = chance(random, 50) ? 1u << below(random, 5) : 1 + below(random, 31);
     fill(random, &memory, globals);
     if (reasons & 1) {
         size_t *which[] = { &lengths.globals, &lengths.stack, &lengths.store, &lengths.frames };
         spoil_length(random, which[below(random, 4)]);
     }
     if (reasons & 2)
-        budget = chance(random, 50) ? (tree ? TREE_BUDGET : LINEAR_BUDGET) + UINT64_C(1) : draw(random) | UINT64_C(1) << 63;
+        given.budget = chance(random, 50) ? (tree ? TREE_BUDGET : LINEAR_BUDGET) + UINT64_C(1) : draw(random) | UINT64_C(1) << 63;
     if (reasons & 4)
         for (unsigned n = 1 + below(random, 3); n > 0; n--)
             memory.globals[chance(random, 20) ? GLOBALS - 1 : below(random, GLOBALS)] = bad_global(random);
     if (reasons & 8)
         lengths.result = below(random, RESULT);
-    run_both(tree ? "tree, bad start" : "linear, bad start", file, budget, &memory, &lengths, tree);
+    if (reasons & 16)
+        given.owner = bad_owner(random);
+    run_both(tree ? "tree, bad start" : "linear, bad start", file, given, &memory, &lengths, tree);
 }
 
 /* Demand 3 */
@@ -338,17 +353,63 @@ static void tell_demand(const char *what, const Memory *tree, const Memory *line
     dump("sheet", sheet->bytes, sheet->len);
 }
 
-static void compare_machines(Random *random, const File *sheet, const File *flat, const uint64_t *globals, uint64_t budget)
+/* Owners (request 12) */
+
+static void tell_owners(const char *what, const Memory *a, const Memory *b, const File *file, Given given)
 {
+    if (!differs(what))
+        return;
+    printf("  budget %" PRIu64 ", owner %" PRIu64 " (below, library stands for what it was compared with)\n", given.budget, given.owner);
+    tell_memories(a, b);
+    dump("file", file->bytes, file->len);
+}
+
+/* After an accepted run what is not the owner's to set is as it was. */
+static void check_kept(const Memory *start, const Memory *end, const File *file, Given given)
+{
+    unsigned from = given.owner == VENDOR ? 0 : HOUSE_GLOBALS, to = given.owner == VENDOR ? HOUSE_GLOBALS : GLOBALS;
+    if (memcmp(start->globals + from, end->globals + from, (to - from) * sizeof start->globals[0]) != 0)
+        tell_owners("request 12: a global was set that is another's", start, end, file, given);
+}
+
+/* The house's run again, with other globals from 64 on: it ends the same. */
+static void check_house_alike(Random *random, const Memory *start, const Memory *end, const File *file, Given given, bool tree)
+{
+    static Memory again;
+    uint64_t other[GLOBALS];
+    again = *start;
+    generate_globals(random, other);
+    memcpy(again.globals + HOUSE_GLOBALS, other + HOUSE_GLOBALS, (GLOBALS - HOUSE_GLOBALS) * sizeof other[0]);
+    run_both(tree ? "tree" : "linear", file, given, &again, &right_lengths, tree);
+    bool rest_kept = memcmp(again.globals + HOUSE_GLOBALS, other + HOUSE_GLOBALS, (GLOBALS - HOUSE_GLOBALS) * sizeof other[0]) == 0;
+    memcpy(again.globals + HOUSE_GLOBALS, end->globals + HOUSE_GLOBALS, (GLOBALS - HOUSE_GLOBALS) * sizeof other[0]);
+    if (!rest_kept || memcmp(&again, end, sizeof again) != 0)
+        tell_owners("request 12: the house's run saw what is a vendor's", &again, end, file, given);
+}
+
+static void check_owner(Random *random, const Memory *start, const Memory *end, const File *file, Given given, bool tree)
+{
+    if (end->result[0] == REFUSED)
+        return;
+    check_kept(start, end, file, given);
+    if (given.owner == HOUSE && chance(random, 20))
+        check_house_alike(random, start, end, file, given, tree);
+}
+
+static void compare_machines(Random *random, const File *sheet, const File *flat, const uint64_t *globals, Given given)
+{
+    uint64_t budget = given.budget, owner = given.owner;
     static Memory start, tree, linear;
     fill(random, &start, globals);
     tree = linear = start;
-    run_both("tree", sheet, budget, &tree, &right_lengths, true);
+    run_both("tree", sheet, given, &tree, &right_lengths, true);
     uint64_t firsts = plain_firsts;
+    check_owner(random, &start, &tree, sheet, given, true);
     if (flat->len == 0)
         return;
-    run_both("linear", flat, 2 * budget, &linear, &right_lengths, false);
+    run_both("linear", flat, (Given){ 2 * budget, owner }, &linear, &right_lengths, false);
     uint64_t jumps = plain_jumps;
+    check_owner(random, &start, &linear, flat, (Given){ 2 * budget, owner }, false);
     if (tree.result[0] == REFUSED || linear.result[0] == REFUSED)
         tell_demand("demand 3: a flattened sheet is refused", &tree, &linear, 0, 0, sheet, budget);
     else if (ended(&tree) && !(ended(&linear) && ends_agree(&tree, &linear, firsts, jumps)))
@@ -361,7 +422,7 @@ static void compare_machines(Random *random, const File *sheet, const File *flat
     /* The other way round: what the linear machine ended, the tree machine ends with the same budget. */
     uint64_t larger = 2 * budget < TREE_BUDGET ? 2 * budget : TREE_BUDGET;
     tree = start;
-    run_both("tree", sheet, larger, &tree, &right_lengths, true);
+    run_both("tree", sheet, (Given){ larger, owner }, &tree, &right_lengths, true);
     firsts = plain_firsts;
     if (within(&linear, jumps, larger) && !(ended(&tree) && ends_agree(&tree, &linear, firsts, jumps)))
         tell_demand("demand 3: the linear machine ended", &tree, &linear, firsts, jumps, sheet, larger);
@@ -377,12 +438,16 @@ static Lengths good_lengths(Random *random)
     return lengths;
 }
 
-static void compare_linear(Random *random, const File *file, const uint64_t *globals)
+static void compare_linear(Random *random, const File *file, const uint64_t *globals, uint64_t owner)
 {
-    static Memory memory;
+    static Memory start, memory;
     Lengths lengths = good_lengths(random);
-    fill(random, &memory, globals);
-    run_both("linear", file, generate_budget(random, LINEAR_BUDGET), &memory, &lengths, false);
+    Given given = { generate_budget(random, LINEAR_BUDGET), owner };
+    fill(random, &start, globals);
+    memory = start;
+    run_both("linear", file, given, &memory, &lengths, false);
+    if (lengths.result == RESULT)
+        check_owner(random, &start, &memory, file, given, false);
     if (chance(random, 10))
         compare_bad_start(random, file, globals, false);
 }
@@ -390,26 +455,26 @@ static void compare_linear(Random *random, const File *file, const uint64_t *glo
 static void compare_sheet(Random *random)
 {
     static File sheet, flat;
-    uint64_t globals[GLOBALS];
+    uint64_t globals[GLOBALS], owner = generate_owner(random);
     generate_tree(random, &sheet);
     generate_globals(random, globals);
     compare_flattening(random, &sheet, &flat);
-    compare_machines(random, &sheet, &flat, globals, generate_budget(random, TREE_BUDGET));
+    compare_machines(random, &sheet, &flat, globals, (Given){ generate_budget(random, TREE_BUDGET), owner });
     if (chance(random, 20))
         compare_bad_start(random, &sheet, globals, true);
     if (flat.len > 0 && chance(random, 60)) {
         damage(random, &flat);
-        compare_linear(random, &flat, globals);
+        compare_linear(random, &flat, globals, owner);
     }
 }
 
 static void compare_own_linear(Random *random)
 {
     static File linear;
-    uint64_t globals[GLOBALS], result[4];
+    uint64_t globals[GLOBALS], result[4], owner = generate_owner(random);
     generate_linear(random, &linear);
     generate_globals(random, globals);
-    compare_linear(random, &linear, globals);
+    compare_linear(random, &linear, globals, owner);
     if (chance(random, 5))
         flatten_both(random, &linear, ample(&linear), 2, result);
 }
@@ -435,6 +500,8 @@ static void print_tallies(void)
     printf("\n");
     print_tally("tree", tree_tally);
     print_tally("linear", linear_tally);
+    printf("house: ended x%" PRIu64 ", 25 x%" PRIu64 "; vendor: ended x%" PRIu64 ", 25 x%" PRIu64 "\n", ends_of[HOUSE], barred[HOUSE], ends_of[VENDOR],
+           barred[VENDOR]);
     printf("lent: empty files x%" PRIu64 ", outputs empty x%" PRIu64 " longer x%" PRIu64 ", memories empty x%" PRIu64 " shorter x%" PRIu64
            " longer x%" PRIu64 ", results empty x%" PRIu64 " short x%" PRIu64 " longer x%" PRIu64 "\n", empty_files, empty_outputs, longer_outputs,
            empty_memories, shorter_memories, longer_memories, empty_results, short_results, longer_results);
@@ -443,12 +510,12 @@ static void print_tallies(void)
 /* The numbers that a machine can give, by end. */
 static bool all_ends_came_up(uint64_t tally[4][32], bool tree)
 {
-    static const uint8_t refusals[] = { 1, 2, 3, 5, 20, 21, 22, 4, 6, 7, 24 }; /* the last four by the tree machine alone */
+    static const uint8_t refusals[] = { 1, 2, 3, 5, 20, 21, 22, 31, 4, 6, 7, 24 }; /* the last four by the tree machine alone */
     bool all = tally[HALTED][0] > 0 && tally[OUT_OF_BUDGET][19] > 0;
     for (unsigned n = 10; n <= 18; n++)
         all = all && (tally[WRONG][n] > 0 || (tree && n == 16));
-    all = all && tally[WRONG][23] > 0;
-    for (unsigned i = 0; i < (tree ? 11 : 7); i++)
+    all = all && tally[WRONG][23] > 0 && tally[WRONG][25] > 0;
+    for (unsigned i = 0; i < (tree ? 12 : 8); i++)
         all = all && tally[REFUSED][refusals[i]] > 0;
     return all;
 }
@@ -456,7 +523,7 @@ static bool all_ends_came_up(uint64_t tally[4][32], bool tree)
 static bool all_came_up(void)
 {
     bool all = empty_files && empty_outputs && longer_outputs && empty_memories && shorter_memories && longer_memories && empty_results
-        && short_results && longer_results;
+        && short_results && longer_results && barred[HOUSE] && barred[VENDOR] && ends_of[VENDOR] > 4 * barred[VENDOR];
     for (unsigned n = 0; n < 10; n++)
         all = all && flatten_tally[n] > 0;
     all = all && flatten_tally[24] > 0;

@@ -22,6 +22,33 @@ bool chance(Random *random, unsigned percent)
     return below(random, 100) < percent;
 }
 
+/* Owners and their globals: each has its own 64 first ones, and now and then a file names any. */
+
+enum { HOUSE, VENDOR };
+
+uint64_t generate_owner(Random *random)
+{
+    bool vendor = chance(random, 40);
+    random->first_global = vendor ? 64 : 0;
+    return (chance(random, 95) ? vendor : !vendor) ? VENDOR : HOUSE;
+}
+
+uint64_t bad_owner(Random *random)
+{
+    return chance(random, 50) ? 2 + below(random, 300) : 2 + draw(random) % (UINT64_MAX - 1);
+}
+
+static unsigned own_global(const Random *random, unsigned n)
+{
+    return random->first_global + n;
+}
+
+/* One of the first few of its owner, or one at the border, or any. */
+static unsigned some_global(Random *random, unsigned few)
+{
+    return chance(random, 90) ? own_global(random, below(random, few)) : chance(random, 30) ? 62 + below(random, 4) : below(random, 256);
+}
+
 static const int64_t greatest = INT64_C(0x7fffffffffff), least = -INT64_C(0x800000000000);
 
 /* Near the ends of both widths, of either width, or small. */
@@ -105,7 +132,7 @@ static void write_entry(Writer *w, unsigned n, unsigned kind, unsigned t)
             put_constant(&w->sheet, below(w->random, 4));
         return;
     }
-    w->number[n] = (uint8_t)(kind == GLOBAL_ENTRY ? below(w->random, chance(w->random, 90) ? 6 : 256)
+    w->number[n] = (uint8_t)(kind == GLOBAL_ENTRY ? some_global(w->random, 6)
                                                   : t + 1 + below(w->random, w->templates - t - 1));
     put_number(&w->sheet, kind, w->number[n]);
 }
@@ -542,9 +569,9 @@ static void write_loop(Random *random, Sheet *s)
     sheet_begin(s, 3);
     put_field(s, 8, 5);
     put_integer(s, (int32_t)(1 + below(random, rounds[below(random, 4)])));
-    put_number(s, GLOBAL_ENTRY, 7);
+    put_number(s, GLOBAL_ENTRY, own_global(random, 7));
     put_number(s, TEMPLATE_ENTRY, 1);
-    put_number(s, GLOBAL_ENTRY, 255);
+    put_number(s, GLOBAL_ENTRY, own_global(random, 63));
     put_number(s, TEMPLATE_ENTRY, 2);
     put1(s, CLOSURE, 5); /* template 1 may name template 2 or not */
     put1(s, LITERAL, 1);
@@ -557,10 +584,10 @@ static void write_loop(Random *random, Sheet *s)
     put0(s, END);
 
     put_field(s, 8, 5);
-    put_number(s, GLOBAL_ENTRY, 7);
+    put_number(s, GLOBAL_ENTRY, own_global(random, 7));
     put_integer(s, -1);
     put_integer(s, 0);
-    put_number(s, GLOBAL_ENTRY, 255);
+    put_number(s, GLOBAL_ENTRY, own_global(random, 63));
     put_number(s, TEMPLATE_ENTRY, 2);
     put1(s, CHECKARGS, 0);
     put1(s, GLOBAL, 1);
@@ -727,7 +754,7 @@ static void write_retime(Random *random, Sheet *s)
     for (unsigned i = 0; i < 7; i++)
         put_either(random, s, i == 0 ? 0 : i < 3 ? (int64_t)below(random, 7) - 3 : some_integer(random));
     put_constant(s, below(random, 4));
-    put_number(s, GLOBAL_ENTRY, below(random, 8));
+    put_number(s, GLOBAL_ENTRY, some_global(random, 8));
     for (unsigned round = 0; round < rounds; round++) {
         for (unsigned n = chance(random, 95) ? 2 : below(random, 4); n > 0; n--) {
             if (round == 0 || n > 1 || chance(random, 60))
@@ -741,7 +768,7 @@ static void write_retime(Random *random, Sheet *s)
     put_end(s);
 }
 
-/* Pairs and procedures, taken apart and compared. Globals 0 to 3 hold pairs, 8 and above what came of it. */
+/* Pairs and procedures, taken apart and compared. Its owner's globals 0 to 3 hold pairs, 8 and above what came of it. */
 static void write_values(Random *random, Sheet *s)
 {
     static const uint8_t primitives[] = { CONS, CONS, CAR, CDR, CAR, CDR, EQV, EQV, ADD };
@@ -749,14 +776,14 @@ static void write_values(Random *random, Sheet *s)
     sheet_begin(s, 2);
     put_field(s, 8, 12);
     for (unsigned g = 0; g < 4; g++)
-        put_number(s, GLOBAL_ENTRY, g);
+        put_number(s, GLOBAL_ENTRY, own_global(random, g));
     int64_t value = some_integer(random); /* and again, so that %%eqv meets equal numbers with either tag */
     put_either(random, s, value);
     put_either(random, s, chance(random, 50) ? value : 1);
     put_constant(s, below(random, 4));
     put_number(s, TEMPLATE_ENTRY, 1);
     for (unsigned g = 8; g < 12; g++)
-        put_number(s, GLOBAL_ENTRY, g);
+        put_number(s, GLOBAL_ENTRY, own_global(random, g));
     put1(s, CLOSURE, 8);
     for (unsigned round = 0; round < rounds; round++) {
         unsigned code = round < 4 ? CONS : primitives[below(random, sizeof primitives)];
@@ -1043,7 +1070,7 @@ static void add_linear_entries(Random *random, File *file, unsigned t, unsigned 
         if (n % 3 == 0 && t + 1 < count_of_templates)
             put_number(&packed, TEMPLATE_ENTRY, t + 1 + below(random, count_of_templates - t - 1));
         else if (n % 3 == 2)
-            put_number(&packed, GLOBAL_ENTRY, below(random, 4));
+            put_number(&packed, GLOBAL_ENTRY, some_global(random, 4));
         else if (chance(random, 70))
             put_either(random, &packed, some_integer(random));
         else

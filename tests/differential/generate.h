@@ -12,6 +12,7 @@ enum { FILE_ROOM = 262144 + 4096 };
 
 typedef struct {
     uint64_t state;
+    unsigned first_global; /* of the owner that files are made for: 0, or 64 for a vendor */
 } Random;
 
 typedef struct {
@@ -27,6 +28,8 @@ void generate_tree(Random *random, File *file);   /* most are valid, some are da
 void generate_linear(Random *random, File *file); /* code that no sheet flattens to */
 void damage(Random *random, File *file);
 
+uint64_t generate_owner(Random *random); /* whose the files from here on are made for; now and then the other runs them */
+uint64_t bad_owner(Random *random);
 void generate_globals(Random *random, uint64_t *globals); /* 256, each fit for a start */
 uint64_t bad_global(Random *random);
 uint64_t generate_budget(Random *random, uint64_t largest);

@@ -1,6 +1,6 @@
 /* Answers questions about the library, one to a line of standard input, for tests/handbook/figures. HEX is a file's bytes in hex, or - for none.
      flatten OUT HEX                 number, length or place, and the linear file in hex where it was accepted
-     tree|linear BUDGET STORE FILL G CELL HEX
+     tree|linear BUDGET OWNER STORE FILL G CELL HEX
                                      a run with STORE store cells and all globals FILL, but for global G, which is CELL: the result's 8 slots, then
                                      the cells used of stack, store and frames, and the globals that were changed, as G=CELL. Cells are in hex */
 #include "../../include/exporter.h"
@@ -44,12 +44,12 @@ static void print_cells(const uint64_t *cells, uint64_t count)
         printf(" -");
 }
 
-static void answer_run(int tree, uint64_t budget, size_t cells, uint64_t fill, unsigned special, uint64_t cell, const char *hex)
+static void answer_run(int tree, uint64_t budget, uint64_t owner, size_t cells, uint64_t fill, unsigned special, uint64_t cell, const char *hex)
 {
     uint64_t r[8];
     for (unsigned g = 0; g < EXPORTER_GLOBALS; g++)
         globals[g] = g == special ? cell : fill;
-    (tree ? exporter_run_tree : exporter_run_linear)(file, read_hex(hex), budget, globals, EXPORTER_GLOBALS, stack, EXPORTER_STACK, store, cells,
+    (tree ? exporter_run_tree : exporter_run_linear)(file, read_hex(hex), budget, owner, globals, EXPORTER_GLOBALS, stack, EXPORTER_STACK, store, cells,
                                                      frames, EXPORTER_FRAMES, r, 8);
     for (unsigned i = 0; i < 8; i++)
         printf(i == 3 ? "%s%016" PRIX64 : "%s%" PRIu64, i > 0 ? " " : "", r[i]);
@@ -66,12 +66,12 @@ int main(void)
 {
     static char line[LINE], word[16], hex[LINE];
     while (fgets(line, LINE, stdin) != NULL) {
-        uint64_t a, b, fill, g, cell;
+        uint64_t a, b, owner, fill, g, cell;
         sscanf(line, "%15s", word);
         if (strcmp(word, "flatten") == 0 && sscanf(line, "%*s %" SCNu64 " %s", &a, hex) == 2)
             answer_flatten(a, hex);
-        else if (sscanf(line, "%*s %" SCNu64 " %" SCNu64 " %" SCNx64 " %" SCNu64 " %" SCNx64 " %s", &a, &b, &fill, &g, &cell, hex) == 6)
-            answer_run(strcmp(word, "tree") == 0, a, b, fill, (unsigned)g, cell, hex);
+        else if (sscanf(line, "%*s %" SCNu64 " %" SCNu64 " %" SCNu64 " %" SCNx64 " %" SCNu64 " %" SCNx64 " %s", &a, &owner, &b, &fill, &g, &cell, hex) == 7)
+            answer_run(strcmp(word, "tree") == 0, a, owner, b, fill, (unsigned)g, cell, hex);
         else
             return 1;
         fflush(stdout);

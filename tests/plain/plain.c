@@ -14,7 +14,8 @@ enum { NO_KIND, CONSTANT, GLOBAL_NUMBER, TEMPLATE_NUMBER };
 enum {
     TREE_LIMIT = 65536, LINEAR_LIMIT = 262144,
     TEMPLATES = 64, INDICES = 256, LAST_LEVEL = 16, LARGEST_OFFSET = 65535,
-    GLOBALS = 256, STACK = 256, STORE = 2048, FRAMES = 2048,
+    GLOBALS = 256, HOUSE_GLOBALS = 64, STACK = 256, STORE = 2048, FRAMES = 2048,
+    HOUSE = 0, VENDOR = 1,
     TREE_BUDGET = 1000000, LINEAR_BUDGET = 2000000
 };
 
@@ -586,6 +587,7 @@ typedef struct {
     uint32_t on_stack, in_store, in_frames;
     Cell v;
     uint32_t template, environment;
+    bool vendor; /* whose run it is: a vendor's, or the house's */
     uint64_t steps;
     End end;
     unsigned wrong;
@@ -608,18 +610,30 @@ RULE unsigned make_closure(Machine *m, Cell template)
     return 0;
 }
 
+/* Owners (document 02, request 12): the house reads and sets its own alone, a vendor reads all and sets its own alone. */
+
+RULE bool is_the_house_s(Cell number)
+{
+    return number < HOUSE_GLOBALS;
+}
+
 RULE unsigned get_global(Machine *m, Cell number)
 {
+    if (!m->vendor && !is_the_house_s(number))
+        return 25;
     if (m->globals[number] == tagged(UNDEFINED_TAG))
         return 12;
     m->v = m->globals[number];
     return 0;
 }
 
-RULE void set_global(Machine *m, Cell number)
+RULE unsigned set_global(Machine *m, Cell number)
 {
+    if (m->vendor == is_the_house_s(number))
+        return 25;
     m->globals[number] = m->v;
     m->v = tagged(NOT_SPECIFIED_TAG);
+    return 0;
 }
 
 /* The local's cell, or NULL where there is none. An environment is its layer's location + 1, and 0 is empty. */
@@ -878,7 +892,7 @@ static void run_tree(Machine *machine, uint64_t budget)
         case LITERAL: m.v = node->held; break;
         case CLOSURE: wrong = make_closure(&m, node->held); break;
         case GLOBAL: wrong = get_global(&m, node->held); break;
-        case SET_GLOBAL: set_global(&m, node->held); break;
+        case SET_GLOBAL: wrong = set_global(&m, node->held); break;
         case LOCAL: wrong = get_local(&m, node->n1, node->n2); break;
         case SET_LOCAL: wrong = set_local(&m, node->n1, node->n2); break;
         case PUSH: wrong = push(&m); break;
@@ -975,7 +989,7 @@ static void run_linear(Machine *machine, uint64_t budget)
         case LITERAL: position += 2; m.v = entry; break;
         case CLOSURE: position += 2; wrong = make_closure(&m, entry); break;
         case GLOBAL: position += 2; wrong = get_global(&m, entry); break;
-        case SET_GLOBAL: position += 2; set_global(&m, entry); break;
+        case SET_GLOBAL: position += 2; wrong = set_global(&m, entry); break;
         case LOCAL: position += 3; wrong = get_local(&m, n1, n2); break;
         case SET_LOCAL: position += 3; wrong = set_local(&m, n1, n2); break;
         case PUSH: position += 1; wrong = push(&m); break;
@@ -1008,12 +1022,14 @@ ended:
 
 /* Runs */
 
-static bool may_start(bool lengths_fit, uint64_t budget, uint64_t largest_budget, const Cell *globals)
+static bool may_start(bool lengths_fit, uint64_t budget, uint64_t largest_budget, uint64_t owner, const Cell *globals)
 {
     if (!lengths_fit)
         return refuse(20, 0);
     if (budget > largest_budget)
         return refuse(21, 0);
+    if (owner != HOUSE && owner != VENDOR)
+        return refuse(31, 0);
     for (unsigned g = 0; g < GLOBALS; g++)
         if (!is_starting_global(globals[g]))
             return refuse(22, g);
@@ -1048,15 +1064,15 @@ static void tell_ended(const Machine *m, uint64_t *result)
     result[7] = m->in_frames;
 }
 
-void plain_run_tree(const uint8_t *file, size_t file_len, uint64_t budget, uint64_t *globals, size_t globals_len,
+void plain_run_tree(const uint8_t *file, size_t file_len, uint64_t budget, uint64_t owner, uint64_t *globals, size_t globals_len,
                     uint64_t *stack, size_t stack_len, uint64_t *store, size_t store_len,
                     uint64_t *frames, size_t frames_len, uint64_t *result, size_t result_len)
 {
     bool lengths_fit = globals_len == GLOBALS && stack_len == STACK && store_len == STORE && frames_len == FRAMES;
-    Machine m = { .globals = globals, .stack = stack, .store = store, .frames = frames };
+    Machine m = { .globals = globals, .stack = stack, .store = store, .frames = frames, .vendor = owner == VENDOR };
     if (result_len < 8)
         return;
-    if (!may_start(lengths_fit, budget, TREE_BUDGET, globals) || !read_tree(file, file_len)) {
+    if (!may_start(lengths_fit, budget, TREE_BUDGET, owner, globals) || !read_tree(file, file_len)) {
         tell_refused(result);
         return;
     }
@@ -1067,15 +1083,15 @@ void plain_run_tree(const uint8_t *file, size_t file_len, uint64_t budget, uint6
     tell_ended(&m, result);
 }
 
-void plain_run_linear(const uint8_t *file, size_t file_len, uint64_t budget, uint64_t *globals, size_t globals_len,
+void plain_run_linear(const uint8_t *file, size_t file_len, uint64_t budget, uint64_t owner, uint64_t *globals, size_t globals_len,
                       uint64_t *stack, size_t stack_len, uint64_t *store, size_t store_len,
                       uint64_t *frames, size_t frames_len, uint64_t *result, size_t result_len)
 {
     bool lengths_fit = globals_len == GLOBALS && stack_len == STACK && store_len == STORE && frames_len == FRAMES;
-    Machine m = { .globals = globals, .stack = stack, .store = store, .frames = frames };
+    Machine m = { .globals = globals, .stack = stack, .store = store, .frames = frames, .vendor = owner == VENDOR };
     if (result_len < 8)
         return;
-    if (!may_start(lengths_fit, budget, LINEAR_BUDGET, globals) || !read_linear(file, file_len)) {
+    if (!may_start(lengths_fit, budget, LINEAR_BUDGET, owner, globals) || !read_linear(file, file_len)) {
         tell_refused(result);
         return;
     }

@@ -1,4 +1,4 @@
-/* Document 01 in plain C, written from the paper: the other side of the comparison and of the benchmark.
+/* Document 01 and the landed requests of document 02 in plain C, written from the papers: the other side of the comparison and of the benchmark.
    The functions have the shape of the library's (include/exporter.h). Tables are static: one call at a time. */
 #ifndef PLAIN_H
 #define PLAIN_H
@@ -14,14 +14,14 @@ void plain_flatten(const uint8_t *file, size_t file_len,
                    uint8_t *out, size_t out_len,
                    uint64_t *result, size_t result_len);
 
-/* Runs a tree file. globals 256 cells, stack 256, store 2,048, frames 2,048.
+/* Runs a tree file. owner 0 is the house, 1 a vendor. globals 256 cells, stack 256, store 2,048, frames 2,048.
    result[0]: how it ended: 0 halted, 1 wrong, 2 out of budget, 3 refused.
    result[1]: 0, the wrong number, 19, or the refusal's number.
    result[2]: the refusal's place, else 0.
    result[3]: the answer's cell where it halted, else 0.
    result[4]: steps. result[5], [6], [7]: stack, store and frame cells used.
    A refusal leaves the four memories as they were. Does nothing at all where result_len is below 8. */
-void plain_run_tree(const uint8_t *file, size_t file_len, uint64_t budget,
+void plain_run_tree(const uint8_t *file, size_t file_len, uint64_t budget, uint64_t owner,
                     uint64_t *globals, size_t globals_len,
                     uint64_t *stack, size_t stack_len,
                     uint64_t *store, size_t store_len,
@@ -29,7 +29,7 @@ void plain_run_tree(const uint8_t *file, size_t file_len, uint64_t budget,
                     uint64_t *result, size_t result_len);
 
 /* The same for a linear file. */
-void plain_run_linear(const uint8_t *file, size_t file_len, uint64_t budget,
+void plain_run_linear(const uint8_t *file, size_t file_len, uint64_t budget, uint64_t owner,
                       uint64_t *globals, size_t globals_len,
                       uint64_t *stack, size_t stack_len,
                       uint64_t *store, size_t store_len,

@@ -4,9 +4,9 @@
 #include <inttypes.h>
 #include <stdio.h>
 
-enum { SHEET = 4096, GLOBALS = 256, STACK = 256, STORE = 2048, FRAMES = 2048 };
+enum { SHEET = 4096, GLOBALS = 256, STACK = 256, STORE = 2048, FRAMES = 2048, HOUSE = 0 };
 
-typedef void Run(const uint8_t *, size_t, uint64_t, uint64_t *, size_t, uint64_t *, size_t, uint64_t *, size_t,
+typedef void Run(const uint8_t *, size_t, uint64_t, uint64_t, uint64_t *, size_t, uint64_t *, size_t, uint64_t *, size_t,
                  uint64_t *, size_t, uint64_t *, size_t);
 
 /* 48 bits after the tag, two's complement */
@@ -33,7 +33,7 @@ static void print_run(const char *machine, Run *run, const uint8_t *file, size_t
     uint64_t result[8];
     for (unsigned g = 0; g < GLOBALS; g++)
         globals[g] = UINT64_C(5) << 60;
-    run(file, len, budget, globals, GLOBALS, stack, STACK, store, STORE, frames, FRAMES, result, 8);
+    run(file, len, budget, HOUSE, globals, GLOBALS, stack, STACK, store, STORE, frames, FRAMES, result, 8);
     if (result[0] == 0) {
         printf("%s halted ", machine);
         print_answer(result[3]);

@@ -31,14 +31,14 @@ static void flatten_row(const char *name, size_t room)
            (unsigned long long)result[1], untouched(out, written, sizeof out) ? "" : ", output touched");
 }
 
-static void run_row(const char *name, void (*run)(const uint8_t *, size_t, uint64_t, uint64_t *, size_t, uint64_t *, size_t, uint64_t *,
+static void run_row(const char *name, void (*run)(const uint8_t *, size_t, uint64_t, uint64_t, uint64_t *, size_t, uint64_t *, size_t, uint64_t *,
                     size_t, uint64_t *, size_t, uint64_t *, size_t), const uint8_t *file, size_t length, uint64_t budget)
 {
     uint64_t result[8];
     for (int i = 0; i < 256; i++)
         globals[i] = (uint64_t)5 << 60;
     memset(stack, 0xAA, sizeof stack), memset(store, 0xAA, sizeof store), memset(frames, 0xAA, sizeof frames);
-    run(file, length, budget, globals, 256, stack, 256, store, 2048, frames, 2048, result, 8);
+    run(file, length, budget, EXPORTER_HOUSE, globals, 256, stack, 256, store, 2048, frames, 2048, result, 8);
     printf("%s:", name);
     for (int i = 0; i < 8; i++)
         printf(" %llx", (unsigned long long)result[i]);

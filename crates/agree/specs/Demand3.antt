@@ -1,7 +1,8 @@
--- Demand 3 and request 8, the statement. Its proof stands in Proved.antt. Everything it speaks of is defined in the specs of files, flatten and
+-- Demand 3 and request 8, for each owner (request 12), the statement. Its proof stands in Proved.antt. Everything it speaks of is defined in the specs of files, flatten and
 -- machines.
 --
--- For a file the flattener accepts (request 4: 24 is one of its refusals), the same starting globals and a budget of b steps (at most 1,000,000):
+-- For a file the flattener accepts (request 4: 24 is one of its refusals), the same starting globals, a budget of b steps (at most 1,000,000) and the
+-- same owner o (0 or 1):
 --   Forward: if the tree machine with budget b ends (halts or goes wrong, not out of budget), the linear machine with budget 2 b ends alike;
 --   Backward: if the linear machine ends with budget b, so does the tree machine with b, alike.
 -- Alike: same end, answer, globals, stack, store, frames (only saved code places aside) and used counts; the linear machine takes the tree
@@ -20,6 +21,8 @@ use Rattle.files.specs.Tree.{Template}
 use Rattle.files.specs.Linear.{Linear, linearRead}
 use Rattle.files.specs.Accepted.{treeAccepted}
 use Rattle.flatten.specs.Flatten.{flattened}
+use Rattle.owners.specs.Owners.{ownerOf}
+use Rattle.owners.specs.declared.Owner.{Owner}
 use Rattle.machines.specs.Machine.{Counts, noCounts, treeProgram, linearProgram}
 use Rattle.machines.specs.Runs.{Memory, Ran, runOf, leftOf, rightLengths, lowestUnfit, programRun, treeRun, linearRun}
 use Rattle.machines.specs.declared.End.the-variants.{Halted, OutOfBudget}
@@ -29,19 +32,19 @@ unfoldable pub aside : ℕ → ℕ
 aside c = cond (eqb (tagOf c) 10) (c - framePlace c * 0x10) c
 
 -- the jumps of a linear file's run, and the open conditionals that took their first arm in a tree file's run, from the globals g
-unfoldable pub linearCounts : ℕ → List ℕ → Got (List Linear) → Counts
-linearCounts b g (got ts q) = programRun (linearProgram ts) b g .counts
-linearCounts b g (refused n p) = noCounts
+unfoldable pub linearCounts : Owner → ℕ → List ℕ → Got (List Linear) → Counts
+linearCounts o b g (got ts q) = programRun o (linearProgram ts) b g .counts
+linearCounts o b g (refused n p) = noCounts
 
-unfoldable pub treeCounts : ℕ → List ℕ → Got (List Template) → Counts
-treeCounts b g (got ts q) = programRun (treeProgram ts) b g .counts
-treeCounts b g (refused n p) = noCounts
+unfoldable pub treeCounts : Owner → ℕ → List ℕ → Got (List Template) → Counts
+treeCounts o b g (got ts q) = programRun o (treeProgram ts) b g .counts
+treeCounts o b g (refused n p) = noCounts
 
-abbrev pub jumpsMade : List ℕ → ℕ → List ℕ → ℕ
-jumpsMade w b g = linearCounts b g (linearRead w) .jumps
+abbrev pub jumpsMade : List ℕ → ℕ → ℕ → List ℕ → ℕ
+jumpsMade w b o g = linearCounts (ownerOf o) b g (linearRead w) .jumps
 
-abbrev pub firstArms : List ℕ → ℕ → List ℕ → ℕ
-firstArms s b g = treeCounts b g (treeAccepted s) .firsts
+abbrev pub firstArms : List ℕ → ℕ → ℕ → List ℕ → ℕ
+firstArms s b o g = treeCounts (ownerOf o) b g (treeAccepted s) .firsts
 
 -- x of the tree machine, y of the linear machine
 pub record EndAlike (x y : Ran) (jumps firsts : ℕ) : Type 0 where
@@ -74,10 +77,12 @@ Ends x = runOf x .end ≡ OutOfBudget → ⊥
 -- m is lent to the tree machine, m′ to the linear machine
 abbrev pub Forward : Type 0
 Forward =
-    (s w g : List ℕ) (n b : ℕ) (m m′ : Memory) → Flattens s n w → StartsFrom g m → StartsFrom g m′ → b ≤ 1000000 → Ends (treeRun s b m)
-    → EndAlike (treeRun s b m) (linearRun w (2 * b) m′) (jumpsMade w (2 * b) g) (firstArms s b g)
+    (s w g : List ℕ) (n b o : ℕ) (m m′ : Memory) → Flattens s n w → StartsFrom g m → StartsFrom g m′ → b ≤ 1000000 → o ≤ 1
+    → Ends (treeRun s b o m)
+    → EndAlike (treeRun s b o m) (linearRun w (2 * b) o m′) (jumpsMade w (2 * b) o g) (firstArms s b o g)
 
 abbrev pub Backward : Type 0
 Backward =
-    (s w g : List ℕ) (n b : ℕ) (m m′ : Memory) → Flattens s n w → StartsFrom g m → StartsFrom g m′ → b ≤ 1000000 → Ends (linearRun w b m′)
-    → EndAlike (treeRun s b m) (linearRun w b m′) (jumpsMade w b g) (firstArms s b g)
+    (s w g : List ℕ) (n b o : ℕ) (m m′ : Memory) → Flattens s n w → StartsFrom g m → StartsFrom g m′ → b ≤ 1000000 → o ≤ 1
+    → Ends (linearRun w b o m′)
+    → EndAlike (treeRun s b o m) (linearRun w b o m′) (jumpsMade w b o g) (firstArms s b o g)

@@ -21,12 +21,12 @@ pub record FlattenPromise (s old : List ℕ) (r : Flattened) (new : List ℕ) : 
   pub answer : r ≡ answered (flattened s (length old))
   pub output : new ≡ written old (flattened s (length old))
 
--- run_tree(file, budget, ..) returned x and left m′ of the memory m that was lent
-abbrev pub RunTreePromise : List ℕ → ℕ → Memory → Run → Memory → Type 0
-RunTreePromise file budget m x m′ = ran x m′ ≡ treeRun file budget m
+-- run_tree(file, budget, owner, ..) returned x and left m′ of the memory m that was lent
+abbrev pub RunTreePromise : List ℕ → ℕ → ℕ → Memory → Run → Memory → Type 0
+RunTreePromise file budget owner m x m′ = ran x m′ ≡ treeRun file budget owner m
 
-abbrev pub RunLinearPromise : List ℕ → ℕ → Memory → Run → Memory → Type 0
-RunLinearPromise file budget m x m′ = ran x m′ ≡ linearRun file budget m
+abbrev pub RunLinearPromise : List ℕ → ℕ → ℕ → Memory → Run → Memory → Type 0
+RunLinearPromise file budget owner m x m′ = ran x m′ ≡ linearRun file budget owner m
 
 -- ---- the first bytes of the output are the linear file
 written-file : (s old new : List ℕ) (n : ℕ) → FlattenPromise s old (Written n) new → Flattens s (length old) (take n new)
@@ -47,15 +47,15 @@ written-file s old new n p = by (flattened s (length old)) refl
         let z : _≡_ {A = ℕ} 0 1 = cc in
         absurd (omega arith)
 
--- s is flattened into an output that held old and then new, and its first n bytes are the file that run_linear is given; x, y are returned
-module _ (s old new : List ℕ) (n : ℕ) (f : FlattenPromise s old (Written n) new) (g : List ℕ) (b : ℕ) (h : b ≤ 1000000)
-    (m m′ left left′ : Memory) (st : StartsFrom g m) (st′ : StartsFrom g m′) (x y : Run) (t : RunTreePromise s b m x left) where
-  pub functions-forward : RunLinearPromise (take n new) (2 * b) m′ y left′ → Ends (ran x left)
-      → EndAlike (ran x left) (ran y left′) (jumpsMade (take n new) (2 * b) g) (firstArms s b g)
+-- o is the owner given to both machines; s is flattened into an output that held old and then new, and its first n bytes are the file that run_linear is given; x, y are returned
+module _ (s old new : List ℕ) (n : ℕ) (f : FlattenPromise s old (Written n) new) (g : List ℕ) (b o : ℕ) (h : b ≤ 1000000) (owned : o ≤ 1)
+    (m m′ left left′ : Memory) (st : StartsFrom g m) (st′ : StartsFrom g m′) (x y : Run) (t : RunTreePromise s b o m x left) where
+  pub functions-forward : RunLinearPromise (take n new) (2 * b) o m′ y left′ → Ends (ran x left)
+      → EndAlike (ran x left) (ran y left′) (jumpsMade (take n new) (2 * b) o g) (firstArms s b o g)
   functions-forward l e =
-      rw (t, l) (demand-3-forward s (take n new) g (length old) b m m′ (written-file s old new n f) st st′ h (rw t at e))
+      rw (t, l) (demand-3-forward s (take n new) g (length old) b o m m′ (written-file s old new n f) st st′ h owned (rw t at e))
 
-  pub functions-backward : RunLinearPromise (take n new) b m′ y left′ → Ends (ran y left′)
-      → EndAlike (ran x left) (ran y left′) (jumpsMade (take n new) b g) (firstArms s b g)
+  pub functions-backward : RunLinearPromise (take n new) b o m′ y left′ → Ends (ran y left′)
+      → EndAlike (ran x left) (ran y left′) (jumpsMade (take n new) b o g) (firstArms s b o g)
   functions-backward l e =
-      rw (t, l) (demand-3-backward s (take n new) g (length old) b m m′ (written-file s old new n f) st st′ h (rw l at e))
+      rw (t, l) (demand-3-backward s (take n new) g (length old) b o m m′ (written-file s old new n f) st st′ h owned (rw l at e))

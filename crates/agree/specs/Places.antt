@@ -19,6 +19,7 @@ use Rattle.files.specs.Flat.{flat, conditional}
 use Rattle.files.specs.Tree.{Template}
 use Rattle.files.specs.Linear.{Linear}
 use Rattle.rules.specs.declared.Plain.{Plain}
+use Rattle.owners.specs.declared.Owner.{Owner}
 use Rattle.machines.specs.Fetched.{Fetched, returns, calls, branches, saves, jumps, plainly, resolve, openCount, first}
 use Rattle.machines.specs.Fetched.{decode, noTemplate, noLinear, treeAt, linearAt}
 use Rattle.machines.specs.Machine.{treeProgram, linearProgram}
@@ -52,7 +53,7 @@ module _ (ts : List Template) (ls : List Linear) (twins : (t : ℕ) → Twins (g
   pub data Pair : ℕ → ℕ → ℕ → ℕ → ℕ → Type 0 where
     pair : {t p q j : ℕ} → t < 2 ^ 8 → SpotAt t (treeAt ts t p) q j → Pair t p t q j
 
-  module _ (t : ℕ) (small : t < 2 ^ 8) where
+  module _ (own : Owner) (t : ℕ) (small : t < 2 ^ 8) where
     abbrev es : List Entry
     es = entriesOf t
 
@@ -66,10 +67,10 @@ module _ (ts : List Template) (ls : List Linear) (twins : (t : ℕ) → Twins (g
     lin = linearAt ls t
 
     abbrev MeetsAt : Fetched → ℕ → ℕ → Type 0
-    MeetsAt F q j = Meets Pair (same-but-places Pair) 1 ⊥ (linearAt ls) t t F q j
+    MeetsAt F q j = Meets Pair (same-but-places Pair own) 1 ⊥ (linearAt ls) t t F q j
 
     abbrev MatchAt : Fetched → Fetched → ℕ → Type 0
-    MatchAt F G j = Match Pair (same-but-places Pair) 1 ⊥ t t F G j
+    MatchAt F G j = Match Pair (same-but-places Pair own) 1 ⊥ t t F G j
 
     abbrev Follow : Bool → Fetched → ℕ → ℕ → Type 0
     Follow false F e j = MeetsAt F e j
@@ -195,10 +196,10 @@ module _ (ts : List Template) (ls : List Linear) (twins : (t : ℕ) → Twins (g
         both (twins t .closed) (record { within = λ p h l. refl; bound = twins t .tree-fits; indexed = twins t .indexed })
         (record { rest = []; is = sym (append-nil W) }) refl nothing-after
 
-  pairs : {t p t′ q j : ℕ} → Pair t p t′ q j → Meets Pair (same-but-places Pair) 1 ⊥ (linearAt ls) t t′ (treeAt ts t p) q j
-  pairs (pair {t = t} h z) = meets t h z
+  pairs : (own : Owner) {t p t′ q j : ℕ} → Pair t p t′ q j → Meets Pair (same-but-places Pair own) 1 ⊥ (linearAt ls) t t′ (treeAt ts t p) q j
+  pairs own (pair {t = t} h z) = meets own t h z
 
-  pub programs-agree : Agree Pair (same-but-places Pair) 1 ⊥ (treeProgram ts) (linearProgram ls)
+  pub programs-agree : (own : Owner) → Agree Pair (same-but-places Pair own) 1 ⊥ (treeProgram ts) (linearProgram ls)
   unfolding same-but-places
-  programs-agree =
-      record { meets = pairs; starts = λ {t} {t′} e. subst (λ n. Pair t (getD ts t noTemplate .start) n 0 0) (e .0) (at-start t (e .1)) }
+  programs-agree own =
+      record { meets = pairs own; starts = λ {t} {t′} e. subst (λ n. Pair t (getD ts t noTemplate .start) n 0 0) (e .0) (at-start own t (e .1)) }

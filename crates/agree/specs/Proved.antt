@@ -23,9 +23,11 @@ use Rattle.readback.specs.ReadBack.{flattened-reads}
 use Rattle.rules.specs.Rules.{Data}
 use Rattle.rules.specs.Lists.{by-lt}
 use Rattle.lockstep.specs.Frames.{noneF, moreF, FrameFits}
+use Rattle.owners.specs.Owners.{isOwner, ownerOf}
+use Rattle.owners.specs.declared.Owner.{Owner}
 use Rattle.machines.specs.Fetched.{noTemplate, noLinear}
 use Rattle.machines.specs.Machine.{treeProgram, linearProgram, noCounts, Ending, halted, wrongly, spent, Ended}
-use Rattle.machines.specs.Runs.{Memory, started, fitGlobals, startState, endOf, memoryOf, reported, programRun, onTree, onLinear, treeRun, linearRun}
+use Rattle.machines.specs.Runs.{Memory, started, byOwner, fitGlobals, startState, endOf, memoryOf, reported, programRun, onTree, onLinear, treeRun, linearRun}
 use Rattle.machines.specs.declared.End.the-variants.{Halted, OutOfBudget}
 use Rattle.lockstep.specs.Lockstep.{Agree, Rel, Alike-ends, forward, backward}
 use Rattle.lockstep.specs.Same.{FramesR, Same, same-but-places}
@@ -77,13 +79,13 @@ module _ (ts : List Template) (ls : List Linear) (twins : (t : ℕ) → Twins (g
       at : (i : ℕ) → aside (getD (d .frames) i 0) ≡ aside (getD (d′ .frames) i 0)
       at i = by-lt i (d .fr) (λ a. frames-aside (s .frames-ok) i a) (λ a. ap aside (s .above i a))
 
-  abbrev A : Agree R (same-but-places R) 1 ⊥ (treeProgram ts) (linearProgram ls)
-  A = programs-agree ts ls twins
+  abbrev A : (own : Owner) → Agree R (same-but-places R own) 1 ⊥ (treeProgram ts) (linearProgram ls)
+  A own = programs-agree ts ls twins own
 
-  reported-alike : (x y : Ended) → Alike-ends R (same-but-places R) 1 ⊥ (treeProgram ts) (linearProgram ls) A x y
+  reported-alike : (own : Owner) (x y : Ended) → Alike-ends R (same-but-places R own) 1 ⊥ (treeProgram ts) (linearProgram ls) (A own) x y
       → EndAlike (reported x) (reported y) (y .counts .jumps) (x .counts .firsts)
   unfolding reported memoryOf same-but-places
-  reported-alike x y r =
+  reported-alike own x y r =
       let e = r .related in
       let s = e .data-ok in
       let c = e .counts in
@@ -103,10 +105,10 @@ module _ (ts : List Template) (ls : List Linear) (twins : (t : ℕ) → Twins (g
       }
 
   -- both start alike, with nothing pending
-  begin : (g : List ℕ) → Rel R (same-but-places R) 1 ⊥ (treeProgram ts) (linearProgram ls) A noCounts noCounts
+  begin : (own : Owner) (g : List ℕ) → Rel R (same-but-places R own) 1 ⊥ (treeProgram ts) (linearProgram ls) (A own) noCounts noCounts
       (startState g (getD ts 0 noTemplate .start)) (startState g 0) 0 0
   unfolding startState same-but-places
-  begin g = record {
+  begin own g = record {
     data-ok = record {
       regs-same = refl;
       mem-same = refl;
@@ -117,7 +119,7 @@ module _ (ts : List Template) (ls : List Linear) (twins : (t : ℕ) → Twins (g
       size = length-replicate {A = ℕ} 2048 0;
       size′ = length-replicate {A = ℕ} 2048 0;
     };
-    place-ok = A .meets (A .starts {t = 0} {t′ = 0} (refl, omega arith));
+    place-ok = A own .meets (A own .starts {t = 0} {t′ = 0} (refl, omega arith));
     counts = record { clock = refl; tally = refl; own = λ n. refl };
   }
 
@@ -131,42 +133,42 @@ flattens-read s w n q e =
     into true e = (cc, cc)
     into false e = refused-got e
 
-module _ {g : List ℕ} (m : Memory) (st : StartsFrom g m) (b : ℕ) where
-  tree-is : (s : List ℕ) {ts : List Template} {q : ℕ} → treeAccepted s ≡ got ts q → b ≤ 1000000 → treeRun s b m ≡ reported (programRun (treeProgram ts) b g)
-  unfolding treeRun started fitGlobals onTree
-  tree-is s e h = rw (st .lengths, le-leb b 1000000 h, st .globals, st .fit, e) refl
+module _ {g : List ℕ} (m : Memory) (st : StartsFrom g m) (b o : ℕ) (owned : o ≤ 1) where
+  tree-is : (s : List ℕ) {ts : List Template} {q : ℕ} → treeAccepted s ≡ got ts q → b ≤ 1000000 → treeRun s b o m ≡ reported (programRun (ownerOf o) (treeProgram ts) b g)
+  unfolding treeRun started byOwner isOwner fitGlobals onTree
+  tree-is s e h = rw (st .lengths, le-leb b 1000000 h, le-leb o 1 owned, st .globals, st .fit, e) refl
 
   linear-is : (w : List ℕ) {ls : List Linear} {q : ℕ} → linearRead w ≡ got ls q → b ≤ 2000000
-      → linearRun w b m ≡ reported (programRun (linearProgram ls) b g)
-  unfolding linearRun started fitGlobals onLinear
-  linear-is w e h = rw (st .lengths, le-leb b 2000000 h, st .globals, st .fit, e) refl
+      → linearRun w b o m ≡ reported (programRun (ownerOf o) (linearProgram ls) b g)
+  unfolding linearRun started byOwner isOwner fitGlobals onLinear
+  linear-is w e h = rw (st .lengths, le-leb b 2000000 h, le-leb o 1 owned, st .globals, st .fit, e) refl
 
--- the two programs of a tree file that passes 1 to 7, and their ends from the globals g
-module _ (s : List ℕ) (ts : List Template) (q : ℕ) (read : treeChecked s ≡ got ts q) (g : List ℕ) where
+-- the two programs of a tree file that passes 1 to 7, and their ends from the globals g in runs of one owner
+module _ (own : Owner) (s : List ℕ) (ts : List Template) (q : ℕ) (read : treeChecked s ≡ got ts q) (g : List ℕ) where
   abbrev ls : List Linear
   ls = linears 1 ts
 
   abbrev treeEnd : ℕ → Ended
-  treeEnd b = programRun (treeProgram ts) b g
+  treeEnd b = programRun own (treeProgram ts) b g
 
   abbrev linearEnd : ℕ → Ended
-  linearEnd b = programRun (linearProgram ls) b g
+  linearEnd b = programRun own (linearProgram ls) b g
 
   pub twins : (t : ℕ) → Twins (getD ts t noTemplate) (getD ls t noLinear)
   twins = file-twins s ts q read
 
   unfoldable pub AlikeHere : Ended → Ended → Type 0
-  AlikeHere = Alike-ends (R ts ls twins) (same-but-places (R ts ls twins)) 1 ⊥ (treeProgram ts) (linearProgram ls) (A ts ls twins)
+  AlikeHere = Alike-ends (R ts ls twins) (same-but-places (R ts ls twins) own) 1 ⊥ (treeProgram ts) (linearProgram ls) (A ts ls twins own)
 
   pub tree-ends : (b : ℕ) → (treeEnd b .ending ≡ spent → ⊥) → AlikeHere (treeEnd b) (linearEnd (2 * b))
-  unfolding programRun AlikeHere
+  unfolding programRun AlikeHere same-but-places
   tree-ends b h =
-      forward (R ts ls twins) (same-but-places (R ts ls twins)) 1 ⊥ (treeProgram ts) (linearProgram ls) (A ts ls twins) (begin ts ls twins g) b h
+      forward (R ts ls twins) (same-but-places (R ts ls twins) own) 1 ⊥ (treeProgram ts) (linearProgram ls) (A ts ls twins own) (begin ts ls twins own g) b h
 
   pub linear-ends : (b : ℕ) → (linearEnd b .ending ≡ spent → ⊥) → AlikeHere (treeEnd b) (linearEnd b)
-  unfolding programRun AlikeHere
+  unfolding programRun AlikeHere same-but-places
   linear-ends b h =
-      backward (R ts ls twins) (same-but-places (R ts ls twins)) 1 ⊥ (treeProgram ts) (linearProgram ls) (A ts ls twins) (begin ts ls twins g) b h
+      backward (R ts ls twins) (same-but-places (R ts ls twins) own) 1 ⊥ (treeProgram ts) (linearProgram ls) (A ts ls twins own) (begin ts ls twins own g) b h
 
 module _ (s w : List ℕ) (ts : List Template) (q : ℕ) (accepted : flatAccepted s ≡ got ts q) (is : w ≡ linearFile ts) where
   tree-accepted : treeAccepted s ≡ got ts q
@@ -178,47 +180,48 @@ module _ (s w : List ℕ) (ts : List Template) (q : ℕ) (accepted : flatAccepte
   pub linear-read : linearRead w ≡ got (linears 1 ts) (8 * length (linearFile ts))
   linear-read = ap linearRead is ∙ flattened-reads s ts q (flat-accepted-checked s ts q accepted)
 
-  module _ (g : List ℕ) (m m′ : Memory) (st : StartsFrom g m) (st′ : StartsFrom g m′) (b b′ : ℕ) (h : b ≤ 1000000) (h′ : b′ ≤ 2000000) where
+  module _ (g : List ℕ) (m m′ : Memory) (st : StartsFrom g m) (st′ : StartsFrom g m′) (b b′ o : ℕ) (h : b ≤ 1000000) (h′ : b′ ≤ 2000000)
+      (owned : o ≤ 1) where
     abbrev x : Ended
-    x = treeEnd s ts q tree-read g b
+    x = treeEnd (ownerOf o) s ts q tree-read g b
 
     abbrev y : Ended
-    y = linearEnd s ts q tree-read g b′
+    y = linearEnd (ownerOf o) s ts q tree-read g b′
 
     -- the ends of the two machines, as ends of the two programs
     of-programs : EndAlike (reported x) (reported y) (y .counts .jumps) (x .counts .firsts)
-        → EndAlike (treeRun s b m) (linearRun w b′ m′) (jumpsMade w b′ g) (firstArms s b g)
+        → EndAlike (treeRun s b o m) (linearRun w b′ o m′) (jumpsMade w b′ o g) (firstArms s b o g)
     unfolding linearCounts treeCounts
     of-programs e =
-        let j : jumpsMade w b′ g ≡ y .counts .jumps = ap (λ z. linearCounts b′ g z .jumps) linear-read in
-        let f : firstArms s b g ≡ x .counts .firsts = ap (λ z. treeCounts b g z .firsts) tree-accepted in
-        rw (tree-is m st b s tree-accepted h, linear-is m′ st′ b′ w linear-read h′, j, f) e
+        let j : jumpsMade w b′ o g ≡ y .counts .jumps = ap (λ z. linearCounts (ownerOf o) b′ g z .jumps) linear-read in
+        let f : firstArms s b o g ≡ x .counts .firsts = ap (λ z. treeCounts (ownerOf o) b g z .firsts) tree-accepted in
+        rw (tree-is m st b o owned s tree-accepted h, linear-is m′ st′ b′ o owned w linear-read h′, j, f) e
 
-    end-alike : AlikeHere s ts q tree-read g x y → EndAlike (treeRun s b m) (linearRun w b′ m′) (jumpsMade w b′ g) (firstArms s b g)
+    end-alike : AlikeHere (ownerOf o) s ts q tree-read g x y → EndAlike (treeRun s b o m) (linearRun w b′ o m′) (jumpsMade w b′ o g) (firstArms s b o g)
     unfolding AlikeHere
-    end-alike a = of-programs (reported-alike ts (linears 1 ts) (twins s ts q tree-read g) x y a)
+    end-alike a = of-programs (reported-alike ts (linears 1 ts) (twins (ownerOf o) s ts q tree-read g) (ownerOf o) x y a)
 
-  module _ (g : List ℕ) (m m′ : Memory) (st : StartsFrom g m) (st′ : StartsFrom g m′) (b : ℕ) (h : b ≤ 1000000) where
-    forward-here : Ends (treeRun s b m) → EndAlike (treeRun s b m) (linearRun w (2 * b) m′) (jumpsMade w (2 * b) g) (firstArms s b g)
+  module _ (g : List ℕ) (m m′ : Memory) (st : StartsFrom g m) (st′ : StartsFrom g m′) (b o : ℕ) (h : b ≤ 1000000) (owned : o ≤ 1) where
+    forward-here : Ends (treeRun s b o m) → EndAlike (treeRun s b o m) (linearRun w (2 * b) o m′) (jumpsMade w (2 * b) o g) (firstArms s b o g)
     unfolding reported
     forward-here e =
-        let x = treeEnd s ts q tree-read g b in
-        let e′ : Ends (reported x) = rw (tree-is m st b s tree-accepted h) at e in
-        end-alike g m m′ st st′ b (2 * b) h (omega arith) (tree-ends s ts q tree-read g b (λ z. e′ (spends (x .ending) (x .state .now .regs .v) z)))
+        let x = treeEnd (ownerOf o) s ts q tree-read g b in
+        let e′ : Ends (reported x) = rw (tree-is m st b o owned s tree-accepted h) at e in
+        end-alike g m m′ st st′ b (2 * b) o h (omega arith) owned (tree-ends (ownerOf o) s ts q tree-read g b (λ z. e′ (spends (x .ending) (x .state .now .regs .v) z)))
 
-    backward-here : Ends (linearRun w b m′) → EndAlike (treeRun s b m) (linearRun w b m′) (jumpsMade w b g) (firstArms s b g)
+    backward-here : Ends (linearRun w b o m′) → EndAlike (treeRun s b o m) (linearRun w b o m′) (jumpsMade w b o g) (firstArms s b o g)
     unfolding reported
     backward-here e =
-        let y = linearEnd s ts q tree-read g b in
-        let e′ : Ends (reported y) = rw (linear-is m′ st′ b w linear-read (omega arith)) at e in
-        end-alike g m m′ st st′ b b h (omega arith) (linear-ends s ts q tree-read g b (λ z. e′ (spends (y .ending) (y .state .now .regs .v) z)))
+        let y = linearEnd (ownerOf o) s ts q tree-read g b in
+        let e′ : Ends (reported y) = rw (linear-is m′ st′ b o owned w linear-read (omega arith)) at e in
+        end-alike g m m′ st st′ b b o h (omega arith) owned (linear-ends (ownerOf o) s ts q tree-read g b (λ z. e′ (spends (y .ending) (y .state .now .regs .v) z)))
 
 pub demand-3-forward : Forward
-demand-3-forward s w g n b m m′ f st st′ h e =
+demand-3-forward s w g n b o m m′ f st st′ h owned e =
     let r = flattens-read s w n (f .0) (f .1) in
-    forward-here s w (r .0) (f .0) (r .1) (r .2) g m m′ st st′ b h e
+    forward-here s w (r .0) (f .0) (r .1) (r .2) g m m′ st st′ b o h owned e
 
 pub demand-3-backward : Backward
-demand-3-backward s w g n b m m′ f st st′ h e =
+demand-3-backward s w g n b o m m′ f st st′ h owned e =
     let r = flattens-read s w n (f .0) (f .1) in
-    backward-here s w (r .0) (f .0) (r .1) (r .2) g m m′ st st′ b h e
+    backward-here s w (r .0) (f .0) (r .1) (r .2) g m m′ st st′ b o h owned e

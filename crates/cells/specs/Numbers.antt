@@ -72,6 +72,10 @@ outOfRange = 15
 abbrev pub zeroDivisor : ℕ
 zeroDivisor = 23
 
+-- 25 a global read or set outside the owner's right: ownedRule (rules, Owned); in a step right after 16, before all others (request 12)
+abbrev pub notOwned : ℕ
+notOwned = 25
+
 -- 16 a linear code position outside the code, an invalid byte, a cut instruction or an unfit entry: act (machines, Machine), of `bad`
 abbrev pub badCode : ℕ
 badCode = 16
@@ -100,3 +104,7 @@ largeBudget = 21
 -- 22 a starting global that isn't exactly one of tags 1 to 6; lowest number: fitGlobals (machines, Runs), globalsRefusal (Start)
 abbrev pub unfitGlobal : ℕ
 unfitGlobal = 22
+
+-- 31 an owner that is neither 0 nor 1; place 0: started, startRefusal; after 21 and before 22 (request 12)
+abbrev pub unknownOwner : ℕ
+unknownOwner = 31

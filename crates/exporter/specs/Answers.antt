@@ -12,8 +12,9 @@ use Rattle.files.specs.Tree.{Template}
 use Rattle.files.specs.Linear.{Linear, linearRead}
 use Rattle.files.specs.Accepted.{treeAccepted}
 use Rattle.rules.specs.Lists.{either}
+use Rattle.owners.specs.Owners.{isOwner, ownerOf}
 use Rattle.machines.specs.Machine.{Ending, halted, wrongly, spent, Ended}
-use Rattle.machines.specs.Runs.{Memory, Ran, ran, refusedRun, lowestUnfit, fitGlobals, rightLengths, started, endOf, reported, onTree, onLinear, treeRun, linearRun}
+use Rattle.machines.specs.Runs.{Memory, Ran, ran, refusedRun, lowestUnfit, fitGlobals, rightLengths, byOwner, started, endOf, reported, onTree, onLinear, treeRun, linearRun}
 use Rattle.machines.specs.declared.End.{End}
 use Rattle.machines.specs.declared.End.the-variants.{Halted, Wrong, OutOfBudget, Refused}
 
@@ -69,23 +70,28 @@ unfolding fitGlobals
 unfit-fits (some g) m r h = refused-fits 22 g m
 unfit-fits none m r h = h
 
-started-fits : (most b : ℕ) (m : Memory) (r : Ran) → RanFits r → RanFits (started most b m r)
-unfolding started
-started-fits most b m r h =
-    either RanFits (rightLengths m) _ _ (either RanFits (leb b most) _ _ (unfit-fits (lowestUnfit 0 (m .globals)) m r h) (refused-fits 21 0 m)) (refused-fits 20 0 m)
+owned-fits : (o : ℕ) (m : Memory) (r : Ran) → RanFits r → RanFits (byOwner o m r)
+unfolding byOwner
+owned-fits o m r h = either RanFits (isOwner o) _ _ h (refused-fits 31 0 m)
 
-pub tree-fits : (s : List ℕ) (b : ℕ) (m : Memory) → RanFits (treeRun s b m)
+started-fits : (most b o : ℕ) (m : Memory) (r : Ran) → RanFits r → RanFits (started most b o m r)
+unfolding started
+started-fits most b o m r h =
+    either RanFits (rightLengths m) _ _
+    (either RanFits (leb b most) _ _ (owned-fits o m _ (unfit-fits (lowestUnfit 0 (m .globals)) m r h)) (refused-fits 21 0 m)) (refused-fits 20 0 m)
+
+pub tree-fits : (s : List ℕ) (b o : ℕ) (m : Memory) → RanFits (treeRun s b o m)
 unfolding treeRun
-tree-fits s b m = started-fits 1000000 b m _ (on (treeAccepted s))
+tree-fits s b o m = started-fits 1000000 b o m _ (on (treeAccepted s))
   where
-    on : (g : Got (List Template)) → RanFits (onTree b m g)
+    on : (g : Got (List Template)) → RanFits (onTree (ownerOf o) b m g)
     on (got ts q) = reported-fits _
     on (refused n p) = refused-fits n p m
 
-pub linear-fits : (s : List ℕ) (b : ℕ) (m : Memory) → RanFits (linearRun s b m)
+pub linear-fits : (s : List ℕ) (b o : ℕ) (m : Memory) → RanFits (linearRun s b o m)
 unfolding linearRun
-linear-fits s b m = started-fits 2000000 b m _ (on (linearRead s))
+linear-fits s b o m = started-fits 2000000 b o m _ (on (linearRead s))
   where
-    on : (g : Got (List Linear)) → RanFits (onLinear b m g)
+    on : (g : Got (List Linear)) → RanFits (onLinear (ownerOf o) b m g)
     on (got ts q) = reported-fits _
     on (refused n p) = refused-fits n p m

@@ -107,18 +107,19 @@ pub extern "C" fn exporter_flatten(file: &[u8], out: &mut [u8], result: &mut [u6
 pub extern "C" fn exporter_run_tree(
     file: &[u8],
     budget: u64,
+    owner: u64,
     globals: &mut [u64],
     stack: &mut [u64],
     store: &mut [u64],
     frames: &mut [u64],
     result: &mut [u64],
 )
-    ensures { λ _. ⌜ exported (memory (now (globals .exit)) (now (stack .exit)) (now (store .exit)) (now (frames .exit))) (now (result .exit)) ≡ runExported (treeRun (now (file .entry)) budget) (memory (now (globals .entry)) (now (stack .entry)) (now (store .entry)) (now (frames .entry))) (now (result .entry)) ⌝ }
+    ensures { λ _. ⌜ exported (memory (now (globals .exit)) (now (stack .exit)) (now (store .exit)) (now (frames .exit))) (now (result .exit)) ≡ runExported (treeRun (now (file .entry)) budget owner) (memory (now (globals .entry)) (now (stack .entry)) (now (store .entry)) (now (frames .entry))) (now (result .entry)) ⌝ }
 {
     if result.len() < 8 {
         return;
     }
-    let run = tree_machine::run_tree(file, budget, globals, stack, store, frames);
+    let run = tree_machine::run_tree(file, budget, owner, globals, stack, store, frames);
     put_run(result, run);
 }
 
@@ -126,17 +127,18 @@ pub extern "C" fn exporter_run_tree(
 pub extern "C" fn exporter_run_linear(
     file: &[u8],
     budget: u64,
+    owner: u64,
     globals: &mut [u64],
     stack: &mut [u64],
     store: &mut [u64],
     frames: &mut [u64],
     result: &mut [u64],
 )
-    ensures { λ _. ⌜ exported (memory (now (globals .exit)) (now (stack .exit)) (now (store .exit)) (now (frames .exit))) (now (result .exit)) ≡ runExported (linearRun (now (file .entry)) budget) (memory (now (globals .entry)) (now (stack .entry)) (now (store .entry)) (now (frames .entry))) (now (result .entry)) ⌝ }
+    ensures { λ _. ⌜ exported (memory (now (globals .exit)) (now (stack .exit)) (now (store .exit)) (now (frames .exit))) (now (result .exit)) ≡ runExported (linearRun (now (file .entry)) budget owner) (memory (now (globals .entry)) (now (stack .entry)) (now (store .entry)) (now (frames .entry))) (now (result .entry)) ⌝ }
 {
     if result.len() < 8 {
         return;
     }
-    let run = linear_machine::run_linear(file, budget, globals, stack, store, frames);
+    let run = linear_machine::run_linear(file, budget, owner, globals, stack, store, frames);
     put_run(result, run);
 }

@@ -13,6 +13,8 @@ use Rattle.linear.specs.Filled.{linearTold, linearFilled}
 use Rattle.linear.specs.LinearTable.{linear-table}
 use Rattle.linear.specs.declared.LinearFile.{LinearFile}
 use Rattle.linear.specs.declared.LinearFile.the-variants.{Read, Refused}
+use Rattle.owners.specs.Owners.{ownerOf}
+use Rattle.owners.specs.declared.Owner.{Owner}
 use Rattle.machines.specs.Machine.{linearProgram}
 use Rattle.machines.specs.Runs.{Memory, Ran, ran, refusedRun, startState, programRun, onLinear}
 use Rattle.machines.specs.Start.{zeros, zeros-length, refusal}
@@ -53,13 +55,18 @@ module _ (s table table′ : List ℕ) (x : LinearFile) (asked : x ≡ linearTol
   pub file-within : AllWithin s table′
   file-within = rw table-is (table-within s (file .is))
 
-  pub file-ran : (b : ℕ) (m : Memory) (r : Ran) → AllBytes s → r ≡ ranFrom (bytesProgram s table′) b 0 (startState (m .globals) 0) → r ≡ onLinear b m (linearRead s)
+  pub file-ran : (o : Owner) (b : ℕ) (m : Memory) (r : Ran) → AllBytes s → r ≡ ranFrom o (bytesProgram s table′) b 0 (startState (m .globals) 0)
+      → r ≡ onLinear o b m (linearRead s)
   unfolding onLinear programRun
-  file-ran b m r bytes h =
-      h ∙ rw (table-is, file .is, program-is s (file .is) bytes) (whole-budget (linearProgram (file .templates)) b (startState (m .globals) 0))
+  file-ran o b m r bytes h =
+      h ∙ rw (table-is, file .is, program-is s (file .is) bytes) (whole-budget o (linearProgram (file .templates)) b (startState (m .globals) 0))
 
 -- ---- a file that is refused
-pub file-refused : (s : List ℕ) (x : LinearFile) (b : ℕ) (m : Memory) (n : ℕ) (p : BitPlace) (r : Run) → x ≡ linearTold (linearRead s) → x ≡ Refused n p → r ≡ refusal n (p .0)
-    → ran r m ≡ onLinear b m (linearRead s)
+pub file-refused : (s : List ℕ) (x : LinearFile) (o : Owner) (b : ℕ) (m : Memory) (n : ℕ) (p : BitPlace) (r : Run) → x ≡ linearTold (linearRead s) → x ≡ Refused n p → r ≡ refusal n (p .0)
+    → ran r m ≡ onLinear o b m (linearRead s)
 unfolding onLinear refusedRun
-file-refused s x b m n p r e h k = rw (k, was-refused (linearRead s) n p (sym h ∙ e))
+file-refused s x o b m n p r e h k = rw (k, was-refused (linearRead s) n p (sym h ∙ e))
+
+-- ---- the owner of that number
+pub file-owned : (s : List ℕ) (n : ℕ) (o : Owner) (b : ℕ) (m : Memory) (r : Ran) → o ≡ ownerOf n → r ≡ onLinear o b m (linearRead s) → r ≡ onLinear (ownerOf n) b m (linearRead s)
+file-owned s n o b m r e h = rw e at h

@@ -4,6 +4,7 @@ use linear::LinearFile;
 use machines::CodePlace;
 use machines::Run;
 use machines::Start;
+use owners::Owner;
 ghost use mathlib.Core.Path.{_≡_};
 ghost use Rattle.files.specs.Linear.{linearRead};
 ghost use Rattle.machines.specs.Runs.{memory, ran, startState, onLinear, linearRun};
@@ -16,13 +17,14 @@ fn run_read(
     file: &[u8],
     table: &[u64],
     budget: u64,
+    owner: Owner,
     globals: &mut [u64],
     stack: &mut [u64],
     store: &mut [u64],
     frames: &mut [u64],
 ) -> Run
     requires { ⌜ MayStart 2000000 budget (memory (now globals) (now stack) (now store) (now frames)) × AllWithin (now file) (now table) ⌝ }
-    ensures { λ x. ⌜ ran x (memory (now (globals .exit)) (now (stack .exit)) (now (store .exit)) (now (frames .exit))) ≡ ranFrom (bytesProgram (now (file .entry)) (now (table .entry))) budget 0 (startState (now (globals .entry)) 0) ⌝ }
+    ensures { λ x. ⌜ ran x (memory (now (globals .exit)) (now (stack .exit)) (now (store .exit)) (now (frames .exit))) ≡ ranFrom owner (bytesProgram (now (file .entry)) (now (table .entry))) budget 0 (startState (now (globals .entry)) 0) ⌝ }
 {
     let no_links = [0u32; 1];
     let first = CodePlace::Linear(BytePlace(0));
@@ -32,6 +34,7 @@ fn run_read(
         table,
         first,
         budget,
+        owner,
         globals,
         stack,
         store,
@@ -44,48 +47,63 @@ fn run_file(
     file: &[u8],
     table: &mut [u64],
     budget: u64,
+    owner: Owner,
     globals: &mut [u64],
     stack: &mut [u64],
     store: &mut [u64],
     frames: &mut [u64],
 ) -> Run
     requires { ⌜ MayStart 2000000 budget (memory (now globals) (now stack) (now store) (now frames)) × (now table ≡ zeros 16384) ⌝ }
-    ensures { λ x. ⌜ ran x (memory (now (globals .exit)) (now (stack .exit)) (now (store .exit)) (now (frames .exit))) ≡ onLinear budget (memory (now (globals .entry)) (now (stack .entry)) (now (store .entry)) (now (frames .entry))) (linearRead (now (file .entry))) ⌝ }
+    ensures { λ x. ⌜ ran x (memory (now (globals .exit)) (now (stack .exit)) (now (store .exit)) (now (frames .exit))) ≡ onLinear owner budget (memory (now (globals .entry)) (now (stack .entry)) (now (store .entry)) (now (frames .entry))) (linearRead (now (file .entry))) ⌝ }
 {
     match linear::read_linear(file, table) {
-        LinearFile::Read(_) => run_read(file, table, budget, globals, stack, store, frames),
+        LinearFile::Read(_) => run_read(file, table, budget, owner, globals, stack, store, frames),
         LinearFile::Refused(number, place) => machines::refused(number, place.0),
     }
 }
 
-// The run of a file where 20, 21 and 22 are not given.
+// The run of a file where 20, 21, 31 and 22 are not given.
 fn run_accepted(
     file: &[u8],
     budget: u64,
+    owner: Owner,
     globals: &mut [u64],
     stack: &mut [u64],
     store: &mut [u64],
     frames: &mut [u64],
 ) -> Run
     requires { ⌜ MayStart 2000000 budget (memory (now globals) (now stack) (now store) (now frames)) ⌝ }
-    ensures { λ x. ⌜ ran x (memory (now (globals .exit)) (now (stack .exit)) (now (store .exit)) (now (frames .exit))) ≡ onLinear budget (memory (now (globals .entry)) (now (stack .entry)) (now (store .entry)) (now (frames .entry))) (linearRead (now (file .entry))) ⌝ }
+    ensures { λ x. ⌜ ran x (memory (now (globals .exit)) (now (stack .exit)) (now (store .exit)) (now (frames .exit))) ≡ onLinear owner budget (memory (now (globals .entry)) (now (stack .entry)) (now (store .entry)) (now (frames .entry))) (linearRead (now (file .entry))) ⌝ }
 {
     let mut table = [0u64; 16384];
-    run_file(file, &mut table, budget, globals, stack, store, frames)
+    run_file(
+        file,
+        &mut table,
+        budget,
+        owner,
+        globals,
+        stack,
+        store,
+        frames,
+    )
 }
 
 pub fn run_linear(
     file: &[u8],
     budget: u64,
+    owner: u64,
     globals: &mut [u64],
     stack: &mut [u64],
     store: &mut [u64],
     frames: &mut [u64],
 ) -> Run
-    ensures { λ x. ⌜ ran x (memory (now (globals .exit)) (now (stack .exit)) (now (store .exit)) (now (frames .exit))) ≡ linearRun (now (file .entry)) budget (memory (now (globals .entry)) (now (stack .entry)) (now (store .entry)) (now (frames .entry))) ⌝ }
+    ensures { λ x. ⌜ ran x (memory (now (globals .exit)) (now (stack .exit)) (now (store .exit)) (now (frames .exit))) ≡ linearRun (now (file .entry)) budget owner (memory (now (globals .entry)) (now (stack .entry)) (now (store .entry)) (now (frames .entry))) ⌝ }
 {
-    match machines::start_refusal(globals, stack, store, frames, budget, 2_000_000) {
-        Start::Go => run_accepted(file, budget, globals, stack, store, frames),
+    match machines::start_refusal(globals, stack, store, frames, budget, 2_000_000, owner) {
+        Start::Go => {
+            let whose = owners::owner_of(owner);
+            run_accepted(file, budget, whose, globals, stack, store, frames)
+        }
         Start::Refused(number, place) => machines::refused(number, place),
     }
 }

@@ -65,6 +65,7 @@ fn row(name: &[u8], file: &[u8], budget: u64, odd: u8, c: u64) {
     show(linear_machine::run_linear(
         file,
         budget,
+        0,
         &mut globals,
         &mut stack,
         &mut store,
@@ -79,7 +80,15 @@ fn long_row(file: &[u8]) {
     let mut store = [0u64; 2048];
     let mut frames = [0u64; 2049];
     word(b"frames too long: ");
-    show(linear_machine::run_linear(file, 1, &mut globals, &mut stack, &mut store, &mut frames));
+    show(linear_machine::run_linear(
+        file,
+        1,
+        0,
+        &mut globals,
+        &mut stack,
+        &mut store,
+        &mut frames,
+    ));
 }
 
 fn plain_row(name: &[u8], file: &[u8]) {

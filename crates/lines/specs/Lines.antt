@@ -66,12 +66,12 @@ linearLine n = line (linearWord ∷ decimal n ∷ [])
 abbrev pub refusedLine : ℕ → ℕ → List ℕ
 refusedLine n p = line (refusedWord ∷ decimal n ∷ decimal p ∷ [])
 
--- ---- the program
+-- ---- the program, which runs as the house (owner 0, request 12)
 abbrev pub tabularRun : List ℕ → Run
-tabularRun s = runOf (treeRun s 1000000 freshMemory)
+tabularRun s = runOf (treeRun s 1000000 0 freshMemory)
 
 abbrev pub flatRun : List ℕ → Run
-flatRun w = runOf (linearRun w 2000000 freshMemory)
+flatRun w = runOf (linearRun w 2000000 0 freshMemory)
 
 unfoldable pub acceptedLines : List ℕ → List ℕ → List ℕ
 acceptedLines s w = linearLine (length w) ++ machineLine tabularWord (tabularRun s) ++ machineLine flatWord (flatRun w)

@@ -82,6 +82,9 @@ fn put_machine(out: &mut [u8], at: usize, name: &[u8], run: Run) -> usize
 
 // ---- the program
 
+// The owner as which the program runs.
+const HOUSE: u64 = 0;
+
 fn tabular_run(sheet: &[u8]) -> Run
     ensures { λ r. ⌜ r ≡ tabularRun (now (sheet .entry)) ⌝ }
 {
@@ -92,6 +95,7 @@ fn tabular_run(sheet: &[u8]) -> Run
     tree_machine::run_tree(
         sheet,
         1_000_000,
+        HOUSE,
         &mut globals,
         &mut stack,
         &mut store,
@@ -109,6 +113,7 @@ fn flat_run(linear: &[u8]) -> Run
     linear_machine::run_linear(
         linear,
         2_000_000,
+        HOUSE,
         &mut globals,
         &mut stack,
         &mut store,

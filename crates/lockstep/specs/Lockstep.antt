@@ -5,9 +5,11 @@ use native.Mathlib.Nat.{le-of-mul-le-mul-left}
 use mathlib.Core.Path.{_≡_, refl, sym, _∙_}
 use mathlib.Core.Bool.{Bool, true, false, cond}
 use Rattle.rules.specs.State.{Res}
-use Rattle.rules.specs.Rules.{Data, plainRule, callRule, makeContRule, Back, returnRule, isFalse}
+use Rattle.owners.specs.declared.Owner.{Owner}
+use Rattle.rules.specs.Owned.{ownedRule, owned-never}
+use Rattle.rules.specs.Rules.{Data, callRule, makeContRule, Back, returnRule, isFalse}
 use Rattle.rules.specs.Related.{ResR, okR, wrongR, BackR, noneB, someB}
-use Rattle.rules.specs.Never16.{Never16, other, plain-never, call-never, make-cont-never}
+use Rattle.rules.specs.Never16.{Never16, other, call-never, make-cont-never}
 use Rattle.rules.specs.declared.Plain.{Plain}
 use Rattle.machines.specs.Fetched.{Fetched, plain, returns, calls, branches, saves, jumps, bad}
 use Rattle.machines.specs.Machine.{Program, State, at, Step, go, halt, stop, bind, applied, called, returned, act, here, step}
@@ -17,6 +19,8 @@ use Rattle.machines.specs.Machine.{Counts, jumpCount, firstCount, counted, Endi
 module _ (R : ℕ → ℕ → ℕ → ℕ → ℕ → Type 0) where
   -- what of the data corresponds, and that the rules keep it
   pub record Kin : Type 1 where
+    -- whose run both are
+    pub owner : Owner
     -- with so many jumps pending in the frames
     pub DR : Data → Data → ℕ → Type 0
     pub IR : Plain → Plain → Type 0
@@ -26,7 +30,7 @@ module _ (R : ℕ → ℕ → ℕ → ℕ → ℕ → Type 0) where
     -- whether the programs may come to where no instruction stands
     pub Hole : Type 0
     pub apply-ok : {i i′ : Plain} {d d′ : Data} {J : ℕ} → IR i i′ → DR d d′ J
-        → ResR (λ h h′. DR (applied d h) (applied d′ h′) J) (plainRule i (d .mem) (d .regs)) (plainRule i′ (d′ .mem) (d′ .regs))
+        → ResR (λ h h′. DR (applied d h) (applied d′ h′) J) (ownedRule owner i (d .mem) (d .regs)) (ownedRule owner i′ (d′ .mem) (d′ .regs))
     pub call-ok : (n : ℕ) {d d′ : Data} {J : ℕ} → DR d d′ J
         → ResR (λ r r′. TR (r .0) (r′ .0) × DR (called d (r .1)) (called d′ (r′ .1)) J) (callRule n (d .regs)) (callRule n (d′ .regs))
     pub keep-ok : {n t p t′ q j J : ℕ} {d d′ : Data} → SR n t p t′ q j → DR d d′ J
@@ -35,15 +39,15 @@ module _ (R : ℕ → ℕ → ℕ → ℕ → ℕ → Type 0) where
     pub false-ok : {d d′ : Data} {J : ℕ} → DR d d′ J → isFalse (d .regs) ≡ isFalse (d′ .regs)
 
 -- what ended ends so with more fuel
-pub longer : (P : Program) (b c : ℕ) (k : Counts) (s : State) → b ≤ c → (run P b k s .ending ≡ spent → ⊥) → run P c k s ≡ run P b k s
+pub longer : (o : Owner) (P : Program) (b c : ℕ) (k : Counts) (s : State) → b ≤ c → (run o P b k s .ending ≡ spent → ⊥) → run o P c k s ≡ run o P b k s
 unfolding run next
-longer P zero c k s h n = absurd (n refl)
-longer P (suc b) zero k s h n = absurd (omega arith)
-longer P (suc b) (suc c) k s h n = turn (λ k′ s′ m. longer P b c k′ s′ (omega arith) m) (step P s) n
+longer o P zero c k s h n = absurd (n refl)
+longer o P (suc b) zero k s h n = absurd (omega arith)
+longer o P (suc b) (suc c) k s h n = turn (λ k′ s′ m. longer o P b c k′ s′ (omega arith) m) (step o P s) n
   where
-    turn : ((k′ : Counts) (s′ : State) → (run P b k′ s′ .ending ≡ spent → ⊥) → run P c k′ s′ ≡ run P b k′ s′) → (o : Step)
-        → (next (λ k′ s′. run P b k′ s′) k (counted (here P s) s k) s o .ending ≡ spent → ⊥)
-        → next (λ k′ s′. run P c k′ s′) k (counted (here P s) s k) s o ≡ next (λ k′ s′. run P b k′ s′) k (counted (here P s) s k) s o
+    turn : ((k′ : Counts) (s′ : State) → (run o P b k′ s′ .ending ≡ spent → ⊥) → run o P c k′ s′ ≡ run o P b k′ s′) → (x : Step)
+        → (next (λ k′ s′. run o P b k′ s′) k (counted (here P s) s k) s x .ending ≡ spent → ⊥)
+        → next (λ k′ s′. run o P c k′ s′) k (counted (here P s) s k) s x ≡ next (λ k′ s′. run o P b k′ s′) k (counted (here P s) s k) s x
     turn ih (go s′) n = ih (counted (here P s) s k) s′ n
     turn ih halt n = refl
     turn ih (stop m) n = refl
@@ -168,10 +172,10 @@ module _ (R : ℕ → ℕ → ℕ → ℕ → ℕ → Type 0) (K : Kin R) (w : �
 
     acts : {k₁ k₂ : Counts} {s₁ s₂ : State} {j J : ℕ} {F G : Fetched} → K .DR (s₁ .now) (s₂ .now) J → Tally k₁ k₂ j J
         → Match (s₁ .template) (s₂ .template) F G j
-        → StepR k₁ k₂ (counted F s₁ k₁) (counted G s₂ k₂) s₁ s₂ (act P₁ F s₁) (act P₂ G s₂) (w + (j + J))
+        → StepR k₁ k₂ (counted F s₁ k₁) (counted G s₂ k₂) s₁ s₂ (act (K .owner) P₁ F s₁) (act (K .owner) P₂ G s₂) (w + (j + J))
     unfolding act jumpCount firstCount
     acts d c (plainM {i = i} {i′ = i′} {p = p} {q = q} x r) =
-        binds d c (K .apply-ok x d) (plain-never _ _ i) λ a b y. onward d c (plain i p) (plain i′ q) 0 0 0 y r refl refl refl refl (λ n. refl) (omega arith) (omega arith)
+        binds d c (K .apply-ok x d) (owned-never (K .owner) i _ _) λ a b y. onward d c (plain i p) (plain i′ q) 0 0 0 y r refl refl refl refl (λ n. refl) (omega arith) (omega arith)
     acts d c returnM = backs d c (K .back-ok d) refl
     acts d c (callM {n = n}) =
         binds d c (K .call-ok n d) (call-never n _) λ a b y. onward d c (calls n) (calls n) 0 0 0 (y .1) (A .starts (y .0)) refl refl refl refl (λ n. refl) (omega arith)
@@ -196,8 +200,8 @@ module _ (R : ℕ → ℕ → ℕ → ℕ → ℕ → Type 0) (K : Kin R) (w : �
       pub alike : Alike (run₁ fuel) end₂
 
     turns : {k₁ k₂ k₁′ k₂′ : Counts} {s₁ s₂ : State} {o₁ o₂ : Step} {m : ℕ} (b : ℕ) → StepR k₁ k₂ k₁′ k₂′ s₁ s₂ o₁ o₂ m
-        → ((k₁ k₂ : Counts) (s₁ s₂ : State) (j J m : ℕ) → Rel k₁ k₂ s₁ s₂ j J → j + J ≤ m → Lock b m (λ f. run P₁ f k₁ s₁) (run P₂ b k₂ s₂))
-        → Lock b m (λ f. next (λ k s. run P₁ f k s) k₁ k₁′ s₁ o₁) (next (λ k s. run P₂ b k s) k₂ k₂′ s₂ o₂)
+        → ((k₁ k₂ : Counts) (s₁ s₂ : State) (j J m : ℕ) → Rel k₁ k₂ s₁ s₂ j J → j + J ≤ m → Lock b m (λ f. run (K .owner) P₁ f k₁ s₁) (run (K .owner) P₂ b k₂ s₂))
+        → Lock b m (λ f. next (λ k s. run (K .owner) P₁ f k s) k₁ k₁′ s₁ o₁) (next (λ k s. run (K .owner) P₂ b k s) k₂ k₂′ s₂ o₂)
     unfolding next
     turns b (goR {j = j} {J = J} {n = n} r h) ih = ih _ _ _ _ j J n r h
     turns b (haltR r) ih = record { fuel = b; less = omega arith; half = omega arith; alike = both r }
@@ -205,22 +209,22 @@ module _ (R : ℕ → ℕ → ℕ → ℕ → ℕ → Type 0) (K : Kin R) (w : �
 
     locks : {k₁ k₂ : Counts} {s₁ s₂ : State} {j J n b : ℕ} → K .DR (s₁ .now) (s₂ .now) J
         → Meets (P₂ .fetch) (s₁ .template) (s₂ .template) (P₁ .fetch (s₁ .template) (s₁ .place)) (s₂ .place) j → Tally k₁ k₂ j J → j + J ≤ n
-        → ((k₁ k₂ : Counts) (s₁ s₂ : State) (j J m : ℕ) → Rel k₁ k₂ s₁ s₂ j J → j + J ≤ m → Lock b m (λ f. run P₁ f k₁ s₁) (run P₂ b k₂ s₂))
-        → Lock (suc b) n (λ f. run P₁ f k₁ s₁) (run P₂ (suc b) k₂ s₂)
+        → ((k₁ k₂ : Counts) (s₁ s₂ : State) (j J m : ℕ) → Rel k₁ k₂ s₁ s₂ j J → j + J ≤ m → Lock b m (λ f. run (K .owner) P₁ f k₁ s₁) (run (K .owner) P₂ b k₂ s₂))
+        → Lock (suc b) n (λ f. run (K .owner) P₁ f k₁ s₁) (run (K .owner) P₂ (suc b) k₂ s₂)
     unfolding run step act counted
     locks {k₁} {k₂} {s₁} {s₂} {j} {J} {n} {b} d (nowM {G = G} e m) c h ih =
-        let l : Lock b (w + (j + J)) (λ f. next (λ k s. run P₁ f k s) k₁ (counted (here P₁ s₁) s₁ k₁) s₁ (step P₁ s₁)) (next (λ k s. run P₂ b k s) k₂ (counted G s₂ k₂) s₂ (act P₂ G s₂)) =
+        let l : Lock b (w + (j + J)) (λ f. next (λ k s. run (K .owner) P₁ f k s) k₁ (counted (here P₁ s₁) s₁ k₁) s₁ (step (K .owner) P₁ s₁)) (next (λ k s. run (K .owner) P₂ b k s) k₂ (counted G s₂ k₂) s₂ (act (K .owner) P₂ G s₂)) =
         turns b (acts d c m) ih in
         record { fuel = suc (l .fuel); less = omega arith; half = omega arith; alike = rw e (l .alike) }
     locks {k₁} {k₂} {s₁} {s₂} {J = J} {n} {b} d (jumpM {q′ = q} {j = j} e m) c h ih =
         let k : Counts = counted (jumps q) s₂ k₂ in
         let s : State = at (s₂ .now) (s₂ .template) q in
-        let l : Lock b (j + J) (λ f. run P₁ f k₁ s₁) (run P₂ b k s) =
+        let l : Lock b (j + J) (λ f. run (K .owner) P₁ f k₁ s₁) (run (K .owner) P₂ b k s) =
         ih k₁ k s₁ s j J (j + J) (record { data-ok = d; place-ok = m; counts = record { clock = omega arith; tally = omega arith; own = c .own } })
         (omega arith) in
         record { fuel = l .fuel; less = omega arith; half = omega arith; alike = rw e (l .alike) }
 
-    pub lock : (b : ℕ) (k₁ k₂ : Counts) (s₁ s₂ : State) (j J n : ℕ) → Rel k₁ k₂ s₁ s₂ j J → j + J ≤ n → Lock b n (λ f. run P₁ f k₁ s₁) (run P₂ b k₂ s₂)
+    pub lock : (b : ℕ) (k₁ k₂ : Counts) (s₁ s₂ : State) (j J n : ℕ) → Rel k₁ k₂ s₁ s₂ j J → j + J ≤ n → Lock b n (λ f. run (K .owner) P₁ f k₁ s₁) (run (K .owner) P₂ b k₂ s₂)
     unfolding run
     lock zero k₁ k₂ s₁ s₂ j J n r h = record { fuel = 0; less = omega arith; half = omega arith; alike = over }
     lock (suc b) k₁ k₂ s₁ s₂ j J n r h = locks (r .data-ok) (r .place-ok) (r .counts) h (λ a b′ c d j J m x y. lock b a b′ c d j J m x y)
@@ -240,17 +244,17 @@ module _ (R : ℕ → ℕ → ℕ → ℕ → ℕ → Type 0) (K : Kin R) (w : �
 
     module _ {k₁ k₂ : Counts} {s₁ s₂ : State} (r : Rel k₁ k₂ s₁ s₂ 0 0) (b : ℕ) where
       -- the first ends within b: so does the second within (1 + w) · b, alike
-      pub forward : (run P₁ b k₁ s₁ .ending ≡ spent → ⊥) → Alike-ends (run P₁ b k₁ s₁) (run P₂ ((1 + w) * b) k₂ s₂)
+      pub forward : (run (K .owner) P₁ b k₁ s₁ .ending ≡ spent → ⊥) → Alike-ends (run (K .owner) P₁ b k₁ s₁) (run (K .owner) P₂ ((1 + w) * b) k₂ s₂)
       forward h =
-          let l : Lock ((1 + w) * b) 0 (λ f. run P₁ f k₁ s₁) (run P₂ ((1 + w) * b) k₂ s₂) = lock ((1 + w) * b) k₁ k₂ s₁ s₂ 0 0 0 r (omega arith) in
+          let l : Lock ((1 + w) * b) 0 (λ f. run (K .owner) P₁ f k₁ s₁) (run (K .owner) P₂ ((1 + w) * b) k₂ s₂) = lock ((1 + w) * b) k₁ k₂ s₁ s₂ 0 0 0 r (omega arith) in
           let g : (1 + w) * b ≤ (1 + w) * l .fuel = omega arith in
-          let m : run P₁ (l .fuel) k₁ s₁ ≡ run P₁ b k₁ s₁ = longer P₁ b (l .fuel) k₁ s₁ (le-of-mul-le-mul-left g (omega arith)) h in
+          let m : run (K .owner) P₁ (l .fuel) k₁ s₁ ≡ run (K .owner) P₁ b k₁ s₁ = longer (K .owner) P₁ b (l .fuel) k₁ s₁ (le-of-mul-le-mul-left g (omega arith)) h in
           from-left (rw m at (l .alike)) h
 
       -- the second ends within b: so does the first, alike
-      pub backward : (run P₂ b k₂ s₂ .ending ≡ spent → ⊥) → Alike-ends (run P₁ b k₁ s₁) (run P₂ b k₂ s₂)
+      pub backward : (run (K .owner) P₂ b k₂ s₂ .ending ≡ spent → ⊥) → Alike-ends (run (K .owner) P₁ b k₁ s₁) (run (K .owner) P₂ b k₂ s₂)
       backward h =
-          let l : Lock b 0 (λ f. run P₁ f k₁ s₁) (run P₂ b k₂ s₂) = lock b k₁ k₂ s₁ s₂ 0 0 0 r (omega arith) in
-          let e : Alike-ends (run P₁ (l .fuel) k₁ s₁) (run P₂ b k₂ s₂) = from-right (l .alike) h in
-          let m : run P₁ b k₁ s₁ ≡ run P₁ (l .fuel) k₁ s₁ = longer P₁ (l .fuel) b k₁ s₁ (l .less) (λ z. h (sym (e .same-ending) ∙ z)) in
+          let l : Lock b 0 (λ f. run (K .owner) P₁ f k₁ s₁) (run (K .owner) P₂ b k₂ s₂) = lock b k₁ k₂ s₁ s₂ 0 0 0 r (omega arith) in
+          let e : Alike-ends (run (K .owner) P₁ (l .fuel) k₁ s₁) (run (K .owner) P₂ b k₂ s₂) = from-right (l .alike) h in
+          let m : run (K .owner) P₁ b k₁ s₁ ≡ run (K .owner) P₁ (l .fuel) k₁ s₁ = longer (K .owner) P₁ (l .fuel) b k₁ s₁ (l .less) (λ z. h (sym (e .same-ending) ∙ z)) in
           rw m e

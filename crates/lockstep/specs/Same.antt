@@ -7,6 +7,7 @@ use native.Mathlib.Omega.{arith}
 use lib.ListN.{length, getD, length-replicate}
 use lib.Seq.{ext-getD}
 use Rattle.cells.specs.Cells.{tagOf, closureCell, closureTemplate, closureEnv}
+use Rattle.owners.specs.declared.Owner.{Owner}
 use Rattle.rules.specs.State.{Mem}
 use Rattle.rules.specs.Lists.{by-lt}
 use Rattle.rules.specs.Rules.{Data}
@@ -17,7 +18,7 @@ use Rattle.rules.specs.declared.Plain.the-variants.{Car, Cdr, Eqv, Add, Sub, Le
 use Rattle.machines.specs.Runs.{startState}
 use Rattle.lockstep.specs.Lockstep.{Kin}
 use Rattle.lockstep.specs.Likeness.{Likeness, Each, noneE, moreE, each-of}
-use Rattle.lockstep.specs.Plain.{PlainLike, closureI, globalI, setGlobalI, sameI, regsL}
+use Rattle.lockstep.specs.Plain.{PlainLike, Allowed, closureI, globalI, setGlobalI, sameI, regsL}
 use Rattle.lockstep.specs.Frames.{dataOf, FrameFits, Savable, FramesLike, noneF, moreF, FramesAlike, Like, likeD, keep-like, back-like}
 use Rattle.lockstep.specs.Kept.{more, more-back, apply-like, call-like, false-like}
 
@@ -49,30 +50,26 @@ owned G = record {
   sets-ok = G .sets-ok;
 }
 
--- an instruction touches only such globals
-pub record Touches (G : Rights) (i : Plain) : Type 0 where
-  pub reading : (g : ℕ) → i ≡ Global g → G .Reads g
-  pub setting : (g : ℕ) → i ≡ SetGlobal g → G .Sets g
-
-pub itself : (G : Rights) (i : Plain) → Touches G i → PlainLike (owned G) i i
-itself G (Literal c) w = sameI tt
-itself G (Closure t) w = closureI refl
-itself G (Global g) w = globalI (w .reading g refl)
-itself G (SetGlobal g) w = setGlobalI (w .setting g refl)
-itself G (Local a b) w = sameI tt
-itself G (SetLocal a b) w = sameI tt
-itself G Push w = sameI tt
-itself G Unspecified w = sameI tt
-itself G (MakeEnv n) w = sameI tt
-itself G (CheckArgs n) w = sameI tt
-itself G Cons w = sameI tt
-itself G Car w = sameI tt
-itself G Cdr w = sameI tt
-itself G Eqv w = sameI tt
-itself G Add w = sameI tt
-itself G Sub w = sameI tt
-itself G Less w = sameI tt
-itself G FloorDiv w = sameI tt
+-- an instruction is like itself
+pub itself : (G : Rights) (i : Plain) → PlainLike (owned G) i i
+itself G (Literal c) = sameI tt
+itself G (Closure t) = closureI refl
+itself G (Global g) = globalI
+itself G (SetGlobal g) = setGlobalI
+itself G (Local a b) = sameI tt
+itself G (SetLocal a b) = sameI tt
+itself G Push = sameI tt
+itself G Unspecified = sameI tt
+itself G (MakeEnv n) = sameI tt
+itself G (CheckArgs n) = sameI tt
+itself G Cons = sameI tt
+itself G Car = sameI tt
+itself G Cdr = sameI tt
+itself G Eqv = sameI tt
+itself G Add = sameI tt
+itself G Sub = sameI tt
+itself G Less = sameI tt
+itself G FloorDiv = sameI tt
 
 pub equal : {l l′ : List ℕ} → Each (λ a b. a ≡ b) l l′ → l ≡ l′
 equal noneE = refl
@@ -96,6 +93,9 @@ module _ (G : Rights) (R : ℕ → ℕ → ℕ → ℕ → ℕ → Type 0) (one 
 -- ---- all rights
 abbrev all : Rights
 all = record { Reads = λ g. Unit; Sets = λ g. Unit; GR = λ g a b. a ≡ b; reads = λ u e. e; sets-ok = λ u e. e }
+
+pub all-allowed : (o : Owner) → Allowed (owned all) o
+all-allowed o = record { read-by-right = λ g e. tt; set-by-right = λ g e. tt }
 
 abbrev pub FramesR : (ℕ → ℕ → ℕ → ℕ → ℕ → Type 0) → List ℕ → List ℕ → ℕ → ℕ → Type 0
 FramesR R f g fr J = FramesLike (owned all) R f g fr J
@@ -142,8 +142,9 @@ module _ (R : ℕ → ℕ → ℕ → ℕ → ℕ → Type 0) where
   }
 
   -- the same instructions and templates, data that are the same but for the frames' code places, and an instruction at every place
-  unfoldable pub same-but-places : Kin R
-  same-but-places = record {
+  unfoldable pub same-but-places : Owner → Kin R
+  same-but-places o = record {
+    owner = o;
     DR = Same;
     IR = λ i i′. i ≡ i′;
     TR = λ t t′. (t ≡ t′) × (t < 2 ^ 8);
@@ -151,8 +152,7 @@ module _ (R : ℕ → ℕ → ℕ → ℕ → ℕ → Type 0) where
     Hole = ⊥;
     apply-ok = λ {i} {i′} e s.
         rw (← e)
-        (more (apply-like (owned all) R (like s) (λ a b. rw (s .mem-same) refl) (λ c e. refl)
-        (itself all i (record { reading = λ g e. tt; setting = λ g e. tt })))
+        (more (apply-like (owned all) R o (all-allowed o) (like s) (λ a b. rw (s .mem-same) refl) (λ c e. refl) (itself all i))
         (λ h h′ e q. same q));
     call-ok = λ n s. more (call-like (owned all) R n (like s)) (λ a b e q. (q .0, same (q .1)));
     keep-ok = λ x s. more (keep-like (owned all) R x (like s)) (λ a b e q. same q);

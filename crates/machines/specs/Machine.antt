@@ -6,7 +6,9 @@ use Rattle.cells.specs.Numbers.{badCode}
 use Rattle.files.specs.Tree.{Template}
 use Rattle.files.specs.Linear.{Linear}
 use Rattle.rules.specs.State.{Held, Res, ok, wrong}
-use Rattle.rules.specs.Rules.{Data, plainRule, callRule, makeContRule, Back, noFrame, backTo, returnRule, isFalse}
+use Rattle.owners.specs.declared.Owner.{Owner}
+use Rattle.rules.specs.Owned.{ownedRule}
+use Rattle.rules.specs.Rules.{Data, callRule, makeContRule, Back, noFrame, backTo, returnRule, isFalse}
 use Rattle.rules.specs.declared.Regs.{Regs}
 use Rattle.machines.specs.Fetched.{Fetched, plain, returns, calls, branches, saves, jumps, bad, noTemplate, treeAt, linearAt}
 use lib.ListN.{getD}
@@ -51,10 +53,11 @@ unfoldable pub returned : Back → Step
 returned noFrame = halt
 returned (backTo t p d) = go (at d t p)
 
-module _ (P : Program) where
+-- o: whose run it is (request 12)
+module _ (o : Owner) (P : Program) where
   unfoldable pub act : Fetched → State → Step
   unfolding bind applied called returned
-  act (plain i p) s = bind (plainRule i (s .now .mem) (s .now .regs)) (λ h. go (at (applied (s .now) h) (s .template) p))
+  act (plain i p) s = bind (ownedRule o i (s .now .mem) (s .now .regs)) (λ h. go (at (applied (s .now) h) (s .template) p))
   act returns s = returned (returnRule (s .now))
   act (calls n) s = bind (callRule n (s .now .regs)) (λ r. go (at (called (s .now) (r .1)) (r .0) (P .start (r .0))))
   act (branches o p q) s = go (at (s .now) (s .template) (cond (isFalse (s .now .regs)) q p))
@@ -62,12 +65,12 @@ module _ (P : Program) where
   act (jumps p) s = go (at (s .now) (s .template) p)
   act bad s = stop badCode
 
-  abbrev pub here : State → Fetched
-  here s = P .fetch (s .template) (s .place)
+abbrev pub here : Program → State → Fetched
+here P s = P .fetch (s .template) (s .place)
 
-  unfoldable pub step : State → Step
-  unfolding act
-  step s = act (here s) s
+unfoldable pub step : Owner → Program → State → Step
+unfolding act
+step o P s = act o P (here P s) s
 
 -- ---- runs
 -- steps: the rules applied; jumps: those that were jumps; firsts: the open conditionals of a tree that took their first arm
@@ -123,7 +126,7 @@ next run k k′ s halt = ended halted k′ s
 next run k k′ s (stop n) = ended (wrongly n) k s
 
 -- at most b more steps
-unfoldable pub run : Program → ℕ → Counts → State → Ended
+unfoldable pub run : Owner → Program → ℕ → Counts → State → Ended
 unfolding next step counted
-run P zero k s = ended spent k s
-run P (suc b) k s = next (λ k′ s′. run P b k′ s′) k (counted (here P s) s k) s (step P s)
+run o P zero k s = ended spent k s
+run o P (suc b) k s = next (λ k′ s′. run o P b k′ s′) k (counted (here P s) s k) s (step o P s)

@@ -18,15 +18,17 @@ use Rattle.files.specs.Linear.{bitsOf, entryBits, entriesBits, byteOf, bytesFro
 use Rattle.files.specs.Orphans.{isTemplate, closes, closureNames, lowestNumber, lowestOrphan}
 use Rattle.files.specs.Accepted.{orLowest, treeChecked, treeAccepted, flatAccepted}
 use Rattle.files.specs.Table.{constantCell}
+use Rattle.owners.specs.Owners.{isOwner, ownerOf}
+use Rattle.rules.specs.Owned.{mayDo, ownedRule}
 use Rattle.integers.specs.Integers.{signed, within, intBits, totalOf, allIntegers}
 use Rattle.rules.specs.Rules.{literalRule, pushRule, addRule, plainRule, makeContRule, returnRule}
 use Rattle.machines.specs.Fetched.{namedBy, asLiteral, ruleOf, resolve, plainly, openCount, first, beyond, look, transfer, decode, treeAt, linearAt}
 use Rattle.machines.specs.Machine.{bind, applied, called, returned, act, step, jumpCount, firstCount, counted, next, run}
-use Rattle.machines.specs.Runs.{freshMemory, Ran, ran, refusedRun, rightLengths, lowestUnfit, fitGlobals, started, startState, endOf, memoryOf, reported, programRun, onTree, onLinear, treeRun, linearRun}
+use Rattle.machines.specs.Runs.{freshMemory, Ran, ran, refusedRun, rightLengths, lowestUnfit, fitGlobals, byOwner, started, startState, endOf, memoryOf, reported, programRun, onTree, onLinear, treeRun, linearRun}
 use Rattle.machines.specs.declared.End.{End}
 use Rattle.machines.specs.declared.End.the-variants.{Halted, Refused}
 
--- what a row tells, with budgets of 100 and 200 steps (a larger one changes no end: longer of agree): the linear file or the refusal's number and place; each machine's end with its answer, and its steps
+-- what a row tells, run as the house with budgets of 100 and 200 steps (a larger one changes no end: longer of agree): the linear file or the refusal's number and place; each machine's end with its answer, and its steps
 pub data Told : Type 0 where
   flattens : List ℕ → End → ℕ → End → ℕ → Told
   refuses : ℕ → ℕ → End → Told
@@ -38,8 +40,8 @@ abbrev pub onOne : ℕ → ℕ → Ran → Told
 onOne n p (ran x m) = refuses n p (x .end)
 
 abbrev pub rowToldOf : List ℕ → Got (List Template) → Told
-rowToldOf s (got ts q) = onTwo (linearFile ts) (treeRun s 100 freshMemory) (linearRun (linearFile ts) 200 freshMemory)
-rowToldOf s (refused n p) = onOne n p (treeRun s 100 freshMemory)
+rowToldOf s (got ts q) = onTwo (linearFile ts) (treeRun s 100 0 freshMemory) (linearRun (linearFile ts) 200 0 freshMemory)
+rowToldOf s (refused n p) = onOne n p (treeRun s 100 0 freshMemory)
 
 abbrev pub rowTold : List ℕ → Told
 rowTold s = rowToldOf s (flatAccepted s)
@@ -59,5 +61,5 @@ expected =
 
 -- P1 to P7, and P8: offset 65,535 splits into 255, 255; 256 into 1, 0
 pub rows : (map rowTold sheets ≡ expected) × (map offset (65535 ∷ 256 ∷ []) ≡ (255 ∷ 255 ∷ []) ∷ (1 ∷ 0 ∷ []) ∷ [])
-unfolding startingGlobal valueOf bitAt fieldAt fieldRead pickField shapeOf isNeutral operandBytes put simple bits withField withList withDeep shaped headAt before after items deepOf listAt then field fieldGot tagWidth constantAt kindAt entryAt entriesAt zeroBits nothingMore templateAt templatesAt paddedEnd treeRead isEmpty isOpen isClosed entryOf suits indexFits eachNeutral indicesFit lowest conditional flat armsFit offsetsFit bitsOf entryBits entriesBits byteOf bytesFrom bytesOf templateBytes templatesBytes linearFile codeAt linearTemplateAt linearTemplatesAt linearRead orLowest treeChecked treeAccepted flatAccepted closes isTemplate closureNames lowestNumber lowestOrphan constantCell signed totalOf within intBits allIntegers literalRule pushRule addRule plainRule makeContRule returnRule namedBy asLiteral ruleOf resolve plainly openCount first beyond look transfer decode treeAt linearAt bind applied called returned act step jumpCount firstCount counted next run refusedRun rightLengths lowestUnfit fitGlobals started startState endOf memoryOf reported programRun onTree onLinear treeRun linearRun
+unfolding startingGlobal valueOf bitAt fieldAt fieldRead pickField shapeOf isNeutral operandBytes put simple bits withField withList withDeep shaped headAt before after items deepOf listAt then field fieldGot tagWidth constantAt kindAt entryAt entriesAt zeroBits nothingMore templateAt templatesAt paddedEnd treeRead isEmpty isOpen isClosed entryOf suits indexFits eachNeutral indicesFit lowest conditional flat armsFit offsetsFit bitsOf entryBits entriesBits byteOf bytesFrom bytesOf templateBytes templatesBytes linearFile codeAt linearTemplateAt linearTemplatesAt linearRead orLowest treeChecked treeAccepted flatAccepted closes isTemplate closureNames lowestNumber lowestOrphan constantCell signed totalOf within intBits allIntegers literalRule pushRule addRule plainRule isOwner ownerOf mayDo ownedRule makeContRule returnRule namedBy asLiteral ruleOf resolve plainly openCount first beyond look transfer decode treeAt linearAt bind applied called returned act step jumpCount firstCount counted next run refusedRun rightLengths lowestUnfit fitGlobals byOwner started startState endOf memoryOf reported programRun onTree onLinear treeRun linearRun
 rows = (refl, refl)

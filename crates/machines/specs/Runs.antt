@@ -6,11 +6,13 @@ use mathlib.Core.Option.{Option, none, some}
 use lib.Dec.{leb, eqb}
 use lib.ListN.{length, replicate}
 use Rattle.cells.specs.Cells.{startingGlobal, undefinedCell, unspecifiedCell, valueOf, cellOf}
-use Rattle.cells.specs.Numbers.{budgetSpent, wrongLength, largeBudget, unfitGlobal}
+use Rattle.cells.specs.Numbers.{budgetSpent, wrongLength, largeBudget, unknownOwner, unfitGlobal}
 use Rattle.files.specs.Reading.{Got, got, refused}
 use Rattle.files.specs.Tree.{Template}
 use Rattle.files.specs.Linear.{Linear, linearRead}
 use Rattle.files.specs.Accepted.{treeChecked, treeAccepted}
+use Rattle.owners.specs.Owners.{isOwner, ownerOf}
+use Rattle.owners.specs.declared.Owner.{Owner}
 use Rattle.rules.specs.State.{mem, regs}
 use Rattle.rules.specs.Rules.{Data}
 use Rattle.machines.specs.Machine.{Program, treeProgram, linearProgram, State, at, noCounts, Ending, halted, wrongly, spent, Ended, run}
@@ -46,7 +48,7 @@ leftOf (ran r m) = m
 unfoldable pub refusedRun : ℕ → ℕ → Memory → Ran
 refusedRun n p m = ran (record { end = Refused n p; steps = 0; stack = 0; store = 0; frames = 0 }) m
 
--- ---- 20, 21, 22
+-- ---- 20, 21, 31, 22
 unfoldable pub rightLengths : Memory → Bool
 rightLengths m = eqb (length (m .globals)) 256 && (eqb (length (m .stack)) 256 && (eqb (length (m .store)) 2048 && eqb (length (m .frames)) 2048))
 
@@ -60,11 +62,16 @@ unfoldable pub fitGlobals : Option ℕ → Memory → Ran → Ran
 fitGlobals (some g) m r = refusedRun unfitGlobal g m
 fitGlobals none m r = r
 
-unfoldable pub started : ℕ → ℕ → Memory → Ran → Ran
-unfolding rightLengths lowestUnfit fitGlobals
-started most b m r =
+-- the run, or refused 31: o is the owner's number
+unfoldable pub byOwner : ℕ → Memory → Ran → Ran
+unfolding isOwner
+byOwner o m r = cond (isOwner o) r (refusedRun unknownOwner 0 m)
+
+unfoldable pub started : ℕ → ℕ → ℕ → Memory → Ran → Ran
+unfolding rightLengths byOwner lowestUnfit fitGlobals
+started most b o m r =
     cond (rightLengths m)
-    (cond (leb b most) (fitGlobals (lowestUnfit 0 (m .globals)) m r) (refusedRun largeBudget 0 m))
+    (cond (leb b most) (byOwner o m (fitGlobals (lowestUnfit 0 (m .globals)) m r)) (refusedRun largeBudget 0 m))
     (refusedRun wrongLength 0 m)
 
 -- ---- the run of a program
@@ -95,30 +102,31 @@ reported e =
     (memoryOf (e .state .now))
 
 -- a program's run from the globals g with b steps at most
-unfoldable pub programRun : Program → ℕ → List ℕ → Ended
-programRun P b g = run P b noCounts (startState g (P .start 0))
+unfoldable pub programRun : Owner → Program → ℕ → List ℕ → Ended
+programRun o P b g = run o P b noCounts (startState g (P .start 0))
 
 -- ---- the two machines
-unfoldable pub onTree : ℕ → Memory → Got (List Template) → Ran
-onTree b m (got ts q) = reported (programRun (treeProgram ts) b (m .globals))
-onTree b m (refused n p) = refusedRun n p m
+unfoldable pub onTree : Owner → ℕ → Memory → Got (List Template) → Ran
+onTree o b m (got ts q) = reported (programRun o (treeProgram ts) b (m .globals))
+onTree o b m (refused n p) = refusedRun n p m
 
-unfoldable pub onLinear : ℕ → Memory → Got (List Linear) → Ran
-onLinear b m (got ts q) = reported (programRun (linearProgram ts) b (m .globals))
-onLinear b m (refused n p) = refusedRun n p m
+unfoldable pub onLinear : Owner → ℕ → Memory → Got (List Linear) → Ran
+onLinear o b m (got ts q) = reported (programRun o (linearProgram ts) b (m .globals))
+onLinear o b m (refused n p) = refusedRun n p m
 
-unfoldable pub treeRun : List ℕ → ℕ → Memory → Ran
-unfolding onTree started
-treeRun s b m = started 1000000 b m (onTree b m (treeAccepted s))
+-- the file, the budget, the owner's number, and what is lent
+unfoldable pub treeRun : List ℕ → ℕ → ℕ → Memory → Ran
+unfolding onTree started ownerOf
+treeRun s b o m = started 1000000 b o m (onTree (ownerOf o) b m (treeAccepted s))
 
 -- the tree machine with request 4's check, 24, left aside: requests 5 and 13 speak of it
-unfoldable pub checkedRun : List ℕ → ℕ → Memory → Ran
-unfolding onTree started
-checkedRun s b m = started 1000000 b m (onTree b m (treeChecked s))
+unfoldable pub checkedRun : List ℕ → ℕ → ℕ → Memory → Ran
+unfolding onTree started ownerOf
+checkedRun s b o m = started 1000000 b o m (onTree (ownerOf o) b m (treeChecked s))
 
-unfoldable pub linearRun : List ℕ → ℕ → Memory → Ran
-unfolding onLinear started
-linearRun s b m = started 2000000 b m (onLinear b m (linearRead s))
+unfoldable pub linearRun : List ℕ → ℕ → ℕ → Memory → Ran
+unfolding onLinear started ownerOf
+linearRun s b o m = started 2000000 b o m (onLinear (ownerOf o) b m (linearRead s))
 
 -- ---- document 01's number for each end
 unfoldable pub numberOf : End → ℕ

@@ -48,7 +48,7 @@ fn globals_refusal(globals: &[u64]) -> Start
     Start::Go
 }
 
-// 20, 21 and 22, where a budget may be `most`.
+// 20, 21, 31 and 22, where a budget may be `most`; `owner` is the owner's number.
 pub fn start_refusal(
     globals: &[u64],
     stack: &[u64],
@@ -56,8 +56,9 @@ pub fn start_refusal(
     frames: &[u64],
     budget: u64,
     most: u64,
+    owner: u64,
 ) -> Start
-    ensures { λ r. ⌜ r ≡ startRefusal most budget (memory (now (globals .entry)) (now (stack .entry)) (now (store .entry)) (now (frames .entry))) ⌝ }
+    ensures { λ r. ⌜ r ≡ startRefusal most budget owner (memory (now (globals .entry)) (now (stack .entry)) (now (store .entry)) (now (frames .entry))) ⌝ }
 {
     if globals.len() != 256 {
         return Start::Refused(20, 0);
@@ -73,6 +74,9 @@ pub fn start_refusal(
     }
     if budget > most {
         return Start::Refused(21, 0);
+    }
+    if !owners::is_owner(owner) {
+        return Start::Refused(31, 0);
     }
     globals_refusal(globals)
 }

@@ -17,12 +17,14 @@ use Rattle.integers.specs.declared.Ranged.{Ranged}
 use Rattle.integers.specs.declared.Ranged.the-variants.{Within, Over}
 use Rattle.integers.specs.declared.Total.{Total}
 use Rattle.integers.specs.declared.Total.the-variants.{Exactly, NotIntegers}
+use Rattle.owners.specs.declared.Owner.{Owner}
 use Rattle.rules.specs.State.{Mem, Held, Res, wrong, need, out, told}
 use Rattle.rules.specs.Fit.{Fit, EndFit}
 use Rattle.rules.specs.Told.{told-next}
 use Rattle.rules.specs.Clean.{plain-fit}
 use Rattle.rules.specs.Lists.{by-lt}
 use Rattle.rules.specs.Rules.{walk, found, top, under, emptied, integerRule, addRule, twoIntegers, divided, plainRule}
+use Rattle.rules.specs.Owned.{mayDo, ownedRule, without-right, by-right, owned-ok}
 use Rattle.rules.specs.Answers.{foundAt, integerBy, RangedFits, operandsOf}
 use Rattle.rules.specs.declared.Regs.{Regs}
 use Rattle.rules.specs.declared.Plain.{Plain}
@@ -165,11 +167,20 @@ module _ (a : ℤ) (b : ℕ) (m : Mem) (r : Regs) (fits : b < full) where
   pub by-other : (b ≡ 0 → ⊥) → integerRule (floorQuotient a (signed b)) m r ≡ divided a (signed b) m r
   by-other h = rw (zero-bits b fits, ne-eqb b 0 h) refl
 
--- ---- where a plain rule goes on, the registers fit
-end-fit : (x : Stepped) (i : Plain) (m m′ : Mem) (r : Regs) → out x m′ ≡ told m (plainRule i m r) → Fit r → EndFit x
-end-fit (Next q) i m m′ r e f = plain-fit i m r _ (r .env + 2048) (told-next m m′ q (plainRule i m r) e) (omega arith) f (omega arith) .0
-end-fit (Wrong n) i m m′ r e f = tt
+-- ---- the owner's right, by what was answered of it
+module _ (o : Owner) (i : Plain) (m : Mem) (r : Regs) (b : Bool) (asked : b ≡ mayDo o i) where
+  pub barred : b ≡ false → wrong 25 ≡ ownedRule o i m r
+  barred h = sym (without-right o i m r (sym asked ∙ h))
 
-pub ended : (i j : Plain) (m m′ : Mem) (r : Regs) (x : Stepped) → i ≡ j → Fit r → out x m′ ≡ told m (plainRule j m r)
-    → (out x m′ ≡ told m (plainRule i m r)) × EndFit x
-ended i j m m′ r x e f p = (rw e p, end-fit x j m m′ r p f)
+  pub allowed : b ≡ true → plainRule i m r ≡ ownedRule o i m r
+  allowed h = sym (by-right o i m r (sym asked ∙ h))
+
+-- ---- where a plain rule goes on, the registers fit
+end-fit : (x : Stepped) (o : Owner) (i : Plain) (m m′ : Mem) (r : Regs) → out x m′ ≡ told m (ownedRule o i m r) → Fit r → EndFit x
+end-fit (Next q) o i m m′ r e f =
+    plain-fit i m r _ (r .env + 2048) (owned-ok o i m r _ (told-next m m′ q (ownedRule o i m r) e) .1) (omega arith) f (omega arith) .0
+end-fit (Wrong n) o i m m′ r e f = tt
+
+pub ended : (o : Owner) (i j : Plain) (m m′ : Mem) (r : Regs) (x : Stepped) → i ≡ j → Fit r → out x m′ ≡ told m (ownedRule o j m r)
+    → (out x m′ ≡ told m (ownedRule o i m r)) × EndFit x
+ended o i j m m′ r x e f p = (rw e p, end-fit x o j m m′ r p f)

@@ -7,6 +7,7 @@ pub mod Answers
 pub mod Told
 pub mod Related
 pub mod Never16
+pub mod Owned
 pub mod Effects
 pub mod Clean
 pub mod Sound

@@ -21,7 +21,7 @@ pub data Never16 {A : Type 0} : Res A → Type 0 where
   goes-on : {a : A} → Never16 (ok a)
   other : {n : ℕ} → (n ≡ 16 → ⊥) → Never16 (wrong n)
 
-need-other : {A : Type 0} {x : Res A} (b : Bool) (n : ℕ) → (n ≡ 16 → ⊥) → Never16 x → Never16 (need b n x)
+pub need-other : {A : Type 0} {x : Res A} (b : Bool) (n : ℕ) → (n ≡ 16 → ⊥) → Never16 x → Never16 (need b n x)
 need-other true n f h = h
 need-other false n f h = other f
 

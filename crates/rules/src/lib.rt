@@ -7,13 +7,15 @@ ghost use Rattle.runs.specs.Runs.{zeroed};
 ghost use Rattle.rules.specs.State.{Mem, mem, regs, out};
 ghost use Rattle.rules.specs.Fit.{Fit, EndFit, CallFit};
 ghost use Rattle.rules.specs.Answers.{ends, foundAt, integerBy, RangedFits, operandsOf, OperandsFit, calledTo};
-ghost use Rattle.rules.specs.Rules.{literalRule, closureRule, heldRule, globalRule, setGlobalRule, walk, localRule, setLocalRule};
+ghost use Rattle.rules.specs.Rules.{literalRule, closureRule, heldRule, walk, localRule, setLocalRule};
 ghost use Rattle.rules.specs.Rules.{pushRule, makeEnvRule, checkArgsRule, consRule, top, partRule, carRule, cdrRule, eqvRule, addRule, subRule, lessRule, floorDivRule};
-ghost use Rattle.rules.specs.Rules.{plainRule, callRule};
+ghost use Rattle.rules.specs.Rules.{callRule};
+ghost use Rattle.rules.specs.Owned.{ownedRule};
 use cells::pair_first;
 use cells::pair_second;
 use integers::Ranged;
 use integers::Total;
+use owners::Owner;
 use runs::copy_down;
 
 // The value, the environment, and how many cells of the stack and of the store are in use.
@@ -136,18 +138,24 @@ fn held(c: u64, r: Regs) -> Stepped
     }
 }
 
-fn global(globals: &[u64], g: u8, r: Regs) -> Stepped
+fn global(owner: Owner, globals: &[u64], g: u8, r: Regs) -> Stepped
     requires { ⌜ length (now globals) ≡ 256 ⌝ }
-    ensures { λ x. ⌜ ((s t : List ℕ) → out x (mem (now (globals .entry)) s t) ≡ ends (globalRule g) (mem (now (globals .entry)) s t) r) ⌝ }
+    ensures { λ x. ⌜ ((s t : List ℕ) → out x (mem (now (globals .entry)) s t) ≡ ends (ownedRule owner (Plain.Global g)) (mem (now (globals .entry)) s t) r) ⌝ }
 {
+    if !owners::may_read(owner, g) {
+        return Stepped::Wrong(25);
+    }
     let at = g as usize;
     held(globals[at], r)
 }
 
-fn set_global(globals: &mut [u64], g: u8, r: Regs) -> Stepped
+fn set_global(owner: Owner, globals: &mut [u64], g: u8, r: Regs) -> Stepped
     requires { ⌜ length (now globals) ≡ 256 ⌝ }
-    ensures { λ x. ⌜ ((s t : List ℕ) → out x (mem (now (globals .exit)) s t) ≡ ends (setGlobalRule g) (mem (now (globals .entry)) s t) r) ⌝ }
+    ensures { λ x. ⌜ ((s t : List ℕ) → out x (mem (now (globals .exit)) s t) ≡ ends (ownedRule owner (Plain.SetGlobal g)) (mem (now (globals .entry)) s t) r) ⌝ }
 {
+    if !owners::may_set(owner, g) {
+        return Stepped::Wrong(25);
+    }
     let at = g as usize;
     globals[at] = r.v;
     Stepped::Next(valued(cells::UNSPECIFIED, r))
@@ -438,7 +446,9 @@ fn floor_div(stack: &mut [u64], r: Regs) -> Stepped
 
 // ---- the plain instructions together
 
+// By the owner's right.
 pub fn plain_rule(
+    owner: Owner,
     i: Plain,
     globals: &mut [u64],
     stack: &mut [u64],
@@ -446,14 +456,14 @@ pub fn plain_rule(
     r: Regs,
 ) -> Stepped
     requires { ⌜ (length (now globals) ≡ 256) × (length (now stack) ≡ 256) × (length (now store) ≡ 2048) × Fit r ⌝ }
-    ensures { λ x. ⌜ out x (mem (now (globals .exit)) (now (stack .exit)) (now (store .exit))) ≡ ends (plainRule i) (mem (now (globals .entry)) (now (stack .entry)) (now (store .entry))) r ⌝ }
+    ensures { λ x. ⌜ out x (mem (now (globals .exit)) (now (stack .exit)) (now (store .exit))) ≡ ends (ownedRule owner i) (mem (now (globals .entry)) (now (stack .entry)) (now (store .entry))) r ⌝ }
     ensures fits { λ x. ⌜ EndFit x ⌝ }
 {
     match i {
         Plain::Literal(c) => literal(c, r),
         Plain::Closure(t) => closure(store, t, r),
-        Plain::Global(g) => global(globals, g, r),
-        Plain::SetGlobal(g) => set_global(globals, g, r),
+        Plain::Global(g) => global(owner, globals, g, r),
+        Plain::SetGlobal(g) => set_global(owner, globals, g, r),
         Plain::Local(a, b) => local(store, a, b, r),
         Plain::SetLocal(a, b) => set_local(store, a, b, r),
         Plain::Push => push(stack, r),

@@ -17,8 +17,10 @@ use Rattle.files.specs.Linear.{Linear, linearRead}
 use Rattle.files.specs.Accepted.{treeAccepted}
 use Rattle.files.specs.Valid.{Bytes}
 use Rattle.rules.specs.Clean.{ZeroFrom}
+use Rattle.owners.specs.Owners.{isOwner, ownerOf}
+use Rattle.owners.specs.declared.Owner.{Owner}
 use Rattle.machines.specs.Machine.{Program, treeProgram, linearProgram, noCounts, Ending, halted, wrongly, spent, run}
-use Rattle.machines.specs.Runs.{Memory, Ran, ran, runOf, refusedRun, rightLengths, lowestUnfit, fitGlobals, started, startState}
+use Rattle.machines.specs.Runs.{Memory, Ran, ran, runOf, refusedRun, rightLengths, lowestUnfit, fitGlobals, byOwner, started, startState}
 use Rattle.machines.specs.Runs.{endOf, answerCell, memoryOf, reported, programRun}
 use Rattle.machines.specs.Runs.{onTree, onLinear, treeRun, linearRun}
 use Rattle.machines.specs.declared.End.{End}
@@ -63,11 +65,11 @@ end-ok halted v M m h = (m, h)
 end-ok (wrongly n) v M m h = m
 end-ok spent v M m h = m
 
-program-ok : (P : Program) → ProgramOk P → (b : ℕ) (g : List ℕ) → FitGlobals g → RanOk (reported (programRun P b g))
+program-ok : (o : Owner) (P : Program) → ProgramOk P → (b : ℕ) (g : List ℕ) → FitGlobals g → RanOk (reported (programRun o P b g))
 unfolding reported programRun memoryOf
-program-ok P fit b g h =
-    let e = run P b noCounts (startState g (P .start 0)) in
-    let k : Kept (e .state) = kept-run P fit g h b (P .start 0) in
+program-ok o P fit b g h =
+    let e = run o P b noCounts (startState g (P .start 0)) in
+    let k : Kept (e .state) = kept-run o P fit g h b (P .start 0) in
     end-ok (e .ending) (e .state .now .regs .v) _
     (record {
       globals-length = k .sized .globals-length;
@@ -81,7 +83,7 @@ program-ok P fit b g h =
       store-zero = k .clean .clean-store;
       frames-zero = k .clean .clean-frames;
     })
-    (value-run P fit g h b (P .start 0) .1)
+    (value-run o P fit g h b (P .start 0) .1)
 
 -- the answer's cell is the cell that v held where the run halted, and cell 0 elsewhere (document 01, 'Rules')
 abbrev answered : Ending → ℕ → ℕ
@@ -89,12 +91,12 @@ answered halted v = v
 answered (wrongly n) v = 0
 answered spent v = 0
 
-pub answer-is : (P : Program) → ProgramOk P → (b : ℕ) (g : List ℕ) → FitGlobals g
-    → answerCell (runOf (reported (programRun P b g)) .end) ≡ answered (programRun P b g .ending) (programRun P b g .state .now .regs .v)
+pub answer-is : (o : Owner) (P : Program) → ProgramOk P → (b : ℕ) (g : List ℕ) → FitGlobals g
+    → answerCell (runOf (reported (programRun o P b g)) .end) ≡ answered (programRun o P b g .ending) (programRun o P b g .state .now .regs .v)
 unfolding reported programRun endOf answerCell
-answer-is P fit b g h =
-    let e = run P b noCounts (startState g (P .start 0)) in
-    by (e .ending) (e .state .now .regs .v) (value-run P fit g h b (P .start 0) .2)
+answer-is o P fit b g h =
+    let e = run o P b noCounts (startState g (P .start 0)) in
+    by (e .ending) (e .state .now .regs .v) (value-run o P fit g h b (P .start 0) .2)
   where
     by : (x : Ending) (v : ℕ) → cellOf (valueOf v) ≡ v → answerCell (endOf x v) ≡ answered x v
     by halted v e = e
@@ -102,35 +104,40 @@ answer-is P fit b g h =
     by spent v e = refl
 
 -- ---- the start
-started-ok : (most b : ℕ) (m : Memory) (r : Ran) → (FitGlobals (m .globals) → RanOk r) → RanOk (started most b m r)
-unfolding started fitGlobals rightLengths
-started-ok most b m r h = lengths (rightLengths m) refl
+started-ok : (most b o : ℕ) (m : Memory) (r : Ran) → (FitGlobals (m .globals) → RanOk r) → RanOk (started most b o m r)
+unfolding started byOwner fitGlobals rightLengths
+started-ok most b o m r h = lengths (rightLengths m) refl
   where
     globals : length (m .globals) ≡ 256 → (o : Option ℕ) → lowestUnfit 0 (m .globals) ≡ o → RanOk (fitGlobals o m r)
     globals l (some g) e = refused-ok 22 g m
     globals l none e = h (fit-globals (m .globals) l e)
 
-    budget : length (m .globals) ≡ 256 → (c : Bool) → RanOk (cond c (fitGlobals (lowestUnfit 0 (m .globals)) m r) (refusedRun 21 0 m))
-    budget l true = globals l (lowestUnfit 0 (m .globals)) refl
+    owner : length (m .globals) ≡ 256 → (c : Bool) → RanOk (cond c (fitGlobals (lowestUnfit 0 (m .globals)) m r) (refusedRun 31 0 m))
+    owner l true = globals l (lowestUnfit 0 (m .globals)) refl
+    owner l false = refused-ok 31 0 m
+
+    budget : length (m .globals) ≡ 256 → (c : Bool) → RanOk (cond c (byOwner o m (fitGlobals (lowestUnfit 0 (m .globals)) m r)) (refusedRun 21 0 m))
+    budget l true = owner l (isOwner o)
     budget l false = refused-ok 21 0 m
 
-    lengths : (c : Bool) → rightLengths m ≡ c → RanOk (cond c (cond (leb b most) (fitGlobals (lowestUnfit 0 (m .globals)) m r) (refusedRun 21 0 m)) (refusedRun 20 0 m))
+    lengths : (c : Bool) → rightLengths m ≡ c
+        → RanOk (cond c (cond (leb b most) (byOwner o m (fitGlobals (lowestUnfit 0 (m .globals)) m r)) (refusedRun 21 0 m)) (refusedRun 20 0 m))
     lengths true e = budget (eqb-true (length (m .globals)) 256 (and-eq-true-iff (eqb (length (m .globals)) 256) _ .0 e .0)) (leb b most)
     lengths false e = refused-ok 20 0 m
 
--- ---- THE LAWS: whatever the file, the budget and the memory lent
-pub tree-run-ok : (s : List ℕ) (b : ℕ) (m : Memory) → RanOk (treeRun s b m)
+-- ---- THE LAWS: whatever the file, the budget, the owner's number and the memory lent
+pub tree-run-ok : (s : List ℕ) (b o : ℕ) (m : Memory) → RanOk (treeRun s b o m)
 unfolding treeRun onTree
-tree-run-ok s b m = started-ok 1000000 b m _ (λ g. read g (treeAccepted s) (tree-accepted-ok s))
+tree-run-ok s b o m = started-ok 1000000 b o m _ (λ g. read g (treeAccepted s) (tree-accepted-ok s))
   where
-    read : FitGlobals (m .globals) → (x : Got (List Template)) → AllGot (λ ts. ProgramOk (treeProgram ts)) x → RanOk (onTree b m x)
-    read g (got ts q) h = program-ok (treeProgram ts) h b (m .globals) g
+    read : FitGlobals (m .globals) → (x : Got (List Template)) → AllGot (λ ts. ProgramOk (treeProgram ts)) x → RanOk (onTree (ownerOf o) b m x)
+    read g (got ts q) h = program-ok (ownerOf o) (treeProgram ts) h b (m .globals) g
     read g (refused n p) h = refused-ok n p m
 
-pub linear-run-ok : (s : List ℕ) → Bytes s → (b : ℕ) (m : Memory) → RanOk (linearRun s b m)
+pub linear-run-ok : (s : List ℕ) → Bytes s → (b o : ℕ) (m : Memory) → RanOk (linearRun s b o m)
 unfolding linearRun onLinear
-linear-run-ok s bytes b m = started-ok 2000000 b m _ (λ g. read g (linearRead s) (linear-ok s bytes))
+linear-run-ok s bytes b o m = started-ok 2000000 b o m _ (λ g. read g (linearRead s) (linear-ok s bytes))
   where
-    read : FitGlobals (m .globals) → (x : Got (List Linear)) → AllGot (λ ts. ProgramOk (linearProgram ts)) x → RanOk (onLinear b m x)
-    read g (got ts q) h = program-ok (linearProgram ts) h b (m .globals) g
+    read : FitGlobals (m .globals) → (x : Got (List Linear)) → AllGot (λ ts. ProgramOk (linearProgram ts)) x → RanOk (onLinear (ownerOf o) b m x)
+    read g (got ts q) h = program-ok (ownerOf o) (linearProgram ts) h b (m .globals) g
     read g (refused n p) h = refused-ok n p m

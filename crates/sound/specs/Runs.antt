@@ -14,8 +14,10 @@ use Rattle.cells.specs.Laws.{cell-value, value-back}
 use Rattle.cells.specs.declared.Value.the-variants.{NoValue}
 use Rattle.files.specs.Entries.{tagWidth}
 use Rattle.files.specs.Table.{constantCell}
+use Rattle.owners.specs.declared.Owner.{Owner}
+use Rattle.rules.specs.Owned.{ownedRule, owned-ok}
 use Rattle.rules.specs.State.{Held, Res, ok, wrong}
-use Rattle.rules.specs.Rules.{Data, plainRule, callRule, makeContRule, Back, noFrame, backTo, returnRule}
+use Rattle.rules.specs.Rules.{Data, callRule, makeContRule, Back, noFrame, backTo, returnRule}
 use Rattle.rules.specs.Effects.{ConstantCell, unspecified-constant, integer-constant}
 use Rattle.rules.specs.Lists.{by-lt}
 use Rattle.rules.specs.Clean.{Sized, Bound, Clean, plain-sized, plain-bound, plain-clean, call-template, call-sized, call-bound, call-clean}
@@ -49,15 +51,18 @@ binds (ok a) f k = k a refl
 binds (wrong n) f k = tt
 
 module _ (s : State) (k : Kept s) where
-  plain-kept : (i : Plain) (p : ℕ) → PlainOk i → (h : Held) → plainRule i (s .now .mem) (s .now .regs) ≡ ok h → Kept (at (applied (s .now) h) (s .template) p)
+  owned-kept : (o : Owner) (i : Plain) (p : ℕ) → PlainOk i → (h : Held) → ownedRule o i (s .now .mem) (s .now .regs) ≡ ok h
+      → Kept (at (applied (s .now) h) (s .template) p)
   unfolding applied
-  plain-kept i p f h e = record {
-    sized = plain-sized i (s .now) h e (k .sized);
-    bound = plain-bound i (s .now) h e (k .bound);
-    clean = plain-clean i (s .now) h e (λ a b l w x. sound-inside a b l (k .sound) x .0) (k .clean);
-    sound = plain-sound (s .now) (k .sized) (k .bound) (k .sound) i h f e;
-    template-byte = k .template-byte;
-  }
+  owned-kept o i p f h y =
+      let e = owned-ok o i (s .now .mem) (s .now .regs) h y .1 in
+      record {
+        sized = plain-sized i (s .now) h e (k .sized);
+        bound = plain-bound i (s .now) h e (k .bound);
+        clean = plain-clean i (s .now) h e (λ a b l w x. sound-inside a b l (k .sound) x .0) (k .clean);
+        sound = plain-sound (s .now) (k .sized) (k .bound) (k .sound) i h f e;
+        template-byte = k .template-byte;
+      }
 
   return-kept : (x : Back) → returnRule (s .now) ≡ x → StepKept (returned x)
   unfolding returned
@@ -92,29 +97,29 @@ module _ (s : State) (k : Kept s) where
   moved-kept : (p : ℕ) → Kept (at (s .now) (s .template) p)
   moved-kept p = record { sized = k .sized; bound = k .bound; clean = k .clean; sound = k .sound; template-byte = k .template-byte }
 
-  act-kept : (P : Program) (F : Fetched) → FetchedOk F → StepKept (act P F s)
+  act-kept : (own : Owner) (P : Program) (F : Fetched) → FetchedOk F → StepKept (act own P F s)
   unfolding act
-  act-kept P (plain i p) f = binds (plainRule i (s .now .mem) (s .now .regs)) _ (plain-kept i p f)
-  act-kept P returns f = return-kept (returnRule (s .now)) refl
-  act-kept P (calls n) f = binds (callRule n (s .now .regs)) _ (λ r e. call-kept n (r .0) (P .start (r .0)) (r .1) e)
-  act-kept P (branches o p q) f = moved-kept _
-  act-kept P (saves n p q) f = binds (makeContRule n (s .template) p (s .now)) _ (save-kept n p q (f .0) (f .1))
-  act-kept P (jumps p) f = moved-kept p
-  act-kept P bad f = tt
+  act-kept own P (plain i p) f = binds (ownedRule own i (s .now .mem) (s .now .regs)) _ (owned-kept own i p f)
+  act-kept own P returns f = return-kept (returnRule (s .now)) refl
+  act-kept own P (calls n) f = binds (callRule n (s .now .regs)) _ (λ r e. call-kept n (r .0) (P .start (r .0)) (r .1) e)
+  act-kept own P (branches o p q) f = moved-kept _
+  act-kept own P (saves n p q) f = binds (makeContRule n (s .template) p (s .now)) _ (save-kept n p q (f .0) (f .1))
+  act-kept own P (jumps p) f = moved-kept p
+  act-kept own P bad f = tt
 
 -- ---- a run
-module _ (P : Program) (fit : ProgramOk P) where
-  pub step-kept : (s s′ : State) → Kept s → step P s ≡ go s′ → Kept s′
+module _ (own : Owner) (P : Program) (fit : ProgramOk P) where
+  pub step-kept : (s s′ : State) → Kept s → step own P s ≡ go s′ → Kept s′
   unfolding step
-  step-kept s s′ k e = rw e at (act-kept s k P (here P s) (fit (s .template) (s .place)))
+  step-kept s s′ k e = rw e at (act-kept s k own P (here P s) (fit (s .template) (s .place)))
 
-  pub run-kept : (b : ℕ) (c : Counts) (s : State) → Kept s → Kept (run P b c s .state)
+  pub run-kept : (b : ℕ) (c : Counts) (s : State) → Kept s → Kept (run own P b c s .state)
   unfolding run next
   run-kept zero c s k = k
-  run-kept (suc b) c s k = turn (λ c s k. run-kept b c s k) (step P s) refl
+  run-kept (suc b) c s k = turn (λ c s k. run-kept b c s k) (step own P s) refl
     where
-      turn : ((c : Counts) (s : State) → Kept s → Kept (run P b c s .state)) → (o : Step) → step P s ≡ o
-          → Kept (next (λ c s. run P b c s) c (counted (here P s) s c) s o .state)
+      turn : ((c : Counts) (s : State) → Kept s → Kept (run own P b c s .state)) → (o : Step) → step own P s ≡ o
+          → Kept (next (λ c s. run own P b c s) c (counted (here P s) s c) s o .state)
       turn on (go s′) e = on _ s′ (step-kept s s′ k e)
       turn on halt e = k
       turn on (stop n) e = k
@@ -192,13 +197,13 @@ has-value : {c : ℕ} → ValueCell c → valueOf c ≡ NoValue → ⊥
 unfolding Fits
 has-value {c} x e = let none : x .value ≡ NoValue = sym (cell-value (x .value) (x .fits)) ∙ (rw (x .is) at e) in rw none at (x .fits)
 
-module _ (P : Program) (fit : ProgramOk P) (g : List ℕ) (fits : FitGlobals g) (b p : ℕ) where
+module _ (own : Owner) (P : Program) (fit : ProgramOk P) (g : List ℕ) (fits : FitGlobals g) (b p : ℕ) where
   -- where the run ends
   abbrev pub last : State
-  last = run P b noCounts (startState g p) .state
+  last = run own P b noCounts (startState g p) .state
 
   pub kept-run : Kept last
-  kept-run = run-kept P fit b noCounts (startState g p) (start-kept g p fits)
+  kept-run = run-kept own P fit b noCounts (startState g p) (start-kept g p fits)
 
   -- at every end globals, stack, store and frames have their lengths, the used counts are within them, and cells not in use are zero
   pub clean-run : Sized (last .now) × Bound (last .now) × Clean (last .now)

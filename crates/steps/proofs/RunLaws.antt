@@ -7,6 +7,7 @@ use native.Mathlib.Omega.{arith}
 use lib.ListN.{length}
 use Rattle.cells.specs.Cells.{valueOf}
 use Rattle.cells.specs.declared.Value.{Value}
+use Rattle.owners.specs.declared.Owner.{Owner}
 use Rattle.rules.specs.State.{regs}
 use Rattle.rules.specs.declared.Regs.{Regs}
 use Rattle.machines.specs.Machine.{Program, State, step}
@@ -23,22 +24,22 @@ use Rattle.steps.specs.declared.OneStep.{OneStep}
 use Rattle.steps.specs.declared.OneStep.the-variants.{Next, Halted, Wrong}
 
 -- the whole budget is left
-pub at-first : (P : Program) (b : ℕ) (s : State) → ranFrom P b (b - b) s ≡ ranFrom P b 0 s
-at-first P b s = rw (sub-self b)
+pub at-first : (own : Owner) (P : Program) (b : ℕ) (s : State) → ranFrom own P b (b - b) s ≡ ranFrom own P b 0 s
+at-first own P b s = rw (sub-self b)
 
 -- ---- a turn in code of a form, which the place c .place is in
-module _ {goal : Ran} (form : Form) (s L table : List ℕ) (left b : ℕ) (m m′ : Memory) (r : Regs) (c : Control) (x : OneStep) (some : 0 < left) (most : left ≤ b)
-    (o : Of form (c .place)) (t : Taken (formOf (c .place)) x m m′ (step (codeProgram (formOf (c .place)) s L table) (stateOf r c m)))
-    (h : ranFrom (codeProgram form s L table) left (b - left) (stateOf r c m) ≡ goal) where
+module _ {goal : Ran} (own : Owner) (form : Form) (s L table : List ℕ) (left b : ℕ) (m m′ : Memory) (r : Regs) (c : Control) (x : OneStep) (some : 0 < left) (most : left ≤ b)
+    (o : Of form (c .place)) (t : Taken (formOf (c .place)) x m m′ (step own (codeProgram (formOf (c .place)) s L table) (stateOf r c m)))
+    (h : ranFrom own (codeProgram form s L table) left (b - left) (stateOf r c m) ≡ goal) where
   abbrev P : Program
   P = codeProgram form s L table
 
-  step-is : meant x m′ ≡ step P (stateOf r c m)
-  step-is = t .meant-is ∙ ap (λ (l : Form). step (codeProgram l s L table) (stateOf r c m)) o
+  step-is : meant x m′ ≡ step own P (stateOf r c m)
+  step-is = t .meant-is ∙ ap (λ (l : Form). step own (codeProgram l s L table) (stateOf r c m)) o
 
-  pub next-turn : (q : Regs) (k : Control) → x ≡ Next q k → ranFrom P (left - 1) (b - (left - 1)) (stateOf q k m′) ≡ goal
+  pub next-turn : (q : Regs) (k : Control) → x ≡ Next q k → ranFrom own P (left - 1) (b - (left - 1)) (stateOf q k m′) ≡ goal
   unfolding meant
-  next-turn q k e = turn-goes P left b (stateOf r c m) (meant x m′) some most step-is h (stateOf q k m′) (rw e)
+  next-turn q k e = turn-goes own P left b (stateOf r c m) (meant x m′) some most step-is h (stateOf q k m′) (rw e)
 
   pub next-place : (q : Regs) (k : Control) → x ≡ Next q k → Of form (k .place)
   unfolding GoesOn
@@ -56,18 +57,18 @@ module _ {goal : Ran} (form : Form) (s L table : List ℕ) (left b : ℕ) (m m�
   halted-turn v y e k i =
       let u : m′ ≡ m = rw e at (t .unchanged) in
       let n : b - (left - 1) ≡ b - left + 1 = omega arith in
-      rw (i, k, u, n) (turn-halts P left b (stateOf r c m) (meant x m′) some most step-is h (rw e))
+      rw (i, k, u, n) (turn-halts own P left b (stateOf r c m) (meant x m′) some most step-is h (rw e))
 
   pub wrong-turn : (n : ℕ) (y : Run) → x ≡ Wrong n → y ≡ endsWith (end.Wrong n) (b - left) r c → ran y m′ ≡ goal
   unfolding meant Unchanged endsIn memoryOf
   wrong-turn n y e i =
       let u : m′ ≡ m = rw e at (t .unchanged) in
-      rw (i, u) (turn-stops P left b (stateOf r c m) (meant x m′) some most step-is h n (rw e))
+      rw (i, u) (turn-stops own P left b (stateOf r c m) (meant x m′) some most step-is h n (rw e))
 
-pub spent-turn : {goal : Ran} (P : Program) (left b : ℕ) (m : Memory) (r : Regs) (c : Control) (y : Run) → left ≤ 0 → ranFrom P left (b - left) (stateOf r c m) ≡ goal
+pub spent-turn : {goal : Ran} (own : Owner) (P : Program) (left b : ℕ) (m : Memory) (r : Regs) (c : Control) (y : Run) → left ≤ 0 → ranFrom own P left (b - left) (stateOf r c m) ≡ goal
     → y ≡ endsWith end.OutOfBudget (b - left) r c → ran y m ≡ goal
 unfolding endsIn memoryOf
-spent-turn P left b m r c y l h i = let n : b - left ≡ b = omega arith in rw (i, n) (budget-spent P left b (stateOf r c m) l h)
+spent-turn own P left b m r c y l h i = let n : b - left ≡ b = omega arith in rw (i, n) (budget-spent own P left b (stateOf r c m) l h)
 
 -- ---- the start
 abbrev firstRegs : Regs

@@ -10,7 +10,9 @@ use Rattle.cells.specs.Cells.{falseCell, frameCell, frameTemplate, framePlace}
 use Rattle.cells.specs.declared.BitPlace.{BitPlace}
 use Rattle.cells.specs.declared.BytePlace.{BytePlace}
 use Rattle.rules.specs.State.{Mem, mem, out, told}
-use Rattle.rules.specs.Rules.{Data, plainRule, callRule, keepRule, makeContRule, returnRule}
+use Rattle.owners.specs.declared.Owner.{Owner}
+use Rattle.rules.specs.Owned.{ownedRule}
+use Rattle.rules.specs.Rules.{Data, callRule, keepRule, makeContRule, returnRule}
 use Rattle.rules.specs.Fit.{Fit, EndFit, CallFit}
 use Rattle.rules.specs.Answers.{calledTo}
 use Rattle.rules.specs.Told.{told-next, told-wrong, called-to, called-wrong}
@@ -72,45 +74,45 @@ unfolding meant Unchanged GoesOn
 stops form n m m′ y e h = record { meant-is = sym e; unchanged = h; goes-on = tt }
 
 -- ---- a plain instruction
-module _ (P : Program) (g s t g′ s′ t′ f : List ℕ) (i : Plain) (p : CodePlace) (r : Regs) (c : Control) (y : Stepped)
-    (e : out y (mem g′ s′ t′) ≡ told (mem g s t) (plainRule i (mem g s t) r)) where
+module _ (own : Owner) (P : Program) (g s t g′ s′ t′ f : List ℕ) (i : Plain) (p : CodePlace) (r : Regs) (c : Control) (y : Stepped)
+    (e : out y (mem g′ s′ t′) ≡ told (mem g s t) (ownedRule own i (mem g s t) r)) where
   pub plain-goes : (q : Regs) → y ≡ ruled.Next q → EndFit y → c .fr ≤ 2048
-      → Taken (formOf p) (Next q (control (c .template) p (c .fr))) (memory g s t f) (memory g′ s′ t′ f) (act P (plain i (number p)) (stateOf r c (memory g s t f)))
+      → Taken (formOf p) (Next q (control (c .template) p (c .fr))) (memory g s t f) (memory g′ s′ t′ f) (act own P (plain i (number p)) (stateOf r c (memory g s t f)))
   unfolding act bind applied
   plain-goes q h fit l =
-      let a = told-next (mem g s t) (mem g′ s′ t′) q (plainRule i (mem g s t) r) (rw h at e) in
+      let a = told-next (mem g s t) (mem g′ s′ t′) q (ownedRule own i (mem g s t) r) (rw h at e) in
       rw a (goes _ q (control (c .template) p (c .fr)) _ _ _ refl (rw h at fit) l refl)
 
-  pub plain-stops : (n : ℕ) → y ≡ ruled.Wrong n → Taken (formOf p) (Wrong n) (memory g s t f) (memory g′ s′ t′ f) (act P (plain i (number p)) (stateOf r c (memory g s t f)))
+  pub plain-stops : (n : ℕ) → y ≡ ruled.Wrong n → Taken (formOf p) (Wrong n) (memory g s t f) (memory g′ s′ t′ f) (act own P (plain i (number p)) (stateOf r c (memory g s t f)))
   unfolding act bind
   plain-stops n h =
-      let a = told-wrong (mem g s t) (mem g′ s′ t′) n (plainRule i (mem g s t) r) (rw h at e) in
+      let a = told-wrong (mem g s t) (mem g′ s′ t′) n (ownedRule own i (mem g s t) r) (rw h at e) in
       rw (a .0) (stops _ n _ _ _ refl (ap (λ (m : Mem). memory (m .globals) (m .stack) (m .store) f) (a .1)))
 
 -- ---- call
-module _ (P : Program) (m : Memory) (n : ℕ) (r : Regs) (c : Control) (y : Called) (e : y ≡ calledTo (callRule n r)) where
+module _ (own : Owner) (P : Program) (m : Memory) (n : ℕ) (r : Regs) (c : Control) (y : Called) (e : y ≡ calledTo (callRule n r)) where
   pub call-goes : (t : ℕ) (q : Regs) (p : CodePlace) → y ≡ callee.To t q → (Fit r → CallFit y) → Fit r → number p ≡ P .start t → c .fr ≤ 2048 → Of (formOf (c .place)) p
-      → Taken (formOf (c .place)) (Next q (control t p (c .fr))) m m (act P (calls n) (stateOf r c m))
+      → Taken (formOf (c .place)) (Next q (control t p (c .fr))) m m (act own P (calls n) (stateOf r c m))
   unfolding act bind called
   call-goes t q p h fit f j l o =
       let a = called-to t q (callRule n r) (sym h ∙ e) in
       rw (a, ← j) (goes _ q (control t p (c .fr)) m m _ refl (rw h at (fit f)) l o)
 
-  pub call-stops : (w : ℕ) → y ≡ callee.Wrong w → Taken (formOf (c .place)) (Wrong w) m m (act P (calls n) (stateOf r c m))
+  pub call-stops : (w : ℕ) → y ≡ callee.Wrong w → Taken (formOf (c .place)) (Wrong w) m m (act own P (calls n) (stateOf r c m))
   unfolding act bind
   call-stops w h = rw (called-wrong w (callRule n r) (sym h ∙ e)) (stops _ w m m _ refl refl)
 
 -- ---- the conditional, and a jump
-module _ (P : Program) (m : Memory) (r : Regs) (c : Control) (fit : Fit r) (l : c .fr ≤ 2048) (p : CodePlace) (x : OneStep) where
-  pub jump-goes : x ≡ Next r (control (c .template) p (c .fr)) → Taken (formOf p) x m m (act P (jumps (number p)) (stateOf r c m))
+module _ (own : Owner) (P : Program) (m : Memory) (r : Regs) (c : Control) (fit : Fit r) (l : c .fr ≤ 2048) (p : CodePlace) (x : OneStep) where
+  pub jump-goes : x ≡ Next r (control (c .template) p (c .fr)) → Taken (formOf p) x m m (act own P (jumps (number p)) (stateOf r c m))
   unfolding act
   jump-goes e = rw e (goes _ r (control (c .template) p (c .fr)) m m _ refl fit l refl)
 
-  pub branch-first : (q : ℕ) → (r .v ≡ falseCell → ⊥) → x ≡ Next r (control (c .template) p (c .fr)) → Taken (formOf p) x m m (act P (branches 0 (number p) q) (stateOf r c m))
+  pub branch-first : (q : ℕ) → (r .v ≡ falseCell → ⊥) → x ≡ Next r (control (c .template) p (c .fr)) → Taken (formOf p) x m m (act own P (branches 0 (number p) q) (stateOf r c m))
   unfolding act
   branch-first q h e = rw (e, ne-eqb (r .v) falseCell h) (goes _ r (control (c .template) p (c .fr)) m m _ refl fit l refl)
 
-  pub branch-second : (form : Form) (q : ℕ) → r .v ≡ falseCell → Of form p → x ≡ Next r (control (c .template) p (c .fr)) → Taken form x m m (act P (branches 0 q (number p)) (stateOf r c m))
+  pub branch-second : (form : Form) (q : ℕ) → r .v ≡ falseCell → Of form p → x ≡ Next r (control (c .template) p (c .fr)) → Taken form x m m (act own P (branches 0 q (number p)) (stateOf r c m))
   unfolding act
   branch-second form q h o e = rw (e, eq-eqb (r .v) falseCell h) (goes _ r (control (c .template) p (c .fr)) m m _ refl fit l o)
 
@@ -118,7 +120,7 @@ module _ (P : Program) (m : Memory) (r : Regs) (c : Control) (fit : Fit r) (l : 
 place-fits : (n t e p cell : ℕ) → cell ≡ frameCell n t e (p % 0x1000000) → p < 2 ^ 24 → cell ≡ frameCell n t e p
 place-fits n t e p cell h l = h ∙ omega arith
 
-module _ (P : Program) (g s t f s′ f′ : List ℕ) (n : ℕ) (p u : CodePlace) (r : Regs) (c : Control) (cell : ℕ) (y : Kept)
+module _ (own : Owner) (P : Program) (g s t f s′ f′ : List ℕ) (n : ℕ) (p u : CodePlace) (r : Regs) (c : Control) (cell : ℕ) (y : Kept)
     (packed : cell ≡ frameCell n (c .template) (r .env) (number p % 0x1000000)) (low : number p < 2 ^ 24)
     (e : left y (mem g s′ t) f′ ≡ toldKept (state r (mem g s t) f (c .fr)) (keepRule n cell (state r (mem g s t) f (c .fr)))) where
   abbrev before-save : Data
@@ -128,14 +130,14 @@ module _ (P : Program) (g s t f s′ f′ : List ℕ) (n : ℕ) (p u : CodePlace
   rule-is = keep-is n (c .template) (number p) cell before-save (place-fits n (c .template) (r .env) (number p) cell packed low)
 
   pub save-goes : (q : Regs) (k : ℕ) → y ≡ saved.On q k → KeptFit y
-      → Taken (formOf u) (Next q (control (c .template) u k)) (memory g s t f) (memory g s′ t f′) (act P (saves n (number p) (number u)) (stateOf r c (memory g s t f)))
+      → Taken (formOf u) (Next q (control (c .template) u k)) (memory g s t f) (memory g s′ t f′) (act own P (saves n (number p) (number u)) (stateOf r c (memory g s t f)))
   unfolding act bind
   save-goes q k h fit =
       let a = kept-on before-save (mem g s′ t) f′ q k _ (rw h at e) in
       let b = rw h at fit in
       rw (← rule-is, a) (goes _ q (control (c .template) u k) _ _ _ refl (b .0) (b .1) refl)
 
-  pub save-stops : (w : ℕ) → y ≡ saved.Wrong w → Taken (formOf u) (Wrong w) (memory g s t f) (memory g s′ t f′) (act P (saves n (number p) (number u)) (stateOf r c (memory g s t f)))
+  pub save-stops : (w : ℕ) → y ≡ saved.Wrong w → Taken (formOf u) (Wrong w) (memory g s t f) (memory g s′ t f′) (act own P (saves n (number p) (number u)) (stateOf r c (memory g s t f)))
   unfolding act bind
   save-stops w h =
       let a = kept-wrong before-save (mem g s′ t) f′ w _ (rw h at e) in
@@ -143,20 +145,20 @@ module _ (P : Program) (g s t f s′ f′ : List ℕ) (n : ℕ) (p u : CodePlace
       rw (← rule-is, a .0) (stops _ w _ _ _ refl (rw (b, a .2)))
 
 -- ---- return
-module _ (P : Program) (g s t f s′ f′ : List ℕ) (r : Regs) (c : Control) (y : Returned)
+module _ (own : Owner) (P : Program) (g s t f s′ f′ : List ℕ) (r : Regs) (c : Control) (y : Returned)
     (e : left y (mem g s′ t) f′ ≡ toldBack (state r (mem g s t) f (c .fr)) (returnRule (state r (mem g s t) f (c .fr)))) where
   abbrev before-return : Data
   before-return = state r (mem g s t) f (c .fr)
 
   pub return-goes : (q : Regs) (k cell n : ℕ) (p : CodePlace) → y ≡ back.To q k cell → BackFit y → n ≡ frameTemplate cell → number p ≡ framePlace cell → Of (formOf (c .place)) p
-      → Taken (formOf (c .place)) (Next q (control n p k)) (memory g s t f) (memory g s′ t f′) (act P returns (stateOf r c (memory g s t f)))
+      → Taken (formOf (c .place)) (Next q (control n p k)) (memory g s t f) (memory g s′ t f′) (act own P returns (stateOf r c (memory g s t f)))
   unfolding act returned
   return-goes q k cell n p h fit i j o =
       let a = back-to before-return (mem g s′ t) f′ q k cell (rw h at e) in
       let b = rw h at fit in
       rw (a, ← i, ← j) (goes _ q (control n p k) _ _ _ refl (b .0) (b .1) o)
 
-  pub return-halts : y ≡ back.Halt → Taken (formOf (c .place)) Halted (memory g s t f) (memory g s′ t f′) (act P returns (stateOf r c (memory g s t f)))
+  pub return-halts : y ≡ back.Halt → Taken (formOf (c .place)) Halted (memory g s t f) (memory g s′ t f′) (act own P returns (stateOf r c (memory g s t f)))
   unfolding act returned meant Unchanged GoesOn
   return-halts h =
       let a = back-halt before-return (mem g s′ t) f′ _ (rw h at e) in
@@ -174,20 +176,20 @@ unfolding resolvedAs
 unfit-as none e = refl
 unfit-as (some j) e = clash (cc)
 
-module _ (P : Program) (o : Option Plain) (p : CodePlace) (m : Memory) (r : Regs) (c : Control) (y : Resolved) (e : y ≡ resolvedAs o) where
-  pub neutral-goes : (m′ : Memory) (i : Plain) (x : OneStep) → y ≡ Resolves i → Taken (formOf p) x m m′ (act P (plain i (number p)) (stateOf r c m))
-      → Taken (formOf p) x m m′ (act P (plainly o (number p)) (stateOf r c m))
+module _ (own : Owner) (P : Program) (o : Option Plain) (p : CodePlace) (m : Memory) (r : Regs) (c : Control) (y : Resolved) (e : y ≡ resolvedAs o) where
+  pub neutral-goes : (m′ : Memory) (i : Plain) (x : OneStep) → y ≡ Resolves i → Taken (formOf p) x m m′ (act own P (plain i (number p)) (stateOf r c m))
+      → Taken (formOf p) x m m′ (act own P (plainly o (number p)) (stateOf r c m))
   unfolding plainly
   neutral-goes m′ i x h t = rw (resolved-as o i (sym h ∙ e)) t
 
-  pub neutral-stops : y ≡ Unfit → Taken (formOf p) (Wrong 16) m m (act P (plainly o (number p)) (stateOf r c m))
+  pub neutral-stops : y ≡ Unfit → Taken (formOf p) (Wrong 16) m m (act own P (plainly o (number p)) (stateOf r c m))
   unfolding act plainly
   neutral-stops h = rw (unfit-as o (sym h ∙ e)) (stops _ 16 m m _ refl refl)
 
 -- ---- bad
-pub bad-stops : (form : Form) (P : Program) (m : Memory) (r : Regs) (c : Control) → Taken form (Wrong 16) m m (act P bad (stateOf r c m))
+pub bad-stops : (form : Form) (own : Owner) (P : Program) (m : Memory) (r : Regs) (c : Control) → Taken form (Wrong 16) m m (act own P bad (stateOf r c m))
 unfolding act
-bad-stops form P m r c = stops form 16 m m _ refl refl
+bad-stops form own P m r c = stops form 16 m m _ refl refl
 
 -- ---- where a template's code begins
 pub starts : (form : Form) (s L table : List ℕ) (t : ℕ) → startAt form table t ≡ codeProgram form s L table .start t
@@ -196,11 +198,11 @@ starts treeForm s L table t = refl
 starts linearForm s L table t = refl
 
 -- ---- a step, by what was fetched
-module _ (s L table : List ℕ) (r : Regs) (c : Control) (x z : Instruction)
+module _ (own : Owner) (s L table : List ℕ) (r : Regs) (c : Control) (x z : Instruction)
     (e : fetchedAs (slotAt table (c .template)) x ≡ codeProgram (formOf (c .place)) s L table .fetch (c .template) (number (c .place))) (h : x ≡ z) where
   pub step-is : (m m′ : Memory) (y : OneStep)
-      → Taken (formOf (c .place)) y m m′ (act (codeProgram (formOf (c .place)) s L table) (fetchedAs (slotAt table (c .template)) z) (stateOf r c m))
-      → Taken (formOf (c .place)) y m m′ (step (codeProgram (formOf (c .place)) s L table) (stateOf r c m))
+      → Taken (formOf (c .place)) y m m′ (act own (codeProgram (formOf (c .place)) s L table) (fetchedAs (slotAt table (c .template)) z) (stateOf r c m))
+      → Taken (formOf (c .place)) y m m′ (step own (codeProgram (formOf (c .place)) s L table) (stateOf r c m))
   unfolding step
   step-is m m′ y t = rw (← e, h) t
 

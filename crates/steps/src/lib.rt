@@ -9,6 +9,7 @@ use machines::End;
 use machines::Instruction;
 use machines::Resolved;
 use machines::Run;
+use owners::Owner;
 use rules::Called;
 use rules::Plain;
 use rules::Regs;
@@ -87,6 +88,7 @@ fn fetch(file: &[u8], links: &[u32], table: &[u64], template: u8, at: CodePlace)
 // ---- each kind of instruction
 
 fn act_plain(
+    owner: Owner,
     i: Plain,
     next: CodePlace,
     globals: &mut [u64],
@@ -96,9 +98,9 @@ fn act_plain(
     c: Control,
 ) -> OneStep
     requires { ⌜ (length (now globals) ≡ 256) × (length (now stack) ≡ 256) × (length (now store) ≡ 2048) × Fit r × (c .fr ≤ 2048) ⌝ }
-    ensures { λ x. ⌜ ((P : Program) (f : List ℕ) → Taken (formOf next) x (memory (now (globals .entry)) (now (stack .entry)) (now (store .entry)) f) (memory (now (globals .exit)) (now (stack .exit)) (now (store .exit)) f) (act P (plain i (number next)) (stateOf r c (memory (now (globals .entry)) (now (stack .entry)) (now (store .entry)) f)))) ⌝ }
+    ensures { λ x. ⌜ ((P : Program) (f : List ℕ) → Taken (formOf next) x (memory (now (globals .entry)) (now (stack .entry)) (now (store .entry)) f) (memory (now (globals .exit)) (now (stack .exit)) (now (store .exit)) f) (act owner P (plain i (number next)) (stateOf r c (memory (now (globals .entry)) (now (stack .entry)) (now (store .entry)) f)))) ⌝ }
 {
-    match rules::plain_rule(i, globals, stack, store, r) {
+    match rules::plain_rule(owner, i, globals, stack, store, r) {
         Stepped::Next(q) => {
             OneStep::Next(
                 q,
@@ -115,6 +117,7 @@ fn act_plain(
 
 // A neutral code with operands a and b, of which it may have fewer.
 fn act_neutral(
+    owner: Owner,
     table: &[u64],
     op: u8,
     a: u8,
@@ -127,17 +130,17 @@ fn act_neutral(
     c: Control,
 ) -> OneStep
     requires { ⌜ (length (now globals) ≡ 256) × (length (now stack) ≡ 256) × (length (now store) ≡ 2048) × Fit r × (c .fr ≤ 2048) ⌝ }
-    ensures { λ x. ⌜ ((P : Program) (f : List ℕ) → Taken (formOf next) x (memory (now (globals .entry)) (now (stack .entry)) (now (store .entry)) f) (memory (now (globals .exit)) (now (stack .exit)) (now (store .exit)) f) (act P (plainly (slotResolve (slotAt (now (table .entry)) (c .template)) op a b) (number next)) (stateOf r c (memory (now (globals .entry)) (now (stack .entry)) (now (store .entry)) f)))) ⌝ }
+    ensures { λ x. ⌜ ((P : Program) (f : List ℕ) → Taken (formOf next) x (memory (now (globals .entry)) (now (stack .entry)) (now (store .entry)) f) (memory (now (globals .exit)) (now (stack .exit)) (now (store .exit)) f) (act owner P (plainly (slotResolve (slotAt (now (table .entry)) (c .template)) op a b) (number next)) (stateOf r c (memory (now (globals .entry)) (now (stack .entry)) (now (store .entry)) f)))) ⌝ }
 {
     match machines::resolve(table, c.template, op, a, b) {
-        Resolved::Fit(i) => act_plain(i, next, globals, stack, store, r, c),
+        Resolved::Fit(i) => act_plain(owner, i, next, globals, stack, store, r, c),
         Resolved::Unfit => OneStep::Wrong(16),
     }
 }
 
 fn act_call(table: &[u64], n: u8, r: Regs, c: Control) -> OneStep
     requires { ⌜ Fit r × (c .fr ≤ 2048) ⌝ }
-    ensures { λ x. ⌜ ((P : Program) (m : Memory) → ((t : ℕ) → startAt (formOf (c .place)) (now (table .entry)) t ≡ P .start t) → Taken (formOf (c .place)) x m m (act P (calls n) (stateOf r c m))) ⌝ }
+    ensures { λ x. ⌜ ((o : Owner) (P : Program) (m : Memory) → ((t : ℕ) → startAt (formOf (c .place)) (now (table .entry)) t ≡ P .start t) → Taken (formOf (c .place)) x m m (act o P (calls n) (stateOf r c m))) ⌝ }
 {
     match rules::call(n, r) {
         Called::To(template, q) => {
@@ -158,7 +161,7 @@ fn act_call(table: &[u64], n: u8, r: Regs, c: Control) -> OneStep
 
 fn act_branch(first: CodePlace, second: CodePlace, r: Regs, c: Control) -> OneStep
     requires { ⌜ Fit r × (c .fr ≤ 2048) × Of (formOf first) second ⌝ }
-    ensures { λ x. ⌜ ((P : Program) (m : Memory) → Taken (formOf first) x m m (act P (branches 0 (number first) (number second)) (stateOf r c m))) ⌝ }
+    ensures { λ x. ⌜ ((o : Owner) (P : Program) (m : Memory) → Taken (formOf first) x m m (act o P (branches 0 (number first) (number second)) (stateOf r c m))) ⌝ }
 {
     if r.v == cells::FALSE {
         act_jump(second, r, c)
@@ -191,7 +194,7 @@ fn act_save(
     c: Control,
 ) -> OneStep
     requires { ⌜ (length (now stack) ≡ 256) × (length (now frames) ≡ 2048) × Fit r × (c .fr ≤ 2048) × (number saved < 2 ^ 24) ⌝ }
-    ensures { λ x. ⌜ ((P : Program) (g t : List ℕ) → Taken (formOf rest) x (memory g (now (stack .entry)) t (now (frames .entry))) (memory g (now (stack .exit)) t (now (frames .exit))) (act P (saves n (number saved) (number rest)) (stateOf r c (memory g (now (stack .entry)) t (now (frames .entry)))))) ⌝ }
+    ensures { λ x. ⌜ ((o : Owner) (P : Program) (g t : List ℕ) → Taken (formOf rest) x (memory g (now (stack .entry)) t (now (frames .entry))) (memory g (now (stack .exit)) t (now (frames .exit))) (act o P (saves n (number saved) (number rest)) (stateOf r c (memory g (now (stack .entry)) t (now (frames .entry)))))) ⌝ }
 {
     let cell = frame_of(n, c.template, r.env, saved);
     match frames::make_cont(stack, frames, c.fr, r, n, cell) {
@@ -211,7 +214,7 @@ fn act_save(
 
 fn act_return(stack: &mut [u64], frames: &mut [u64], r: Regs, c: Control) -> OneStep
     requires { ⌜ (length (now stack) ≡ 256) × (length (now frames) ≡ 2048) × Fit r × (c .fr ≤ 2048) ⌝ }
-    ensures { λ x. ⌜ ((P : Program) (g t : List ℕ) → Taken (formOf (c .place)) x (memory g (now (stack .entry)) t (now (frames .entry))) (memory g (now (stack .exit)) t (now (frames .exit))) (act P returns (stateOf r c (memory g (now (stack .entry)) t (now (frames .entry)))))) ⌝ }
+    ensures { λ x. ⌜ ((o : Owner) (P : Program) (g t : List ℕ) → Taken (formOf (c .place)) x (memory g (now (stack .entry)) t (now (frames .entry))) (memory g (now (stack .exit)) t (now (frames .exit))) (act o P returns (stateOf r c (memory g (now (stack .entry)) t (now (frames .entry)))))) ⌝ }
 {
     match frames::give_back(stack, frames, c.fr, r) {
         Returned::To(q, fr, cell) => {
@@ -232,6 +235,7 @@ fn act_return(stack: &mut [u64], frames: &mut [u64], r: Regs, c: Control) -> One
 }
 
 fn take_step(
+    owner: Owner,
     file: &[u8],
     links: &[u32],
     table: &[u64],
@@ -243,12 +247,12 @@ fn take_step(
     c: Control,
 ) -> OneStep
     requires { ⌜ StepReady (now file) (now table) (memory (now globals) (now stack) (now store) (now frames)) r c ⌝ }
-    ensures { λ x. ⌜ Taken (formOf (c .place)) x (memory (now (globals .entry)) (now (stack .entry)) (now (store .entry)) (now (frames .entry))) (memory (now (globals .exit)) (now (stack .exit)) (now (store .exit)) (now (frames .exit))) (step (codeProgram (formOf (c .place)) (now (file .entry)) (now (links .entry)) (now (table .entry))) (stateOf r c (memory (now (globals .entry)) (now (stack .entry)) (now (store .entry)) (now (frames .entry))))) ⌝ }
+    ensures { λ x. ⌜ Taken (formOf (c .place)) x (memory (now (globals .entry)) (now (stack .entry)) (now (store .entry)) (now (frames .entry))) (memory (now (globals .exit)) (now (stack .exit)) (now (store .exit)) (now (frames .exit))) (step owner (codeProgram (formOf (c .place)) (now (file .entry)) (now (links .entry)) (now (table .entry))) (stateOf r c (memory (now (globals .entry)) (now (stack .entry)) (now (store .entry)) (now (frames .entry))))) ⌝ }
 {
     let place = c.place;
     match fetch(file, links, table, c.template, place) {
         Instruction::Neutral(op, a, b, next) => {
-            act_neutral(table, op, a, b, next, globals, stack, store, r, c)
+            act_neutral(owner, table, op, a, b, next, globals, stack, store, r, c)
         }
         Instruction::Return => act_return(stack, frames, r, c),
         Instruction::Call(n) => act_call(table, n, r, c),
@@ -285,18 +289,30 @@ fn run_from(
     store: &mut [u64],
     frames: &mut [u64],
     budget: u64,
+    owner: Owner,
     first: Regs,
     from: Control,
 ) -> Run
     requires { ⌜ StepReady (now file) (now table) (memory (now globals) (now stack) (now store) (now frames)) first from ⌝ }
-    ensures { λ x. ⌜ ran x (memory (now (globals .exit)) (now (stack .exit)) (now (store .exit)) (now (frames .exit))) ≡ ranFrom (codeProgram (formOf (from .place)) (now (file .entry)) (now (links .entry)) (now (table .entry))) budget 0 (stateOf first from (memory (now (globals .entry)) (now (stack .entry)) (now (store .entry)) (now (frames .entry)))) ⌝ }
+    ensures { λ x. ⌜ ran x (memory (now (globals .exit)) (now (stack .exit)) (now (store .exit)) (now (frames .exit))) ≡ ranFrom owner (codeProgram (formOf (from .place)) (now (file .entry)) (now (links .entry)) (now (table .entry))) budget 0 (stateOf first from (memory (now (globals .entry)) (now (stack .entry)) (now (store .entry)) (now (frames .entry)))) ⌝ }
 {
     let mut r = first;
     let mut c = from;
     let mut left = budget;
     while 0 < left {
         let rest = left - 1;
-        match take_step(file, links, table, globals, stack, store, frames, r, c) {
+        match take_step(
+            owner,
+            file,
+            links,
+            table,
+            globals,
+            stack,
+            store,
+            frames,
+            r,
+            c,
+        ) {
             OneStep::Next(q, k) => {
                 r = q;
                 c = k;
@@ -320,13 +336,14 @@ pub fn run_code(
     table: &[u64],
     first: CodePlace,
     budget: u64,
+    owner: Owner,
     globals: &mut [u64],
     stack: &mut [u64],
     store: &mut [u64],
     frames: &mut [u64],
 ) -> Run
     requires { ⌜ CodeReady (formOf first) (now file) (now table) × (length (now globals) ≡ 256) × (length (now stack) ≡ 256) × (length (now store) ≡ 2048) × (length (now frames) ≡ 2048) ⌝ }
-    ensures { λ x. ⌜ ran x (memory (now (globals .exit)) (now (stack .exit)) (now (store .exit)) (now (frames .exit))) ≡ ranFrom (codeProgram (formOf first) (now (file .entry)) (now (links .entry)) (now (table .entry))) budget 0 (startState (now (globals .entry)) (number first)) ⌝ }
+    ensures { λ x. ⌜ ran x (memory (now (globals .exit)) (now (stack .exit)) (now (store .exit)) (now (frames .exit))) ≡ ranFrom owner (codeProgram (formOf first) (now (file .entry)) (now (links .entry)) (now (table .entry))) budget 0 (startState (now (globals .entry)) (number first)) ⌝ }
 {
     machines::clear_all(stack, store, frames);
     let registers = Regs {
@@ -349,6 +366,7 @@ pub fn run_code(
         store,
         frames,
         budget,
+        owner,
         registers,
         from,
     )

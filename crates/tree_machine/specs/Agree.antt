@@ -10,6 +10,7 @@ use Rattle.files.specs.Table.{treeTable}
 use Rattle.files.specs.Tree.{Template}
 use Rattle.files.specs.Accepted.{treeChecked}
 use Rattle.links.specs.Links.{linkedAll}
+use Rattle.owners.specs.declared.Owner.{Owner}
 use Rattle.machines.specs.Fetched.{Fetched, plain, returns, calls, branches, saves, jumps, bad, treeAt}
 use Rattle.machines.specs.Machine.{Program, treeProgram, noCounts, Ended}
 use Rattle.machines.specs.Runs.{reported, startState, programRun}
@@ -22,7 +23,7 @@ use Rattle.tree_code.specs.Fetch.{linkedProgram}
 use Rattle.tree_machine.specs.Look.{seen, Leads}
 use Rattle.tree_machine.specs.Places.{Standing, fetches, starts-agree, start-stands, standing-fits}
 
-module _ (s : List ℕ) (ts : List Template) (q : ℕ) (accepted : treeChecked s ≡ got ts q) (L₀ : List ℕ) (long : 8 * length s ≤ 5 * length L₀) where
+module _ (s : List ℕ) (ts : List Template) (q : ℕ) (accepted : treeChecked s ≡ got ts q) (L₀ : List ℕ) (long : 8 * length s ≤ 5 * length L₀) (o : Owner) where
   abbrev P : Program
   P = linkedProgram s (linkedAll L₀ ts) (treeTable ts)
 
@@ -34,12 +35,12 @@ module _ (s : List ℕ) (ts : List Template) (q : ℕ) (accepted : treeChecked s
   R t p t′ p′ j = (t ≡ t′) × (p ≡ p′) × Standing ts t p × (t < 256) × (j ≡ 0)
 
   -- what is fetched by the links does not tell open conditionals from closed ones
-  fetched : (t : ℕ) (F : Fetched) → t < 256 → Leads (Standing ts t) F → Fetches R (same-but-places R) ⊥ t t (seen F) F
+  fetched : (t : ℕ) (F : Fetched) → t < 256 → Leads (Standing ts t) F → Fetches R (same-but-places R o) ⊥ t t (seen F) F
   unfolding seen Leads same-but-places
   fetched t (plain i p) h l = plainF refl (refl, refl, l, h, refl)
   fetched t returns h l = returnF
   fetched t (calls n) h l = callF
-  fetched t (branches o p p′) h l = branchF (λ z. absurd z) (refl, refl, l .0, h, refl) (refl, refl, l .1, h, refl)
+  fetched t (branches n p p′) h l = branchF (λ z. absurd z) (refl, refl, l .0, h, refl) (refl, refl, l .1, h, refl)
   fetched t (saves n p p′) h l =
       let f : p < 8 * 65536 = standing-fits s ts q accepted t p (l .1) in
       let v : Savable R n t p t p 0 =
@@ -48,7 +49,7 @@ module _ (s : List ℕ) (ts : List Template) (q : ℕ) (accepted : treeChecked s
   fetched t (jumps p) h l = jumpF (refl, refl, l, h, refl)
   fetched t bad h l = badF
 
-  paired : Paired R (same-but-places R) ⊥ P Q
+  paired : Paired R (same-but-places R o) ⊥ P Q
   unfolding same-but-places
   paired = record {
     fetches = λ {t} {p} r.
@@ -57,15 +58,15 @@ module _ (s : List ℕ) (ts : List Template) (q : ℕ) (accepted : treeChecked s
     starts = λ {t} r. rw (← r .0) (refl, starts-agree s ts q accepted t, rw (starts-agree s ts q accepted t) (start-stands s ts q accepted t), r .1, refl);
   }
 
-  ends-same : {x y : Ended} → EndedR R (same-but-places R) ⊥ x y → reported x ≡ reported y
+  ends-same : {x y : Ended} → EndedR R (same-but-places R o) ⊥ x y → reported x ≡ reported y
   unfolding reported same-but-places
   ends-same e = rw (e .same-ending, e .tallies .same-steps, same-data R (λ t p t′ q j r. (r .0, r .1)) (e .states .data-ok)) refl
 
   -- THE LAW
-  pub tree-run : (b : ℕ) (g : List ℕ) → ranFrom P b 0 (startState g (slotAt (treeTable ts) 0 0)) ≡ reported (programRun (treeProgram ts) b g)
+  pub tree-run : (b : ℕ) (g : List ℕ) → ranFrom o P b 0 (startState g (slotAt (treeTable ts) 0 0)) ≡ reported (programRun o (treeProgram ts) b g)
   unfolding programRun ranFrom startState same-but-places
   tree-run b g =
       rw (starts-agree s ts q accepted 0)
       (ends-same
-      (run-alike R (same-but-places R) ⊥ P Q paired b noCounts noCounts (startState g (Q .start 0)) (startState g (Q .start 0)) (no-counts R (same-but-places R) ⊥)
+      (run-alike R (same-but-places R o) ⊥ P Q paired b noCounts noCounts (startState g (Q .start 0)) (startState g (Q .start 0)) (no-counts R (same-but-places R o) ⊥)
       (record { data-ok = start-same R g (Q .start 0) (Q .start 0); place-ok = (refl, refl, start-stands s ts q accepted 0, omega arith, refl) })))

@@ -3,6 +3,7 @@ use cells::BitPlace;
 use machines::CodePlace;
 use machines::Run;
 use machines::Start;
+use owners::Owner;
 use tree::Judged;
 ghost use mathlib.Core.Path.{_≡_};
 ghost use Prim.Native.Nat.{_*_, _≤_};
@@ -20,13 +21,14 @@ fn run_linked(
     count: usize,
     links: &mut [u32],
     budget: u64,
+    owner: Owner,
     globals: &mut [u64],
     stack: &mut [u64],
     store: &mut [u64],
     frames: &mut [u64],
 ) -> Run
     requires { ⌜ MayStart 1000000 budget (memory (now globals) (now stack) (now store) (now frames)) × FileReady (now file) (now table) count × (length (now table) ≡ 16384) × (treeAccepted (now file) ≡ treeRead (now file)) × (8 * length (now file) ≤ 5 * length (now links)) ⌝ }
-    ensures { λ x. ⌜ ran x (memory (now (globals .exit)) (now (stack .exit)) (now (store .exit)) (now (frames .exit))) ≡ onTree budget (memory (now (globals .entry)) (now (stack .entry)) (now (store .entry)) (now (frames .entry))) (treeAccepted (now (file .entry))) ⌝ }
+    ensures { λ x. ⌜ ran x (memory (now (globals .exit)) (now (stack .exit)) (now (store .exit)) (now (frames .exit))) ≡ onTree owner budget (memory (now (globals .entry)) (now (stack .entry)) (now (store .entry)) (now (frames .entry))) (treeAccepted (now (file .entry))) ⌝ }
 {
     links::link_tree(file, table, count, links);
     let start = machines::slot_at(table, 0, 0) as usize;
@@ -37,6 +39,7 @@ fn run_linked(
         table,
         first,
         budget,
+        owner,
         globals,
         stack,
         store,
@@ -51,13 +54,14 @@ fn run_read(
     table: &[u64],
     count: usize,
     budget: u64,
+    owner: Owner,
     globals: &mut [u64],
     stack: &mut [u64],
     store: &mut [u64],
     frames: &mut [u64],
 ) -> Run
     requires { ⌜ MayStart 1000000 budget (memory (now globals) (now stack) (now store) (now frames)) × FileReady (now file) (now table) count × (length (now table) ≡ 16384) × (treeAccepted (now file) ≡ treeRead (now file)) ⌝ }
-    ensures { λ x. ⌜ ran x (memory (now (globals .exit)) (now (stack .exit)) (now (store .exit)) (now (frames .exit))) ≡ onTree budget (memory (now (globals .entry)) (now (stack .entry)) (now (store .entry)) (now (frames .entry))) (treeAccepted (now (file .entry))) ⌝ }
+    ensures { λ x. ⌜ ran x (memory (now (globals .exit)) (now (stack .exit)) (now (store .exit)) (now (frames .exit))) ≡ onTree owner budget (memory (now (globals .entry)) (now (stack .entry)) (now (store .entry)) (now (frames .entry))) (treeAccepted (now (file .entry))) ⌝ }
 {
     if file.len() <= 4096 {
         let mut links = [0u32; 6554];
@@ -67,6 +71,7 @@ fn run_read(
             count,
             &mut links,
             budget,
+            owner,
             globals,
             stack,
             store,
@@ -80,6 +85,7 @@ fn run_read(
             count,
             &mut links,
             budget,
+            owner,
             globals,
             stack,
             store,
@@ -88,18 +94,19 @@ fn run_read(
     }
 }
 
-// The run of a file where 20, 21 and 22 are not given. The table is zeros.
+// The run of a file where 20, 21, 31 and 22 are not given. The table is zeros.
 fn run_file(
     file: &[u8],
     table: &mut [u64],
     budget: u64,
+    owner: Owner,
     globals: &mut [u64],
     stack: &mut [u64],
     store: &mut [u64],
     frames: &mut [u64],
 ) -> Run
     requires { ⌜ MayStart 1000000 budget (memory (now globals) (now stack) (now store) (now frames)) × (now table ≡ zeros 16384) ⌝ }
-    ensures { λ x. ⌜ ran x (memory (now (globals .exit)) (now (stack .exit)) (now (store .exit)) (now (frames .exit))) ≡ onTree budget (memory (now (globals .entry)) (now (stack .entry)) (now (store .entry)) (now (frames .entry))) (treeAccepted (now (file .entry))) ⌝ }
+    ensures { λ x. ⌜ ran x (memory (now (globals .exit)) (now (stack .exit)) (now (store .exit)) (now (frames .exit))) ≡ onTree owner budget (memory (now (globals .entry)) (now (stack .entry)) (now (store .entry)) (now (frames .entry))) (treeAccepted (now (file .entry))) ⌝ }
 {
     match tree::read_accepted(file, table) {
         Judged::Accepted(sum) => run_read(
@@ -107,6 +114,7 @@ fn run_file(
             table,
             sum.count as usize,
             budget,
+            owner,
             globals,
             stack,
             store,
@@ -119,17 +127,28 @@ fn run_file(
 pub fn run_tree(
     file: &[u8],
     budget: u64,
+    owner: u64,
     globals: &mut [u64],
     stack: &mut [u64],
     store: &mut [u64],
     frames: &mut [u64],
 ) -> Run
-    ensures { λ x. ⌜ ran x (memory (now (globals .exit)) (now (stack .exit)) (now (store .exit)) (now (frames .exit))) ≡ treeRun (now (file .entry)) budget (memory (now (globals .entry)) (now (stack .entry)) (now (store .entry)) (now (frames .entry))) ⌝ }
+    ensures { λ x. ⌜ ran x (memory (now (globals .exit)) (now (stack .exit)) (now (store .exit)) (now (frames .exit))) ≡ treeRun (now (file .entry)) budget owner (memory (now (globals .entry)) (now (stack .entry)) (now (store .entry)) (now (frames .entry))) ⌝ }
 {
-    match machines::start_refusal(globals, stack, store, frames, budget, 1_000_000) {
+    match machines::start_refusal(globals, stack, store, frames, budget, 1_000_000, owner) {
         Start::Go => {
+            let whose = owners::owner_of(owner);
             let mut table = [0u64; 16384];
-            run_file(file, &mut table, budget, globals, stack, store, frames)
+            run_file(
+                file,
+                &mut table,
+                budget,
+                whose,
+                globals,
+                stack,
+                store,
+                frames,
+            )
         }
         Start::Refused(number, place) => machines::refused(number, place),
     }

@@ -12,7 +12,7 @@ run-linear-requires : tie.Need-run-linear-requires
 run-linear-requires c κs = search needs
 
 put-run-requires : tie.Need-put-run-requires
-put-run-requires c κs = (search needs, answer-fits (c .before .before .before .before .before .before .before .before .before .run-linear .ensures) (linear-fits _ _ _))
+put-run-requires c κs = (search needs, answer-fits (c .before .before .before .before .before .before .before .before .before .run-linear .ensures) (linear-fits _ _ _ _))
 
 same-length : tie.Need-same-length
 same-length c = search needs

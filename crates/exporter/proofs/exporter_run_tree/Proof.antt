@@ -12,7 +12,7 @@ run-tree-requires : tie.Need-run-tree-requires
 run-tree-requires c κs = search needs
 
 put-run-requires : tie.Need-put-run-requires
-put-run-requires c κs = (search needs, answer-fits (c .before .before .before .before .before .before .before .before .before .run-tree .ensures) (tree-fits _ _ _))
+put-run-requires c κs = (search needs, answer-fits (c .before .before .before .before .before .before .before .before .before .run-tree .ensures) (tree-fits _ _ _ _))
 
 same-length : tie.Need-same-length
 same-length c = search needs

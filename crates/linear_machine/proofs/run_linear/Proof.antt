@@ -2,6 +2,7 @@
 use borrow.Author.Needs.{needs}
 use Rattle.machines.specs.Runs.{linearRun}
 use Rattle.machines.specs.Start.{may-start, start-goes, start-refused}
+use Rattle.linear_machine.proofs.FileLaws.{file-owned}
 use Rattle.linear_machine.proofs.run_linear.Statement.{statement}
 use Rattle.linear_machine.proofs.run_linear.Tie as tie
 
@@ -11,8 +12,11 @@ start-refusal-requires c κs = search needs
 enum-told : tie.Need-enum-told
 enum-told c = search needs
 
+owner-of-requires : tie.Need-owner-of-requires
+owner-of-requires c κs = search needs
+
 run-accepted-requires : tie.Need-run-accepted-requires
-run-accepted-requires c κs = may-start _ _ _ _ (c .before .before .before .before .before .before .start-refusal .ensures) (c .before .before .before .before .enum-told .given .1)
+run-accepted-requires c κs = may-start _ _ _ _ _ (c .before .before .before .before .before .before .before .start-refusal .ensures) (c .before .before .before .before .before .enum-told .given .1)
 
 enum-known-number : tie.Need-enum-known-number
 enum-known-number c = search needs
@@ -34,7 +38,8 @@ same-length-4 c = search needs
 
 returns : tie.Need-returns
 unfolding linearRun
-returns c = start-goes _ _ _ _ (c .before .before .before .before .before .before .before .before .before .before .before .before .before .before .before .start-refusal .ensures) _ _ (c .before .before .before .before .before .before .before .before .before .before .before .before .before .enum-told .given .1) (c .before .before .before .before .before .before .before .before .run-accepted .ensures)
+returns c = start-goes _ _ _ _ _ (c .before .before .before .before .before .before .before .before .before .before .before .before .before .before .before .before .start-refusal .ensures) _ _ (c .before .before .before .before .before .before .before .before .before .before .before .before .before .before .enum-told .given .1)
+    (file-owned _ (c .before .before .before .before .before .before .before .before .before .before .before .before .before .before .before .before .before .before .before .before .before .before .before .before .before .before .args .owner) _ _ _ _ (c .before .before .before .before .before .before .before .before .before .before .before .before .before .owner-of .ensures) (c .before .before .before .before .before .before .before .before .run-accepted .ensures))
 
 same-length-5 : tie.Need-same-length-5
 same-length-5 c = search needs
@@ -50,7 +55,7 @@ same-length-8 c = search needs
 
 returns-2 : tie.Need-returns-2
 unfolding linearRun
-returns-2 c = start-refused _ _ _ _ (c .before .before .before .before .start-refusal .ensures) _ _ _ _ (c .before .before .number .given .1) (c .refused .ensures)
+returns-2 c = start-refused _ _ _ _ _ (c .before .before .before .before .start-refusal .ensures) _ _ _ _ (c .before .before .number .given .1) (c .refused .ensures)
 
 pub run-linear-spec : {M : Type 1} → statement M
 run-linear-spec =
@@ -58,6 +63,7 @@ run-linear-spec =
     (tie.spec
     start-refusal-requires
     enum-told
+    owner-of-requires
     run-accepted-requires
     enum-known-number
     refused-requires

@@ -1,6 +1,7 @@
 -- `machines::start_refusal` meets its contract. Assumes nothing.
 use borrow.Author.Needs.{needs}
-use borrow.Author.Tests.{eq-eqb, ne-eqb, le-leb, lt-leb}
+use mathlib.Core.Path.{sym, _∙_}
+use borrow.Author.Tests.{eq-eqb, ne-eqb, le-leb, lt-leb, not-true, not-false}
 use Rattle.machines.specs.Runs.{rightLengths}
 use Rattle.machines.specs.Start.{startRefusal}
 use Rattle.machines.proofs.start_refusal.Statement.{statement}
@@ -26,14 +27,32 @@ returns-5 : tie.Need-returns-5
 unfolding startRefusal rightLengths
 returns-5 c = simp (eq-eqb _ _ (c .before .before .before .before .if1 .left), eq-eqb _ _ (c .before .before .before .if2 .left), eq-eqb _ _ (c .before .before .if3 .left), eq-eqb _ _ (c .before .if4 .left), lt-leb _ _ (c .if5 .taken))
 
-globals-refusal-requires : tie.Need-globals-refusal-requires
-globals-refusal-requires c κs = search needs
+is-owner-requires : tie.Need-is-owner-requires
+is-owner-requires c κs = search needs
 
 returns-6 : tie.Need-returns-6
 unfolding startRefusal rightLengths
-returns-6 c = simp (eq-eqb _ _ (c .before .before .before .before .before .if1 .left), eq-eqb _ _ (c .before .before .before .before .if2 .left), eq-eqb _ _ (c .before .before .before .if3 .left), eq-eqb _ _ (c .before .before .if4 .left), le-leb _ _ (c .before .if5 .left)) (c .globals-refusal .ensures)
+returns-6 c =
+    simp (eq-eqb _ _ (c .before .before .before .before .before .before .if1 .left), eq-eqb _ _ (c .before .before .before .before .before .if2 .left), eq-eqb _ _ (c .before .before .before .before .if3 .left), eq-eqb _ _ (c .before .before .before .if4 .left), le-leb _ _ (c .before .before .if5 .left), sym (c .before .is-owner .ensures) ∙ not-true _ (c .if6 .taken))
+
+globals-refusal-requires : tie.Need-globals-refusal-requires
+globals-refusal-requires c κs = search needs
+
+returns-7 : tie.Need-returns-7
+unfolding startRefusal rightLengths
+returns-7 c =
+    simp (eq-eqb _ _ (c .before .before .before .before .before .before .before .if1 .left), eq-eqb _ _ (c .before .before .before .before .before .before .if2 .left), eq-eqb _ _ (c .before .before .before .before .before .if3 .left), eq-eqb _ _ (c .before .before .before .before .if4 .left), le-leb _ _ (c .before .before .before .if5 .left), sym (c .before .before .is-owner .ensures) ∙ not-false _ (c .before .if6 .left)) (c .globals-refusal .ensures)
 
 pub start-refusal-spec : {M : Type 1} → statement M
 start-refusal-spec =
     tie.close
-    (tie.spec returns returns-2 returns-3 returns-4 returns-5 globals-refusal-requires returns-6)
+    (tie.spec
+    returns
+    returns-2
+    returns-3
+    returns-4
+    returns-5
+    is-owner-requires
+    returns-6
+    globals-refusal-requires
+    returns-7)

@@ -1,8 +1,20 @@
 -- `rules::global` meets its contract. Assumes nothing.
 use borrow.Author.Needs.{needs}
-use Rattle.rules.specs.Rules.{globalRule}
+use borrow.Author.Tests.{not-true, not-false}
+use mathlib.Core.Path.{ap, _∙_}
+use Rattle.rules.specs.Rules.{globalRule, plainRule}
+use Rattle.rules.specs.Owned.{mayDo}
+use Rattle.rules.specs.State.{told}
+use Rattle.rules.proofs.Laws.{barred, allowed}
 use Rattle.rules.proofs.global.Statement.{statement}
 use Rattle.rules.proofs.global.Tie as tie
+
+may-read-requires : tie.Need-may-read-requires
+may-read-requires c κs = search needs
+
+returns : tie.Need-returns
+unfolding told mayDo
+returns c = λ s t. ap (told _) (barred _ _ _ _ _ (c .before .may-read .ensures) (not-true _ (c .if1 .taken)))
 
 mul-held : tie.Need-mul-held
 mul-held c = search needs
@@ -13,9 +25,11 @@ shared-slice-read-held c = search needs
 held-requires : tie.Need-held-requires
 held-requires c κs = search needs
 
-returns : tie.Need-returns
-unfolding globalRule
-returns c = λ s t. c .held .ensures _
+returns-2 : tie.Need-returns-2
+unfolding mayDo plainRule globalRule
+returns-2 c = λ s t. c .held .ensures _ ∙ ap (told _) (allowed _ _ _ _ _ (c .before .before .before .may-read .ensures) (not-false _ (c .before .before .if1 .left)))
 
 pub global-spec : {M : Type 1} → statement M
-global-spec = tie.close (tie.spec mul-held shared-slice-read-held held-requires returns)
+global-spec =
+    tie.close
+    (tie.spec may-read-requires returns mul-held shared-slice-read-held held-requires returns-2)

@@ -1,6 +1,7 @@
 -- `rules::plain_rule` meets its contract: in each arm the instruction is known, and the rule's function gives its equation. Assumes nothing.
 use borrow.Author.Needs.{needs}
 use Rattle.rules.specs.Rules.{plainRule}
+use Rattle.rules.specs.Owned.{mayDo, ownedRule}
 use Rattle.rules.proofs.Laws.{ended}
 use Rattle.rules.proofs.plain_rule.Statement.{statement}
 use Rattle.rules.proofs.plain_rule.Tie as tie
@@ -114,54 +115,54 @@ floor-div-requires : tie.Need-floor-div-requires
 floor-div-requires c κs = search needs
 
 returns : tie.Need-returns
-unfolding plainRule
-returns c = ended _ _ _ _ (c .before .before .before .before .before .before .before .args .r) _ (c .before .before .i .given .1) (c .before .before .before .before .before .before .before .pre .3) (c .literal .ensures _)
+unfolding ownedRule mayDo plainRule
+returns c = ended _ _ _ _ _ (c .before .before .before .before .before .before .before .args .r) _ (c .before .before .i .given .1) (c .before .before .before .before .before .before .before .pre .3) (c .literal .ensures _)
 
 same-length : tie.Need-same-length
 same-length c = search needs
 
 returns-2 : tie.Need-returns-2
-unfolding plainRule
-returns-2 c = ended _ _ _ _ (c .before .before .before .before .before .before .before .before .before .before .args .r) _ (c .before .before .before .before .before .i2 .given .1) (c .before .before .before .before .before .before .before .before .before .before .pre .3) (c .before .before .closure .ensures _ _)
+unfolding ownedRule mayDo plainRule
+returns-2 c = ended _ _ _ _ _ (c .before .before .before .before .before .before .before .before .before .before .args .r) _ (c .before .before .before .before .before .i2 .given .1) (c .before .before .before .before .before .before .before .before .before .before .pre .3) (c .before .before .closure .ensures _ _)
 
 same-length-2 : tie.Need-same-length-2
 same-length-2 c = search needs
 
 returns-3 : tie.Need-returns-3
-unfolding plainRule
-returns-3 c = ended _ _ _ _ (c .before .before .before .before .before .before .before .before .args .r) _ (c .before .before .before .i3 .given .1) (c .before .before .before .before .before .before .before .before .pre .3) (c .global .ensures _ _)
+unfolding ownedRule mayDo plainRule
+returns-3 c = ended _ _ _ _ _ (c .before .before .before .before .before .before .before .before .args .r) _ (c .before .before .before .i3 .given .1) (c .before .before .before .before .before .before .before .before .pre .3) (c .global .ensures _ _)
 
 same-length-3 : tie.Need-same-length-3
 same-length-3 c = search needs
 
 returns-4 : tie.Need-returns-4
-unfolding plainRule
-returns-4 c = ended _ _ _ _ (c .before .before .before .before .before .before .before .before .before .before .args .r) _ (c .before .before .before .before .before .i4 .given .1) (c .before .before .before .before .before .before .before .before .before .before .pre .3) (c .before .before .set-global .ensures _ _)
+unfolding ownedRule mayDo plainRule
+returns-4 c = ended _ _ _ _ _ (c .before .before .before .before .before .before .before .before .before .before .args .r) _ (c .before .before .before .before .before .i4 .given .1) (c .before .before .before .before .before .before .before .before .before .before .pre .3) (c .before .before .set-global .ensures _ _)
 
 same-length-4 : tie.Need-same-length-4
 same-length-4 c = search needs
 
 returns-5 : tie.Need-returns-5
-unfolding plainRule
-returns-5 c = ended _ _ _ _ (c .before .before .before .before .before .before .before .before .args .r) _ (c .before .before .before .i5 .given .1) (c .before .before .before .before .before .before .before .before .pre .3) (c .local .ensures _ _)
+unfolding ownedRule mayDo plainRule
+returns-5 c = ended _ _ _ _ _ (c .before .before .before .before .before .before .before .before .args .r) _ (c .before .before .before .i5 .given .1) (c .before .before .before .before .before .before .before .before .pre .3) (c .local .ensures _ _)
 
 same-length-5 : tie.Need-same-length-5
 same-length-5 c = search needs
 
 returns-6 : tie.Need-returns-6
-unfolding plainRule
-returns-6 c = ended _ _ _ _ (c .before .before .before .before .before .before .before .before .before .before .args .r) _ (c .before .before .before .before .before .i6 .given .1) (c .before .before .before .before .before .before .before .before .before .before .pre .3) (c .before .before .set-local .ensures _ _)
+unfolding ownedRule mayDo plainRule
+returns-6 c = ended _ _ _ _ _ (c .before .before .before .before .before .before .before .before .before .before .args .r) _ (c .before .before .before .before .before .i6 .given .1) (c .before .before .before .before .before .before .before .before .before .before .pre .3) (c .before .before .set-local .ensures _ _)
 
 same-length-6 : tie.Need-same-length-6
 same-length-6 c = search needs
 
 returns-7 : tie.Need-returns-7
-unfolding plainRule
-returns-7 c = ended _ _ _ _ (c .before .before .before .before .before .before .before .before .before .args .r) _ (c .before .before .before .before .enum-told .given .1) (c .before .before .before .before .before .before .before .before .before .pre .3) (c .before .before .push .ensures _ _)
+unfolding ownedRule mayDo plainRule
+returns-7 c = ended _ _ _ _ _ (c .before .before .before .before .before .before .before .before .before .args .r) _ (c .before .before .before .before .enum-told .given .1) (c .before .before .before .before .before .before .before .before .before .pre .3) (c .before .before .push .ensures _ _)
 
 returns-8 : tie.Need-returns-8
-unfolding plainRule
-returns-8 c = ended _ _ _ _ (c .before .before .before .before .before .before .args .r) _ (c .before .enum-told2 .given .1) (c .before .before .before .before .before .before .pre .3) (c .literal2 .ensures _)
+unfolding ownedRule mayDo plainRule
+returns-8 c = ended _ _ _ _ _ (c .before .before .before .before .before .before .args .r) _ (c .before .enum-told2 .given .1) (c .before .before .before .before .before .before .pre .3) (c .literal2 .ensures _)
 
 same-length-7 : tie.Need-same-length-7
 same-length-7 c = search needs
@@ -170,12 +171,12 @@ same-length-8 : tie.Need-same-length-8
 same-length-8 c = search needs
 
 returns-9 : tie.Need-returns-9
-unfolding plainRule
-returns-9 c = ended _ _ _ _ (c .before .before .before .before .before .before .before .before .before .before .before .before .before .args .r) _ (c .before .before .before .before .before .before .before .before .i7 .given .1) (c .before .before .before .before .before .before .before .before .before .before .before .before .before .pre .3) (c .before .before .before .before .make-env .ensures _)
+unfolding ownedRule mayDo plainRule
+returns-9 c = ended _ _ _ _ _ (c .before .before .before .before .before .before .before .before .before .before .before .before .before .args .r) _ (c .before .before .before .before .before .before .before .before .i7 .given .1) (c .before .before .before .before .before .before .before .before .before .before .before .before .before .pre .3) (c .before .before .before .before .make-env .ensures _)
 
 returns-10 : tie.Need-returns-10
-unfolding plainRule
-returns-10 c = ended _ _ _ _ (c .before .before .before .before .before .before .before .args .r) _ (c .before .before .i8 .given .1) (c .before .before .before .before .before .before .before .pre .3) (c .check-args .ensures _)
+unfolding ownedRule mayDo plainRule
+returns-10 c = ended _ _ _ _ _ (c .before .before .before .before .before .before .before .args .r) _ (c .before .before .i8 .given .1) (c .before .before .before .before .before .before .before .pre .3) (c .check-args .ensures _)
 
 same-length-9 : tie.Need-same-length-9
 same-length-9 c = search needs
@@ -184,8 +185,8 @@ same-length-10 : tie.Need-same-length-10
 same-length-10 c = search needs
 
 returns-11 : tie.Need-returns-11
-unfolding plainRule
-returns-11 c = ended _ _ _ _ (c .before .before .before .before .before .before .before .before .before .before .before .before .args .r) _ (c .before .before .before .before .before .before .before .enum-told3 .given .1) (c .before .before .before .before .before .before .before .before .before .before .before .before .pre .3) (c .before .before .before .before .cons .ensures _)
+unfolding ownedRule mayDo plainRule
+returns-11 c = ended _ _ _ _ _ (c .before .before .before .before .before .before .before .before .before .before .before .before .args .r) _ (c .before .before .before .before .before .before .before .enum-told3 .given .1) (c .before .before .before .before .before .before .before .before .before .before .before .before .pre .3) (c .before .before .before .before .cons .ensures _)
 
 same-length-11 : tie.Need-same-length-11
 same-length-11 c = search needs
@@ -194,8 +195,8 @@ same-length-12 : tie.Need-same-length-12
 same-length-12 c = search needs
 
 returns-12 : tie.Need-returns-12
-unfolding plainRule
-returns-12 c = ended _ _ _ _ (c .before .before .before .before .before .before .before .before .before .before .args .r) _ (c .before .before .before .before .before .enum-told4 .given .1) (c .before .before .before .before .before .before .before .before .before .before .pre .3) (c .before .before .car .ensures _)
+unfolding ownedRule mayDo plainRule
+returns-12 c = ended _ _ _ _ _ (c .before .before .before .before .before .before .before .before .before .before .args .r) _ (c .before .before .before .before .before .enum-told4 .given .1) (c .before .before .before .before .before .before .before .before .before .before .pre .3) (c .before .before .car .ensures _)
 
 same-length-13 : tie.Need-same-length-13
 same-length-13 c = search needs
@@ -204,43 +205,43 @@ same-length-14 : tie.Need-same-length-14
 same-length-14 c = search needs
 
 returns-13 : tie.Need-returns-13
-unfolding plainRule
-returns-13 c = ended _ _ _ _ (c .before .before .before .before .before .before .before .before .before .before .args .r) _ (c .before .before .before .before .before .enum-told5 .given .1) (c .before .before .before .before .before .before .before .before .before .before .pre .3) (c .before .before .cdr .ensures _)
+unfolding ownedRule mayDo plainRule
+returns-13 c = ended _ _ _ _ _ (c .before .before .before .before .before .before .before .before .before .before .args .r) _ (c .before .before .before .before .before .enum-told5 .given .1) (c .before .before .before .before .before .before .before .before .before .before .pre .3) (c .before .before .cdr .ensures _)
 
 same-length-15 : tie.Need-same-length-15
 same-length-15 c = search needs
 
 returns-14 : tie.Need-returns-14
-unfolding plainRule
-returns-14 c = ended _ _ _ _ (c .before .before .before .before .before .before .before .before .before .args .r) _ (c .before .before .before .before .enum-told6 .given .1) (c .before .before .before .before .before .before .before .before .before .pre .3) (c .before .before .eqv .ensures _ _)
+unfolding ownedRule mayDo plainRule
+returns-14 c = ended _ _ _ _ _ (c .before .before .before .before .before .before .before .before .before .args .r) _ (c .before .before .before .before .enum-told6 .given .1) (c .before .before .before .before .before .before .before .before .before .pre .3) (c .before .before .eqv .ensures _ _)
 
 same-length-16 : tie.Need-same-length-16
 same-length-16 c = search needs
 
 returns-15 : tie.Need-returns-15
-unfolding plainRule
-returns-15 c = ended _ _ _ _ (c .before .before .before .before .before .before .before .before .before .args .r) _ (c .before .before .before .before .enum-told7 .given .1) (c .before .before .before .before .before .before .before .before .before .pre .3) (c .before .before .add .ensures _ _)
+unfolding ownedRule mayDo plainRule
+returns-15 c = ended _ _ _ _ _ (c .before .before .before .before .before .before .before .before .before .args .r) _ (c .before .before .before .before .enum-told7 .given .1) (c .before .before .before .before .before .before .before .before .before .pre .3) (c .before .before .add .ensures _ _)
 
 same-length-17 : tie.Need-same-length-17
 same-length-17 c = search needs
 
 returns-16 : tie.Need-returns-16
-unfolding plainRule
-returns-16 c = ended _ _ _ _ (c .before .before .before .before .before .before .before .before .before .args .r) _ (c .before .before .before .before .enum-told8 .given .1) (c .before .before .before .before .before .before .before .before .before .pre .3) (c .before .before .sub .ensures _ _)
+unfolding ownedRule mayDo plainRule
+returns-16 c = ended _ _ _ _ _ (c .before .before .before .before .before .before .before .before .before .args .r) _ (c .before .before .before .before .enum-told8 .given .1) (c .before .before .before .before .before .before .before .before .before .pre .3) (c .before .before .sub .ensures _ _)
 
 same-length-18 : tie.Need-same-length-18
 same-length-18 c = search needs
 
 returns-17 : tie.Need-returns-17
-unfolding plainRule
-returns-17 c = ended _ _ _ _ (c .before .before .before .before .before .before .before .before .before .args .r) _ (c .before .before .before .before .enum-told9 .given .1) (c .before .before .before .before .before .before .before .before .before .pre .3) (c .before .before .less .ensures _ _)
+unfolding ownedRule mayDo plainRule
+returns-17 c = ended _ _ _ _ _ (c .before .before .before .before .before .before .before .before .before .args .r) _ (c .before .before .before .before .enum-told9 .given .1) (c .before .before .before .before .before .before .before .before .before .pre .3) (c .before .before .less .ensures _ _)
 
 same-length-19 : tie.Need-same-length-19
 same-length-19 c = search needs
 
 returns-18 : tie.Need-returns-18
-unfolding plainRule
-returns-18 c = ended _ _ _ _ (c .before .before .before .before .before .before .before .before .before .args .r) _ (c .before .before .before .before .enum-told10 .given .1) (c .before .before .before .before .before .before .before .before .before .pre .3) (c .before .before .floor-div .ensures _ _)
+unfolding ownedRule mayDo plainRule
+returns-18 c = ended _ _ _ _ _ (c .before .before .before .before .before .before .before .before .before .args .r) _ (c .before .before .before .before .enum-told10 .given .1) (c .before .before .before .before .before .before .before .before .before .pre .3) (c .before .before .floor-div .ensures _ _)
 
 pub plain-rule-spec : {M : Type 1} → statement M
 plain-rule-spec =

@@ -25,7 +25,7 @@ same-length-4 : tie.Need-same-length-4
 same-length-4 c = search needs
 
 returns : tie.Need-returns
-returns c = let e = c .before .before .before .before .before .before .before .before .before .before .before .before .before .before .before .before .before .before .before .clear-all .ensures in c .before .before .before .before .before .before .before .before .run-from .ensures ∙ ap (ranFrom _ _ 0) (first-is _ _ (e .0) (e .1) (e .2))
+returns c = let e = c .before .before .before .before .before .before .before .before .before .before .before .before .before .before .before .before .before .before .before .clear-all .ensures in c .before .before .before .before .before .before .before .before .run-from .ensures ∙ ap (ranFrom _ _ _ 0) (first-is _ _ (e .0) (e .1) (e .2))
 
 pub run-code-spec : {M : Type 1} → statement M
 run-code-spec =

@@ -66,7 +66,7 @@ returns c =
     let a = c .before .before .before .before .before .before .before .before .before .before .before .before .before .before .before .before .before .before .before .before .before .args in
     let P = codeProgram (formOf (a .c .place)) (a .file .now) (a .links .now) (a .table .now) in
     let f = c .before .before .before .before .before .before .before .before .before .before .before .before .before .fetch .ensures in
-    step-is (a .file .now) (a .links .now) (a .table .now) (a .r) (a .c) _ _ (f .0) (c .before .before .before .before .before .before .before .before .before .before .before .op .given .1) _ _ _ (stays _ _ (neutral-place _ _ (f .1) _ _ _ _ (c .before .before .before .before .before .before .before .before .before .before .before .op .given .1)) (c .before .before .before .before .before .before .act-neutral .ensures P (a .frames .now)))
+    step-is (a .owner) (a .file .now) (a .links .now) (a .table .now) (a .r) (a .c) _ _ (f .0) (c .before .before .before .before .before .before .before .before .before .before .before .op .given .1) _ _ _ (stays _ _ (neutral-place _ _ (f .1) _ _ _ _ (c .before .before .before .before .before .before .before .before .before .before .before .op .given .1)) (c .before .before .before .before .before .before .act-neutral .ensures P (a .frames .now)))
 
 same-length-4 : tie.Need-same-length-4
 same-length-4 c = search needs
@@ -80,7 +80,7 @@ returns-2 c =
     let a = c .before .before .before .before .before .before .before .before .before .before .before .before .before .before .before .before .before .args in
     let P = codeProgram (formOf (a .c .place)) (a .file .now) (a .links .now) (a .table .now) in
     let f = c .before .before .before .before .before .before .before .before .before .fetch .ensures in
-    step-is (a .file .now) (a .links .now) (a .table .now) (a .r) (a .c) _ _ (f .0) (c .before .before .before .before .before .before .before .enum-told .given .1) _ _ _ (c .before .before .before .before .act-return .ensures P (a .globals .now) (a .store .now))
+    step-is (a .owner) (a .file .now) (a .links .now) (a .table .now) (a .r) (a .c) _ _ (f .0) (c .before .before .before .before .before .before .before .enum-told .given .1) _ _ _ (c .before .before .before .before .act-return .ensures (a .owner) P (a .globals .now) (a .store .now))
 
 returns-3 : tie.Need-returns-3
 unfolding fetchedAs
@@ -88,7 +88,7 @@ returns-3 c =
     let a = c .before .before .before .before .before .before .before .before .before .before .before .before .args in
     let P = codeProgram (formOf (a .c .place)) (a .file .now) (a .links .now) (a .table .now) in
     let f = c .before .before .before .before .fetch .ensures in
-    step-is (a .file .now) (a .links .now) (a .table .now) (a .r) (a .c) _ _ (f .0) (c .before .before .n .given .1) _ _ _ (c .act-call .ensures P _ (starts _ (a .file .now) (a .links .now) (a .table .now)))
+    step-is (a .owner) (a .file .now) (a .links .now) (a .table .now) (a .r) (a .c) _ _ (f .0) (c .before .before .n .given .1) _ _ _ (c .act-call .ensures (a .owner) P _ (starts _ (a .file .now) (a .links .now) (a .table .now)))
 
 returns-4 : tie.Need-returns-4
 unfolding fetchedAs
@@ -96,7 +96,7 @@ returns-4 c =
     let a = c .before .before .before .before .before .before .before .before .before .before .before .before .args in
     let P = codeProgram (formOf (a .c .place)) (a .file .now) (a .links .now) (a .table .now) in
     let f = c .before .before .before .before .fetch .ensures in
-    step-is (a .file .now) (a .links .now) (a .table .now) (a .r) (a .c) _ _ (f .0) (c .before .before .first .given .1) _ _ _ (stays _ _ (branch-places _ _ (f .1) _ _ (c .before .before .first .given .1) .0) (c .act-branch .ensures P _))
+    step-is (a .owner) (a .file .now) (a .links .now) (a .table .now) (a .r) (a .c) _ _ (f .0) (c .before .before .first .given .1) _ _ _ (stays _ _ (branch-places _ _ (f .1) _ _ (c .before .before .first .given .1) .0) (c .act-branch .ensures (a .owner) P _))
 
 same-length-6 : tie.Need-same-length-6
 same-length-6 c = search needs
@@ -110,7 +110,7 @@ returns-5 c =
     let a = c .before .before .before .before .before .before .before .before .before .before .before .before .before .before .before .before .before .before .args in
     let P = codeProgram (formOf (a .c .place)) (a .file .now) (a .links .now) (a .table .now) in
     let f = c .before .before .before .before .before .before .before .before .before .before .fetch .ensures in
-    step-is (a .file .now) (a .links .now) (a .table .now) (a .r) (a .c) _ _ (f .0) (c .before .before .before .before .before .before .before .before .n2 .given .1) _ _ _ (stays _ _ (save-places _ _ (f .1) _ _ _ (c .before .before .before .before .before .before .before .before .n2 .given .1) .1) (c .before .before .before .before .act-save .ensures P (a .globals .now) (a .store .now)))
+    step-is (a .owner) (a .file .now) (a .links .now) (a .table .now) (a .r) (a .c) _ _ (f .0) (c .before .before .before .before .before .before .before .before .n2 .given .1) _ _ _ (stays _ _ (save-places _ _ (f .1) _ _ _ (c .before .before .before .before .before .before .before .before .n2 .given .1) .1) (c .before .before .before .before .act-save .ensures (a .owner) P (a .globals .now) (a .store .now)))
 
 returns-6 : tie.Need-returns-6
 unfolding fetchedAs
@@ -118,7 +118,7 @@ returns-6 c =
     let a = c .before .before .before .before .before .before .before .before .before .before .before .before .args in
     let P = codeProgram (formOf (a .c .place)) (a .file .now) (a .links .now) (a .table .now) in
     let f = c .before .before .before .before .fetch .ensures in
-    step-is (a .file .now) (a .links .now) (a .table .now) (a .r) (a .c) _ _ (f .0) (c .before .before .to .given .1) _ _ _ (stays _ _ (jump-place _ _ (f .1) _ (c .before .before .to .given .1)) (jump-goes P _ (a .r) (a .c) (c .before .before .before .before .before .before .before .before .before .before .before .before .pre .fit) (c .before .before .before .before .before .before .before .before .before .before .before .before .pre .frames-fit) _ _ (c .act-jump .ensures)))
+    step-is (a .owner) (a .file .now) (a .links .now) (a .table .now) (a .r) (a .c) _ _ (f .0) (c .before .before .to .given .1) _ _ _ (stays _ _ (jump-place _ _ (f .1) _ (c .before .before .to .given .1)) (jump-goes (a .owner) P _ (a .r) (a .c) (c .before .before .before .before .before .before .before .before .before .before .before .before .pre .fit) (c .before .before .before .before .before .before .before .before .before .before .before .before .pre .frames-fit) _ _ (c .act-jump .ensures)))
 
 returns-7 : tie.Need-returns-7
 unfolding fetchedAs
@@ -126,7 +126,7 @@ returns-7 c =
     let a = c .before .before .before .before .before .before .before .before .before .before .args in
     let P = codeProgram (formOf (a .c .place)) (a .file .now) (a .links .now) (a .table .now) in
     let f = c .before .before .fetch .ensures in
-    step-is (a .file .now) (a .links .now) (a .table .now) (a .r) (a .c) _ _ (f .0) (c .enum-told2 .given .1) _ _ _ (bad-stops _ P _ (a .r) (a .c))
+    step-is (a .owner) (a .file .now) (a .links .now) (a .table .now) (a .r) (a .c) _ _ (f .0) (c .enum-told2 .given .1) _ _ _ (bad-stops _ (a .owner) P _ (a .r) (a .c))
 
 pub take-step-spec : {M : Type 1} → statement M
 take-step-spec =

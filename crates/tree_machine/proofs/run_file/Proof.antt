@@ -56,7 +56,7 @@ same-length-6 : tie.Need-same-length-6
 same-length-6 c = search needs
 
 returns-2 : tie.Need-returns-2
-returns-2 c = file-refused _ _ _ _ _ _ _ (c .before .before .before .before .before .before .read-accepted .ensures .0) (c .before .before .number .given .1) (c .refused .ensures)
+returns-2 c = file-refused _ _ _ _ _ _ _ _ (c .before .before .before .before .before .before .read-accepted .ensures .0) (c .before .before .number .given .1) (c .refused .ensures)
 
 pub run-file-spec : {M : Type 1} → statement M
 run-file-spec =

@@ -36,7 +36,7 @@ returns : tie.Need-returns
 unfolding formOf number codeProgram
 returns c =
     let p = c .before .before .before .before .before .before .before .before .before .before .before .before .before .before .before .before .before .before .before .before .before .before .before .before .before .before .pre in
-    linked-ran _ _ _ _ _ _ _ _ _ (p .1) (p .3) (p .4) (c .before .before .before .before .before .before .before .before .before .before .before .before .before .before .before .before .before .link-tree .ensures) (c .before .before .before .before .before .before .before .before .before .before .before .before .before .before .slot-at .ensures) (c .before .before .before .before .before .before .before .before .run-code .ensures)
+    linked-ran _ _ _ _ _ _ _ _ _ _ (p .1) (p .3) (p .4) (c .before .before .before .before .before .before .before .before .before .before .before .before .before .before .before .before .before .link-tree .ensures) (c .before .before .before .before .before .before .before .before .before .before .before .before .before .before .slot-at .ensures) (c .before .before .before .before .before .before .before .before .run-code .ensures)
 
 pub run-linked-spec : {M : Type 1} → statement M
 run-linked-spec =

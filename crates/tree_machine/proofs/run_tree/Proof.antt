@@ -3,6 +3,7 @@ use Rattle.machines.specs.Start.{zeros, may-start, start-goes, start-refused}
 use Rattle.machines.specs.Runs.{treeRun}
 use mathlib.Core.Path.{refl}
 use borrow.Author.Needs.{needs}
+use Rattle.tree_machine.specs.FileLaws.{file-owned}
 use Rattle.tree_machine.proofs.run_tree.Statement.{statement}
 use Rattle.tree_machine.proofs.run_tree.Tie as tie
 
@@ -12,12 +13,15 @@ start-refusal-requires c κs = search needs
 enum-told : tie.Need-enum-told
 enum-told c = search needs
 
+owner-of-requires : tie.Need-owner-of-requires
+owner-of-requires c κs = search needs
+
 slice-aggregate-run-file : tie.Need-slice-aggregate-run-file
 slice-aggregate-run-file c = search needs
 
 run-file-requires : tie.Need-run-file-requires
 unfolding zeros
-run-file-requires c κs = (may-start _ _ _ _ (c .before .before .before .before .before .before .before .start-refusal .ensures) (c .before .before .before .before .before .enum-told .given .1), refl)
+run-file-requires c κs = (may-start _ _ _ _ _ (c .before .before .before .before .before .before .before .before .start-refusal .ensures) (c .before .before .before .before .before .before .enum-told .given .1), refl)
 
 enum-known-number : tie.Need-enum-known-number
 enum-known-number c = search needs
@@ -39,7 +43,8 @@ same-length-4 c = search needs
 
 returns : tie.Need-returns
 unfolding treeRun
-returns c = start-goes _ _ _ _ (c .before .before .before .before .before .before .before .before .before .before .before .before .before .before .before .before .before .start-refusal .ensures) _ _ (c .before .before .before .before .before .before .before .before .before .before .before .before .before .before .before .enum-told .given .1) (c .before .before .before .before .before .before .before .before .before .run-file .ensures)
+returns c = start-goes _ _ _ _ _ (c .before .before .before .before .before .before .before .before .before .before .before .before .before .before .before .before .before .before .start-refusal .ensures) _ _ (c .before .before .before .before .before .before .before .before .before .before .before .before .before .before .before .before .enum-told .given .1)
+    (file-owned _ (c .before .before .before .before .before .before .before .before .before .before .before .before .before .before .before .before .before .before .before .before .before .before .before .before .before .before .before .before .args .owner) _ _ _ _ (c .before .before .before .before .before .before .before .before .before .before .before .before .before .before .before .owner-of .ensures) (c .before .before .before .before .before .before .before .before .before .run-file .ensures))
 
 same-length-5 : tie.Need-same-length-5
 same-length-5 c = search needs
@@ -55,7 +60,7 @@ same-length-8 c = search needs
 
 returns-2 : tie.Need-returns-2
 unfolding treeRun
-returns-2 c = start-refused _ _ _ _ (c .before .before .before .before .start-refusal .ensures) _ _ _ _ (c .before .before .number .given .1) (c .refused .ensures)
+returns-2 c = start-refused _ _ _ _ _ (c .before .before .before .before .start-refusal .ensures) _ _ _ _ (c .before .before .number .given .1) (c .refused .ensures)
 
 pub run-tree-spec : {M : Type 1} → statement M
 run-tree-spec =
@@ -63,6 +68,7 @@ run-tree-spec =
     (tie.spec
     start-refusal-requires
     enum-told
+    owner-of-requires
     slice-aggregate-run-file
     run-file-requires
     enum-known-number

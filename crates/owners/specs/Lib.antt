@@ -1,0 +1,2 @@
+-- The specs of the crate owners.
+pub mod Owners
