@@ -1,5 +1,5 @@
 /* The exporter's library for C: link target/staticlib/libexporter.a, which `rt staticlib exporter` makes (x86-64 Linux).
-   Document 01 has the files, cells, rules and numbers. A slice is a pointer and then a length in elements: the pointer is
+   Documents 01 and 02 have the files, cells, rules and numbers. A slice is a pointer and then a length in elements: the pointer is
    aligned and not null, also where the length is 0, and no two slices of a call overlap. Nothing is kept between calls,
    nothing is allocated; a call uses up to 600 KB of its thread's stack. */
 #ifndef EXPORTER_H
@@ -15,7 +15,8 @@ extern "C" {
 enum {
     EXPORTER_GLOBALS = 256, EXPORTER_STACK = 256, EXPORTER_STORE = 2048, EXPORTER_FRAMES = 2048, /* cells, exactly */
     EXPORTER_TREE_FILE = 65536, EXPORTER_LINEAR_FILE = 262144,     /* longest files, in bytes */
-    EXPORTER_TREE_BUDGET = 1000000, EXPORTER_LINEAR_BUDGET = 2000000 /* largest budgets, in steps */
+    EXPORTER_TREE_BUDGET = 1000000, EXPORTER_LINEAR_BUDGET = 2000000, /* largest budgets, in steps */
+    EXPORTER_CLIP_WORDS = 8, EXPORTER_CLIPS = 256, EXPORTER_CLIP_BYTES = 48 /* words of a clip, most clips, list bytes a clip */
 };
 
 /* Whose run it is. The house reads and sets globals 0 to 63 alone; a vendor reads all and sets 64 to 255 alone. */
@@ -89,6 +90,22 @@ void exporter_run_linear(const uint8_t *file, size_t file_len, uint64_t budget, 
                          uint64_t *store, size_t store_len,
                          uint64_t *frames, size_t frames_len,
                          uint64_t *result, size_t result_len);
+
+/* Pulls a list (document 02, Ask 9): runs one rule, a linear file, for each clip, and writes a line for each.
+   clips: EXPORTER_CLIP_WORDS words for each clip: record in, record out, speed numerator, speed denominator, head handle,
+   tail handle, first and last frame of its media. The rule finds the first six in globals 0 to 5, the others undefined, and
+   leaves source in and out in globals 6 and 7. clips_len counts words.
+   list: EXPORTER_CLIP_BYTES bytes or more for each clip.
+   result[0]: 0 accepted, else the refusal's number: 27 (over EXPORTER_CLIPS clips, or a cut-off one), 28 (a denominator that
+   is not positive), 29 (list too short), 21 (budget), 1, 2, 3, 5 (the file), in this order.
+   result[1]: accepted: how many bytes the lines are; refused: the place, for 28 the lowest such clip, from 0.
+   Accepted: the lines are the first result[1] bytes of list, the others are as they were. Refused: all of list is.
+   A line is the clip's number from 0, then `wrong` and the number, `none`, or `order`, `low`, `high` or `ok` with in and out.
+   result_len is 2 or more; slots after the first 2 stay. Where it is less, nothing at all is done. */
+void exporter_pull_list(const int32_t *clips, size_t clips_len,
+                        const uint8_t *file, size_t file_len, uint64_t budget,
+                        uint8_t *list, size_t list_len,
+                        uint64_t *result, size_t result_len);
 
 #ifdef __cplusplus
 }

@@ -9,6 +9,7 @@ typedef struct {
 void unproved_flatten(Slice *file, Slice *out, Slice *result);
 void unproved_run_tree(Slice *file, uint64_t budget, uint64_t owner, Slice *globals, Slice *stack, Slice *store, Slice *frames, Slice *result);
 void unproved_run_linear(Slice *file, uint64_t budget, uint64_t owner, Slice *globals, Slice *stack, Slice *store, Slice *frames, Slice *result);
+void unproved_pull_list(Slice *clips, Slice *file, uint64_t budget, Slice *list, Slice *result);
 
 void exporter_flatten(const uint8_t *file, size_t file_len, uint8_t *out, size_t out_len, uint64_t *result, size_t result_len)
 {
@@ -29,4 +30,10 @@ void exporter_run_linear(const uint8_t *file, size_t file_len, uint64_t budget, 
 {
     unproved_run_linear(&(Slice){ file, file_len }, budget, owner, &(Slice){ globals, globals_len }, &(Slice){ stack, stack_len },
                         &(Slice){ store, store_len }, &(Slice){ frames, frames_len }, &(Slice){ result, result_len });
+}
+
+void exporter_pull_list(const int32_t *clips, size_t clips_len, const uint8_t *file, size_t file_len, uint64_t budget,
+                        uint8_t *list, size_t list_len, uint64_t *result, size_t result_len)
+{
+    unproved_pull_list(&(Slice){ clips, clips_len }, &(Slice){ file, file_len }, budget, &(Slice){ list, list_len }, &(Slice){ result, result_len });
 }

@@ -1099,3 +1099,104 @@ void plain_run_linear(const uint8_t *file, size_t file_len, uint64_t budget, uin
     run_linear(&m, budget);
     tell_ended(&m, result);
 }
+
+/* The pull list (document 02, Ask 9) */
+
+enum { CLIP_WORDS = 8, MOST_CLIPS = 256, BYTES_A_CLIP = 48, INPUTS = 6 };
+enum { DENOMINATOR = 3, MEDIA_FIRST = 6, MEDIA_LAST = 7 };  /* words of a clip */
+enum { SOURCE_IN = 6, SOURCE_OUT = 7 };                     /* globals */
+
+static bool may_pull(const int32_t *clips, size_t words, size_t list_len, uint64_t budget)
+{
+    if (words % CLIP_WORDS != 0 || words / CLIP_WORDS > MOST_CLIPS)
+        return refuse(27, 0);
+    for (size_t k = 0; k < words / CLIP_WORDS; k++)
+        if (clips[CLIP_WORDS * k + DENOMINATOR] < 1)
+            return refuse(28, k);
+    if (list_len < BYTES_A_CLIP * (words / CLIP_WORDS))
+        return refuse(29, 0);
+    return budget <= LINEAR_BUDGET || refuse(21, 0);
+}
+
+static char *put_text(char *to, const char *text)
+{
+    while (*text != 0)
+        *to++ = *text++;
+    return to;
+}
+
+static char *put_value(char *to, int64_t value)
+{
+    char digits[20];
+    unsigned count = 0;
+    uint64_t left = value < 0 ? 0 - (uint64_t)value : (uint64_t)value;
+    do {
+        digits[count++] = (char)('0' + left % 10);
+        left /= 10;
+    } while (left > 0);
+    if (value < 0)
+        *to++ = '-';
+    while (count > 0)
+        *to++ = digits[--count];
+    return to;
+}
+
+/* A clip's word as an integer: the one place that knows an integer's width here. */
+static Cell word_cell(int32_t word)
+{
+    return integer_cell(word);
+}
+
+static const char *verdict(int64_t in, int64_t out, const int32_t *clip)
+{
+    if (in > out)
+        return " order ";
+    if (in < clip[MEDIA_FIRST])
+        return " low ";
+    if (out > clip[MEDIA_LAST])
+        return " high ";
+    return " ok ";
+}
+
+/* What stands behind the clip's number. */
+static char *put_end(char *to, const Machine *m, const int32_t *clip)
+{
+    if (m->end != HALTED)
+        return put_value(put_text(to, " wrong "), m->wrong);
+    if (tag_of(m->globals[SOURCE_IN]) != INTEGER_TAG || tag_of(m->globals[SOURCE_OUT]) != INTEGER_TAG)
+        return put_text(to, " none");
+    int64_t in = integer_value(m->globals[SOURCE_IN]), out = integer_value(m->globals[SOURCE_OUT]);
+    to = put_value(put_text(to, verdict(in, out, clip)), in);
+    return put_value(put_text(to, " "), out);
+}
+
+/* The file is read already. */
+static char *pull_clip(char *to, size_t k, const int32_t *clip, uint64_t budget)
+{
+    static Cell globals[GLOBALS], stack[STACK], store[STORE], frames[FRAMES];
+    Machine m = { .globals = globals, .stack = stack, .store = store, .frames = frames };
+    for (unsigned g = 0; g < GLOBALS; g++)
+        globals[g] = g < INPUTS ? word_cell(clip[g]) : tagged(UNDEFINED_TAG);
+    start(&m);
+    run_linear(&m, budget);
+    to = put_value(to, (int64_t)k);
+    to = put_end(to, &m, clip);
+    return put_text(to, "\n");
+}
+
+void plain_pull_list(const int32_t *clips, size_t clips_len, const uint8_t *file, size_t file_len, uint64_t budget,
+                     uint8_t *list, size_t list_len, uint64_t *result, size_t result_len)
+{
+    char *to = (char *)list;
+    if (result_len < 2)
+        return;
+    if (!may_pull(clips, clips_len, list_len, budget) || !read_linear(file, file_len)) {
+        result[0] = refusal;
+        result[1] = refusal_place;
+        return;
+    }
+    for (size_t k = 0; k < clips_len / CLIP_WORDS; k++)
+        to = pull_clip(to, k, clips + CLIP_WORDS * k, budget);
+    result[0] = 0;
+    result[1] = (uint64_t)(to - (char *)list);
+}

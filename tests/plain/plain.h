@@ -36,6 +36,13 @@ void plain_run_linear(const uint8_t *file, size_t file_len, uint64_t budget, uin
                       uint64_t *frames, size_t frames_len,
                       uint64_t *result, size_t result_len);
 
+/* The pull list (document 02, Ask 9): a rule, a linear file, run for each clip of eight words.
+   result[0]: 0 accepted, else the refusal's number: 27, 28, 29, 21, or the file's.
+   result[1]: the bytes of the lines, which stand in the first bytes of list; or the refusal's place.
+   A refusal leaves list as it was. Does nothing at all where result_len is below 2. */
+void plain_pull_list(const int32_t *clips, size_t clips_len, const uint8_t *file, size_t file_len, uint64_t budget,
+                     uint8_t *list, size_t list_len, uint64_t *result, size_t result_len);
+
 /* Of the last accepted run: first arms of open conditionals taken (tree), jumps made (linear). */
 extern uint64_t plain_firsts, plain_jumps;
 

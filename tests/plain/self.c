@@ -22,3 +22,9 @@ void exporter_run_linear(const uint8_t *file, size_t file_len, uint64_t budget, 
     plain_run_linear(file, file_len, budget, owner, globals, globals_len, stack, stack_len, store, store_len, frames, frames_len,
                      result, result_len);
 }
+
+void exporter_pull_list(const int32_t *clips, size_t clips_len, const uint8_t *file, size_t file_len, uint64_t budget,
+                        uint8_t *list, size_t list_len, uint64_t *result, size_t result_len)
+{
+    plain_pull_list(clips, clips_len, file, file_len, budget, list, list_len, result, result_len);
+}

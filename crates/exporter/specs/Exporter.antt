@@ -14,6 +14,8 @@ use Rattle.machines.specs.Runs.{Memory, Ran, ran, numberOf, answerCell}
 use Rattle.machines.specs.declared.End.{End}
 use Rattle.machines.specs.declared.End.the-variants.{Halted, Wrong, OutOfBudget, Refused}
 use Rattle.machines.specs.declared.Run.{Run}
+use Rattle.pull.specs.declared.Pulled.{Pulled}
+use Rattle.pull.specs.declared.Pulled.the-variants.{Written as Listed, Refused as ListRefused}
 
 -- ---- flattening
 -- 0 and the length, or the refusal's number and the place
@@ -27,6 +29,17 @@ flattenResult g old = cond (leb 2 (length old)) (sets old 0 (flattenSlots (answe
 
 unfoldable pub flattenOutput : Got (List ℕ) → List ℕ → List ℕ → List ℕ
 flattenOutput g out old = cond (leb 2 (length old)) (written out g) out
+
+-- ---- pulling: the same for a list, by its answer and by what it holds then
+unfoldable pub pullSlots : Pulled → List ℕ
+pullSlots (Listed n) = 0 ∷ n ∷ []
+pullSlots (ListRefused n p) = n ∷ p ∷ []
+
+unfoldable pub pullResult : Pulled → List ℕ → List ℕ
+pullResult r old = cond (leb 2 (length old)) (sets old 0 (pullSlots r)) old
+
+unfoldable pub pullOutput : List ℕ → List ℕ → List ℕ → List ℕ
+pullOutput lines list old = cond (leb 2 (length old)) lines list
 
 -- ---- runs
 -- how a run ended: 0 halted, 1 wrong, 2 out of budget, 3 refused

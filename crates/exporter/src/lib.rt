@@ -7,12 +7,15 @@ ghost use lib.Seq.{sets};
 ghost use Rattle.cells.specs.Cells.{cellOf};
 ghost use Rattle.flatten.specs.Flatten.{flattened};
 ghost use Rattle.machines.specs.Runs.{memory, treeRun, linearRun};
+ghost use Rattle.pull.specs.Pull.{pulled, pulledList};
 ghost use Rattle.exporter.specs.Exporter.{endSlots, runSlots, flattenSlots, flattenOutput, flattenResult, exported, runExported};
+ghost use Rattle.exporter.specs.Exporter.{pullSlots, pullOutput, pullResult};
 ghost use Rattle.exporter.specs.Answers.{FieldsFit, AnswerFits};
 use cells::Value;
 use flatten::Flattened;
 use machines::End;
 use machines::Run;
+use pull::Pulled;
 
 // The cell of an answer.
 fn answer_cell(v: Value) -> u64
@@ -50,6 +53,16 @@ fn put_flattened(result: &mut [u64], answer: Flattened)
     match answer {
         Flattened::Written(n) => put_two(result, 0, n as u64),
         Flattened::Refused(n, p) => put_two(result, n as u64, p as u64),
+    }
+}
+
+fn put_pulled(result: &mut [u64], answer: Pulled)
+    requires { ⌜ 2 ≤ length (now result) ⌝ }
+    ensures { λ _. ⌜ now (result .exit) ≡ sets (now (result .entry)) 0 (pullSlots answer) ⌝ }
+{
+    match answer {
+        Pulled::Written(n) => put_two(result, 0, n as u64),
+        Pulled::Refused(n, p) => put_two(result, n as u64, p as u64),
     }
 }
 
@@ -141,4 +154,22 @@ pub extern "C" fn exporter_run_linear(
     }
     let run = linear_machine::run_linear(file, budget, owner, globals, stack, store, frames);
     put_run(result, run);
+}
+
+#[no_mangle]
+pub extern "C" fn exporter_pull_list(
+    clips: &[i32],
+    file: &[u8],
+    budget: u64,
+    list: &mut [u8],
+    result: &mut [u64],
+)
+    ensures { λ _. ⌜ now (list .exit) ≡ pullOutput (pulledList (now (clips .entry)) (now (file .entry)) budget (now (list .entry))) (now (list .entry)) (now (result .entry)) ⌝ }
+    ensures { λ _. ⌜ now (result .exit) ≡ pullResult (pulled (now (clips .entry)) (now (file .entry)) budget (length (now (list .entry)))) (now (result .entry)) ⌝ }
+{
+    if result.len() < 2 {
+        return;
+    }
+    let answer = pull::pull_list(clips, file, budget, list);
+    put_pulled(result, answer);
 }

@@ -22,6 +22,7 @@ use Rattle.machines.specs.Steps.{ranFrom, whole-budget}
 use Rattle.machines.specs.declared.Run.{Run}
 use Rattle.linear_code.specs.Bytes.{bytesProgram, AllBytes, AllWithin}
 use Rattle.linear_code.specs.ProgramLaws.{table-within, program-is}
+use Rattle.linear_machine.specs.Again.{TableOf}
 
 -- ---- what reading answered
 record WasRead (g : Got (List Linear)) : Type 0 where
@@ -60,6 +61,15 @@ module _ (s table table′ : List ℕ) (x : LinearFile) (asked : x ≡ linearTol
   unfolding onLinear programRun
   file-ran o b m r bytes h =
       h ∙ rw (table-is, file .is, program-is s (file .is) bytes) (whole-budget o (linearProgram (file .templates)) b (startState (m .globals) 0))
+
+-- ---- a file that was read before
+module _ (s table : List ℕ) (t : TableOf s table) where
+  pub again-within : AllWithin s table
+  again-within = file-within s (zeros 16384) table (Read (t .count)) (sym (t .read)) refl (t .filled) (t .count) refl
+
+  pub again-ran : (o : Owner) (b : ℕ) (m : Memory) (r : Ran) → AllBytes s → r ≡ ranFrom o (bytesProgram s table) b 0 (startState (m .globals) 0)
+      → r ≡ onLinear o b m (linearRead s)
+  again-ran = file-ran s (zeros 16384) table (Read (t .count)) (sym (t .read)) refl (t .filled) (t .count) refl
 
 -- ---- a file that is refused
 pub file-refused : (s : List ℕ) (x : LinearFile) (o : Owner) (b : ℕ) (m : Memory) (n : ℕ) (p : BitPlace) (r : Run) → x ≡ linearTold (linearRead s) → x ≡ Refused n p → r ≡ refusal n (p .0)

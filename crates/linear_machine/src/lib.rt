@@ -8,9 +8,10 @@ use owners::Owner;
 ghost use mathlib.Core.Path.{_≡_};
 ghost use Rattle.files.specs.Linear.{linearRead};
 ghost use Rattle.machines.specs.Runs.{memory, ran, startState, onLinear, linearRun};
-ghost use Rattle.machines.specs.Start.{zeros, MayStart};
+ghost use Rattle.machines.specs.Start.{zeros, MayStart, startRefusal};
 ghost use Rattle.machines.specs.Steps.{ranFrom};
 ghost use Rattle.linear_code.specs.Bytes.{bytesProgram, AllWithin};
+ghost use Rattle.linear_machine.specs.Again.{TableOf};
 
 // The run of a file that is read, where the table is its table. Linear code has no links.
 fn run_read(
@@ -106,4 +107,24 @@ pub fn run_linear(
         }
         Start::Refused(number, place) => machines::refused(number, place),
     }
+}
+
+// The same run of a file that was read before (`linear::read_linear`), with the table that reading it filled, where 20, 21, 31 and 22 are not given:
+// many runs of one file read it once.
+pub fn run_again(
+    file: &[u8],
+    table: &[u64],
+    budget: u64,
+    owner: u64,
+    globals: &mut [u64],
+    stack: &mut [u64],
+    store: &mut [u64],
+    frames: &mut [u64],
+) -> Run
+    requires { ⌜ TableOf (now file) (now table) ⌝ }
+    requires { ⌜ startRefusal 2000000 budget owner (memory (now globals) (now stack) (now store) (now frames)) ≡ Start.Go ⌝ }
+    ensures { λ x. ⌜ ran x (memory (now (globals .exit)) (now (stack .exit)) (now (store .exit)) (now (frames .exit))) ≡ linearRun (now (file .entry)) budget owner (memory (now (globals .entry)) (now (stack .entry)) (now (store .entry)) (now (frames .entry))) ⌝ }
+{
+    let whose = owners::owner_of(owner);
+    run_read(file, table, budget, whose, globals, stack, store, frames)
 }

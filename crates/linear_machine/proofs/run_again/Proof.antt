@@ -1,0 +1,40 @@
+-- `linear_machine::run_again` meets its contract: as `run_linear`, with the table of a file that was read. Assumes nothing.
+use native.Mathlib.Omega.{arith}
+use mathlib.Core.Path.{sym, _∙_}
+use Rattle.machines.specs.Runs.{linearRun}
+use Rattle.machines.specs.Start.{startable, started-go}
+use Rattle.linear_machine.proofs.FileLaws.{again-within, again-ran, file-owned}
+use borrow.Author.Needs.{needs}
+use Rattle.linear_machine.proofs.run_again.Statement.{statement}
+use Rattle.linear_machine.proofs.run_again.Tie as tie
+
+owner-of-requires : tie.Need-owner-of-requires
+owner-of-requires c κs = search needs
+
+run-read-requires : tie.Need-run-read-requires
+run-read-requires c κs = let start = c .before .before .before .before .before .before .before .before .before .before .before in (startable _ _ _ _ (start .pre .1), again-within _ _ (start .pre .0))
+
+same-length : tie.Need-same-length
+same-length c = search needs
+
+same-length-2 : tie.Need-same-length-2
+same-length-2 c = search needs
+
+same-length-3 : tie.Need-same-length-3
+same-length-3 c = search needs
+
+same-length-4 : tie.Need-same-length-4
+same-length-4 c = search needs
+
+returns : tie.Need-returns
+unfolding linearRun
+returns c =
+    let known = c .before .before .before .before .before .before .before .before .before .before .before .before .before .before .before .before .before .before .before in
+    let run = again-ran _ _ (known .before .pre .0) _ _ _ _ (λ i. omega (arith, known .shared-slice-known .given i)) (c .before .before .before .before .before .before .before .before .run-read .ensures) in
+    file-owned _ (known .before .args .owner) _ _ _ _ (c .before .before .before .before .before .before .before .before .before .before .before .before .before .owner-of .ensures) run
+    ∙ sym (started-go _ _ _ _ _ (known .before .pre .1))
+
+pub run-again-spec : {M : Type 1} → statement M
+run-again-spec =
+    tie.close
+    (tie.spec owner-of-requires run-read-requires same-length same-length-2 same-length-3 same-length-4 returns)

@@ -1,0 +1,42 @@
+-- `pull::check_clips` meets its contract. Assumes nothing.
+use Rattle.pull.proofs.Checks.{many, cut, no-speed, speeds}
+use borrow.Author.Needs.{needs}
+use Rattle.pull.proofs.check_clips.Statement.{statement}
+use Rattle.pull.proofs.check_clips.Tie as tie
+
+returns : tie.Need-returns
+returns c = many _ _ _ (c .if1 .taken)
+
+returns-2 : tie.Need-returns-2
+returns-2 c = cut _ _ _ (c .before .if1 .left) (c .if2 .taken)
+
+check-speeds-requires : tie.Need-check-speeds-requires
+check-speeds-requires c κs = search needs
+
+enum-told : tie.Need-enum-told
+enum-told c = search needs
+
+check-room-requires : tie.Need-check-room-requires
+check-room-requires c κs = search needs
+
+enum-known-number : tie.Need-enum-known-number
+enum-known-number c = search needs
+
+returns-3 : tie.Need-returns-3
+returns-3 c = speeds _ _ _ (c .before .before .before .before .before .if1 .left) (c .before .before .before .before .if2 .left) _ _ (c .before .before .before .check-speeds .ensures) (c .before .enum-told .given .1) (c .check-room .ensures)
+
+returns-4 : tie.Need-returns-4
+returns-4 c = no-speed _ _ _ (c .before .before .before .before .before .if1 .left) (c .before .before .before .before .if2 .left) _ _ _ (c .before .before .before .check-speeds .ensures) (c .before .number .given .1)
+
+pub check-clips-spec : {M : Type 1} → statement M
+check-clips-spec =
+    tie.close
+    (tie.spec
+    returns
+    returns-2
+    check-speeds-requires
+    enum-told
+    check-room-requires
+    enum-known-number
+    returns-3
+    returns-4)

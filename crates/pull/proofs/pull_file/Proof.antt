@@ -1,0 +1,62 @@
+-- `pull::pull_file` meets its contract: by what reading the file answers. Assumes nothing.
+use native.Mathlib.Omega.{arith}
+use mathlib.Core.Path.{sym, _∙_}
+use mathlib.Core.Path.{refl}
+use Rattle.machines.specs.Start.{zeros}
+use Rattle.pull.proofs.Checks.{accepted-fit, file-refused, all-pulled}
+use borrow.Author.Needs.{needs}
+use Rattle.pull.proofs.pull_file.Statement.{statement}
+use Rattle.pull.proofs.pull_file.Tie as tie
+
+slice-aggregate-read-linear : tie.Need-slice-aggregate-read-linear
+slice-aggregate-read-linear c = search needs
+
+read-linear-requires : tie.Need-read-linear-requires
+read-linear-requires c κs = search needs
+
+enum-told : tie.Need-enum-told
+enum-told c = search needs
+
+slice-aggregate-pull-read : tie.Need-slice-aggregate-pull-read
+slice-aggregate-pull-read c = search needs
+
+pull-read-requires : tie.Need-pull-read-requires
+unfolding zeros
+pull-read-requires c κs =
+    let read = c .before .before .before .before .before in
+    let f = accepted-fit _ _ _ (read .before .before .before .before .pre) in
+    (f .few, f .room-for, record { count = _; read = sym (read .read-linear .ensures .0) ∙ c .before .before .enum-told .given .1; filled = read .read-linear .ensures .1 }, f .small)
+
+enum-known-number : tie.Need-enum-known-number
+enum-known-number c = search needs
+
+number-requires : tie.Need-number-requires
+number-requires c κs = search needs
+
+same-length : tie.Need-same-length
+same-length c = search needs
+
+returns : tie.Need-returns
+returns c =
+    let read = c .before .before .before .before .before .before .before .before in
+    all-pulled _ _ _ _ (read .before .before .before .before .pre) _ _ _ (sym (read .read-linear .ensures .0) ∙ c .before .before .before .before .before .enum-told .given .1) (c .before .before .pull-read .ensures .0) (c .before .before .pull-read .ensures .1)
+
+returns-2 : tie.Need-returns-2
+returns-2 c =
+    let read = c .before .before .before .before .before in
+    file-refused _ _ _ _ (read .before .before .before .before .pre) _ _ _ (sym (read .read-linear .ensures .0) ∙ c .before .before .number .given .1) (c .number2 .ensures)
+
+pub pull-file-spec : {M : Type 1} → statement M
+pull-file-spec =
+    tie.close
+    (tie.spec
+    slice-aggregate-read-linear
+    read-linear-requires
+    enum-told
+    slice-aggregate-pull-read
+    pull-read-requires
+    enum-known-number
+    number-requires
+    same-length
+    returns
+    returns-2)

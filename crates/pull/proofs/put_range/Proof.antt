@@ -1,0 +1,39 @@
+-- `pull::put_range` meets its contract: the media's frames as bits, the word, and the numbers. Assumes nothing.
+use native.Mathlib.Omega.{arith}
+use Rattle.text.specs.Laws.{put-before}
+use Rattle.pull.specs.Pull.{sourceWords}
+use borrow.Author.Needs.{needs}
+use Rattle.pull.proofs.put_range.Statement.{statement}
+use Rattle.pull.proofs.put_range.Tie as tie
+
+word-bits-requires : tie.Need-word-bits-requires
+word-bits-requires c κs = search needs
+
+word-bits-requires-2 : tie.Need-word-bits-requires-2
+word-bits-requires-2 c κs = search needs
+
+put-verdict-requires : tie.Need-put-verdict-requires
+put-verdict-requires c κs = search needs
+
+put-source-requires : tie.Need-put-source-requires
+put-source-requires c κs = search needs
+
+same-length : tie.Need-same-length
+same-length c = search needs
+
+returns : tie.Need-returns
+unfolding sourceWords
+returns c =
+    let word = rw (c .before .before .before .before .before .before .before .before .before .word-bits .ensures .1 .1, c .before .before .before .before .before .before .before .before .word-bits2 .ensures .1 .1) at (c .before .before .before .before .before .before .put-verdict .ensures .0) in
+    (put-before _ _ _ word (c .before .before .put-source .ensures .0), omega arith)
+
+pub put-range-spec : {M : Type 1} → statement M
+put-range-spec =
+    tie.close
+    (tie.spec
+    word-bits-requires
+    word-bits-requires-2
+    put-verdict-requires
+    put-source-requires
+    same-length
+    returns)

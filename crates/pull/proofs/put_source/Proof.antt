@@ -1,0 +1,46 @@
+-- `pull::put_source` meets its contract: an integer has at most 16 bytes, so the second has room too. Assumes nothing.
+use native.Mathlib.Omega.{arith}
+use Rattle.text.specs.Laws.{put-then, put-length}
+use Rattle.pull.proofs.Lines.{integer-short, put-two}
+use borrow.Author.Needs.{needs}
+use Rattle.pull.proofs.put_source.Statement.{statement}
+use Rattle.pull.proofs.put_source.Tie as tie
+
+put-integer-requires : tie.Need-put-integer-requires
+put-integer-requires c κs = search needs
+
+put-byte-requires : tie.Need-put-byte-requires
+put-byte-requires c κs = search needs
+
+put-integer-requires-2 : tie.Need-put-integer-requires-2
+put-integer-requires-2 c κs =
+    let one = c .before .before .before .before .before .before .before in
+    omega (arith, one .put-integer .ensures .0 .next, integer-short (one .before .before .before .args .i), put-length (one .put-integer .ensures .0), c .before .before .before .put-byte .ensures .next, put-length (c .before .before .before .put-byte .ensures))
+
+put-byte-requires-2 : tie.Need-put-byte-requires-2
+put-byte-requires-2 c κs =
+    let one = c .before .before .before .before .before .before .before .before .before .before .before in
+    let two = c .before .before .before in
+    omega (arith, one .put-integer .ensures .0 .next, integer-short (one .before .before .before .args .i), put-length (one .put-integer .ensures .0), c .before .before .before .before .before .before .before .put-byte .ensures .next, put-length (c .before .before .before .before .before .before .before .put-byte .ensures), two .put-integer2 .ensures .0 .next, integer-short (one .before .before .before .args .o), put-length (two .put-integer2 .ensures .0))
+
+same-length : tie.Need-same-length
+same-length c = search needs
+
+returns : tie.Need-returns
+returns c =
+    let one = c .before .before .before .before .before .before .before .before .before .before .before .before .before .before in
+    let two = c .before .before .before .before .before .before in (
+      put-two _ _ (put-then (one .put-integer .ensures .0) (c .before .before .before .before .before .before .before .before .before .before .put-byte .ensures)) (put-then (two .put-integer2 .ensures .0) (c .before .before .put-byte2 .ensures)),
+      omega (arith, one .put-integer .ensures .0 .next, integer-short (one .before .before .before .args .i), c .before .before .before .before .before .before .before .before .before .before .put-byte .ensures .next, two .put-integer2 .ensures .0 .next, integer-short (one .before .before .before .args .o), c .before .before .put-byte2 .ensures .next),
+    )
+
+pub put-source-spec : {M : Type 1} → statement M
+put-source-spec =
+    tie.close
+    (tie.spec
+    put-integer-requires
+    put-byte-requires
+    put-integer-requires-2
+    put-byte-requires-2
+    same-length
+    returns)

@@ -1,0 +1,82 @@
+-- `pull::set_globals` meets its contract: all undefined, then six stores. Assumes nothing.
+use Rattle.pull.proofs.Clips.{six-set, six-fit}
+use native.Mathlib.Omega.{arith}
+use lib.ListN.{length-set}
+use borrow.Author.Needs.{needs}
+use Rattle.pull.proofs.set_globals.Statement.{statement}
+use Rattle.pull.proofs.set_globals.Tie as tie
+
+undefine-requires : tie.Need-undefine-requires
+undefine-requires c κs = search needs
+
+word-cell-requires : tie.Need-word-cell-requires
+word-cell-requires c κs = search needs
+
+slice-write-globals : tie.Need-slice-write-globals
+slice-write-globals c = search needs
+
+word-cell-requires-2 : tie.Need-word-cell-requires-2
+word-cell-requires-2 c κs = search needs
+
+slice-write-globals-2 : tie.Need-slice-write-globals-2
+slice-write-globals-2 c = simp length-set (omega (arith, c .before .before .before .before .undefine .kept, c .before .before .before .before .before .before .before .pre))
+
+word-cell-requires-3 : tie.Need-word-cell-requires-3
+word-cell-requires-3 c κs = search needs
+
+slice-write-globals-3 : tie.Need-slice-write-globals-3
+slice-write-globals-3 c = simp length-set (omega (arith, c .before .before .before .before .before .undefine .kept, c .before .before .before .before .before .before .before .before .pre))
+
+word-cell-requires-4 : tie.Need-word-cell-requires-4
+word-cell-requires-4 c κs = search needs
+
+slice-write-globals-4 : tie.Need-slice-write-globals-4
+slice-write-globals-4 c = simp length-set (omega (arith, c .before .before .before .before .before .before .undefine .kept, c .before .before .before .before .before .before .before .before .before .pre))
+
+word-cell-requires-5 : tie.Need-word-cell-requires-5
+word-cell-requires-5 c κs = search needs
+
+slice-write-globals-5 : tie.Need-slice-write-globals-5
+slice-write-globals-5 c = simp length-set (omega (arith, c .before .before .before .before .before .before .before .undefine .kept, c .before .before .before .before .before .before .before .before .before .before .pre))
+
+word-cell-requires-6 : tie.Need-word-cell-requires-6
+word-cell-requires-6 c κs = search needs
+
+slice-write-globals-6 : tie.Need-slice-write-globals-6
+slice-write-globals-6 c = simp length-set (omega (arith, c .before .before .before .before .before .before .before .before .undefine .kept, c .before .before .before .before .before .before .before .before .before .before .before .pre))
+
+same-length : tie.Need-same-length
+same-length c = simp length-set (omega (arith, c .before .before .before .before .before .before .before .before .undefine .kept, c .before .before .before .before .before .before .before .before .before .before .before .pre))
+
+returns : tie.Need-returns
+returns c =
+    let all = c .before .before .before .before .before .before .before .before .undefine .ensures in
+    let w0 = c .before .before .before .before .before .word-cell .ensures in
+    let w1 = c .before .before .before .before .word-cell2 .ensures in
+    let w2 = c .before .before .before .word-cell3 .ensures in
+    let w3 = c .before .before .word-cell4 .ensures in
+    let w4 = c .before .word-cell5 .ensures in
+    let w5 = c .word-cell6 .ensures in (
+      six-set _ _ _ _ _ _ _ _ all (w0 .0) (w1 .0) (w2 .0) (w3 .0) (w4 .0) (w5 .0),
+      six-fit _ _ _ _ _ _ _ all (w0 .1) (w1 .1) (w2 .1) (w3 .1) (w4 .1) (w5 .1),
+    )
+
+pub set-globals-spec : {M : Type 1} → statement M
+set-globals-spec =
+    tie.close
+    (tie.spec
+    undefine-requires
+    word-cell-requires
+    slice-write-globals
+    word-cell-requires-2
+    slice-write-globals-2
+    word-cell-requires-3
+    slice-write-globals-3
+    word-cell-requires-4
+    slice-write-globals-4
+    word-cell-requires-5
+    slice-write-globals-5
+    word-cell-requires-6
+    slice-write-globals-6
+    same-length
+    returns)

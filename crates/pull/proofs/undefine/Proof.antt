@@ -1,0 +1,58 @@
+-- `pull::undefine` meets its contract: what is left to fill, filled, gives globals that are all undefined; the measure is how many are left. Assumes nothing.
+use native.Mathlib.Omega.{arith}
+use Prim.Native.Nat.{_-_, _≤_}
+use mathlib.Core.Path.{_≡_, refl, sym, _∙_}
+use lib.ListN.{length, replicate, length-set}
+use lib.Seq.{sets}
+use Rattle.cells.specs.Cells.{undefinedCell}
+use Rattle.pull.proofs.Clips.{fill-on, fill-done, fill-all}
+use borrow.Author.Needs.{needs}
+use Rattle.pull.proofs.undefine.Statement.{statement}
+use Rattle.pull.proofs.undefine.Tie as tie
+
+abbrev Inv-loop : tie.InvT-loop
+Inv-loop globals₀ i₀ globals i = (i ≤ length globals) × (length globals ≡ length globals₀) × (sets globals i (replicate (256 - i) undefinedCell) ≡ sets globals₀ 0 (replicate 256 undefinedCell))
+
+abbrev μ-loop : tie.MeasureT-loop
+μ-loop globals₀ i₀ globals i = length globals - i
+
+loop-holds : tie.Need-loop-holds Inv-loop μ-loop
+loop-holds c = (search needs, search needs, refl)
+
+mul-globals : tie.Need-mul-globals Inv-loop μ-loop
+mul-globals c = search needs
+
+slice-write-globals : tie.Need-slice-write-globals Inv-loop μ-loop
+slice-write-globals c = search needs
+
+add-i : tie.Need-add-i Inv-loop μ-loop
+add-i c = search needs
+
+loop-less : tie.Need-loop-less Inv-loop μ-loop
+loop-less c = simp length-set (omega arith)
+
+loop-again : tie.Need-loop-again Inv-loop μ-loop
+loop-again c =
+    let h = c .before .loop in
+    (simp length-set (omega arith), simp length-set (omega (arith, h .inv)), fill-on (h .globals) (h .i) 256 undefinedCell (omega (arith, h .inv, c .before .before .pre, c .loop-test)) ∙ h .inv .2)
+
+same-length : tie.Need-same-length Inv-loop μ-loop
+same-length c = search needs
+
+returns : tie.Need-returns Inv-loop μ-loop
+returns c = sym (fill-done (c .before .loop .globals) (c .before .loop .i) 256 undefinedCell (omega (arith, c .before .loop .inv, c .before .before .pre, c .loop-test))) ∙ c .before .loop .inv .2 ∙ fill-all (c .before .before .args .globals .now) 256 undefinedCell (c .before .before .pre)
+
+pub undefine-spec : {M : Type 1} → statement M
+undefine-spec =
+    tie.close
+    (tie.spec
+    Inv-loop
+    μ-loop
+    loop-holds
+    mul-globals
+    slice-write-globals
+    add-i
+    loop-less
+    loop-again
+    same-length
+    returns)

@@ -1,0 +1,4 @@
+-- The specs of the crate pull.
+pub mod Pull
+pub mod Laws
+pub mod Places
