@@ -1,4 +1,5 @@
--- Demand 3 and request 8, for each owner (request 12), the statement. Its proof stands in Proved.antt. Everything it speaks of is defined in the specs of files, flatten and
+-- Demand 3 and request 8, for each owner (request 12), the statement. Its proof stands in Proved.antt. Everything it speaks of is defined in the specs of
+-- files, flatten and
 -- machines.
 --
 -- For a file the flattener accepts (request 4: 24 is one of its refusals), the same starting globals, a budget of b steps (at most 1,000,000) and the

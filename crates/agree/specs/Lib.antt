@@ -1,10 +1,3 @@
 -- The specs of the crate agree.
-pub mod Suits
-pub mod Layout
-pub mod Decoded
-pub mod Places
-pub mod Files
 pub mod Demand3
-pub mod Proved
-pub mod Never16
-pub mod Functions
+pub mod laws

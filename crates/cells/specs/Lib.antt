@@ -1,4 +1,4 @@
 -- The specs of the crate cells.
 pub mod Cells
 pub mod Numbers
-pub mod Laws
+pub mod laws

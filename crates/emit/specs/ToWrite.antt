@@ -59,7 +59,8 @@ module _ {s : List ℕ} {l p front back : ℕ} where
   ArmsDone w r o o′ = (r ≡ wroteAs (w .past) (front + length (armsBytes (w .first) (w .second))) back) × (o′ ≡ sets o front (armsBytes (w .first) (w .second)))
 
   abbrev pub SavedDone : ℕ → SavedToWrite s l p front back → Wrote → List ℕ → List ℕ → Type 0
-  SavedDone n w r o o′ = (r ≡ wroteAs (w .past) (front + 4) (front + 4 + w .rest)) × (o′ ≡ sets (sets o front (savedBytes n (w .rest))) (front + 4 + w .rest) (flat (w .saved)))
+  SavedDone n w r o o′ =
+      (r ≡ wroteAs (w .past) (front + 4) (front + 4 + w .rest)) × (o′ ≡ sets (sets o front (savedBytes n (w .rest))) (front + 4 + w .rest) (flat (w .saved)))
 
   -- the bytes before the rest's, and where the rest's begin and end
   abbrev pub itemBytes : ItemToWrite s l p front back → List ℕ

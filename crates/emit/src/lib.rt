@@ -103,7 +103,8 @@ fn write_conditional(
     front: usize,
     back: usize,
 ) -> Wrote
-    requires { ⌜ (length (now s) ≤ 65536) × (length (now table) ≡ 16384) × (own < 64) × (back ≤ length (now out)) × ArmsToWrite (now s) levels (at .0) front back ⌝ }
+    requires { ⌜ (length (now s) ≤ 65536) × (length (now table) ≡ 16384) × (own < 64) × (back ≤ length (now out))
+        × ArmsToWrite (now s) levels (at .0) front back ⌝ }
     ensures { λ r. ⌜ ((w : ArmsToWrite (now (s .entry)) levels (at .0) front back) → ArmsDone w r (now (out .entry)) (now (out .exit))) ⌝ }
 {
     let first = measure(s, table, own, at, levels);
@@ -135,7 +136,8 @@ fn write_make_cont(
     front: usize,
     back: usize,
 ) -> Wrote
-    requires { ⌜ (length (now s) ≤ 65536) × (length (now table) ≡ 16384) × (own < 64) × (n < 256) × (back ≤ length (now out)) × SavedToWrite (now s) levels (at .0) front back ⌝ }
+    requires { ⌜ (length (now s) ≤ 65536) × (length (now table) ≡ 16384) × (own < 64) × (n < 256) × (back ≤ length (now out))
+        × SavedToWrite (now s) levels (at .0) front back ⌝ }
     ensures { λ r. ⌜ ((w : SavedToWrite (now (s .entry)) levels (at .0) front back) → SavedDone n w r (now (out .entry)) (now (out .exit))) ⌝ }
 {
     let saved = measure(s, table, own, at, levels);
@@ -162,7 +164,8 @@ fn write_instr(
     front: usize,
     back: usize,
 ) -> Wrote
-    requires { ⌜ (length (now s) ≤ 65536) × (length (now table) ≡ 16384) × (own < 64) × (back ≤ length (now out)) × ItemToWrite (now s) levels (at .0) front back ⌝ }
+    requires { ⌜ (length (now s) ≤ 65536) × (length (now table) ≡ 16384) × (own < 64) × (back ≤ length (now out))
+        × ItemToWrite (now s) levels (at .0) front back ⌝ }
     ensures { λ r. ⌜ ((w : ItemToWrite (now (s .entry)) levels (at .0) front back) → ItemDone w r (now (out .entry)) (now (out .exit))) ⌝ }
 {
     let shape = lists::shape_of(fields::bits_at(s, at, 5));
@@ -195,7 +198,8 @@ pub fn write_list(
     front: usize,
     back: usize,
 ) -> BitPlace
-    requires { ⌜ (length (now s) ≤ 65536) × (length (now table) ≡ 16384) × (own < 64) × (back ≤ length (now out)) × ToWrite (now s) levels (at .0) front back ⌝ }
+    requires { ⌜ (length (now s) ≤ 65536) × (length (now table) ≡ 16384) × (own < 64) × (back ≤ length (now out))
+        × ToWrite (now s) levels (at .0) front back ⌝ }
     ensures { λ r. ⌜ ((w : ToWrite (now (s .entry)) levels (at .0) front back) →
         (r .0 ≡ w .past) × (now (out .exit) ≡ sets (now (out .entry)) front (flat (w .code)))) ⌝ }
 {

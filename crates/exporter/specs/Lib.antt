@@ -1,3 +1,4 @@
 -- The specs of the crate exporter.
 pub mod Exporter
 pub mod Answers
+pub mod laws

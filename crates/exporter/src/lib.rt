@@ -6,7 +6,7 @@ ghost use lib.ListN.{length};
 ghost use lib.Seq.{sets};
 ghost use Rattle.cells.specs.Cells.{cellOf};
 ghost use Rattle.flatten.specs.Flatten.{flattened};
-ghost use Rattle.machines.specs.Runs.{memory, treeRun, linearRun};
+ghost use Rattle.machines.specs.Runs.{lent, treeRun, linearRun};
 ghost use Rattle.pull.specs.Pull.{pulled, pulledList};
 ghost use Rattle.exporter.specs.Exporter.{endSlots, runSlots, flattenSlots, flattenOutput, flattenResult, exported, runExported};
 ghost use Rattle.exporter.specs.Exporter.{pullSlots, pullOutput, pullResult};
@@ -127,7 +127,8 @@ pub extern "C" fn exporter_run_tree(
     frames: &mut [u64],
     result: &mut [u64],
 )
-    ensures { λ _. ⌜ exported (memory (now (globals .exit)) (now (stack .exit)) (now (store .exit)) (now (frames .exit))) (now (result .exit)) ≡ runExported (treeRun (now (file .entry)) budget owner) (memory (now (globals .entry)) (now (stack .entry)) (now (store .entry)) (now (frames .entry))) (now (result .entry)) ⌝ }
+    ensures { λ _. ⌜ exported (lent (globals .exit) (stack .exit) (store .exit) (frames .exit)) (now (result .exit))
+        ≡ runExported (treeRun (now (file .entry)) budget owner) (lent (globals .entry) (stack .entry) (store .entry) (frames .entry)) (now (result .entry)) ⌝ }
 {
     if result.len() < 8 {
         return;
@@ -147,7 +148,9 @@ pub extern "C" fn exporter_run_linear(
     frames: &mut [u64],
     result: &mut [u64],
 )
-    ensures { λ _. ⌜ exported (memory (now (globals .exit)) (now (stack .exit)) (now (store .exit)) (now (frames .exit))) (now (result .exit)) ≡ runExported (linearRun (now (file .entry)) budget owner) (memory (now (globals .entry)) (now (stack .entry)) (now (store .entry)) (now (frames .entry))) (now (result .entry)) ⌝ }
+    ensures { λ _. ⌜ exported (lent (globals .exit) (stack .exit) (store .exit) (frames .exit)) (now (result .exit))
+        ≡ runExported (linearRun (now (file .entry)) budget owner) (lent (globals .entry) (stack .entry) (store .entry) (frames .entry))
+        (now (result .entry)) ⌝ }
 {
     if result.len() < 8 {
         return;
@@ -164,8 +167,10 @@ pub extern "C" fn exporter_pull_list(
     list: &mut [u8],
     result: &mut [u64],
 )
-    ensures { λ _. ⌜ now (list .exit) ≡ pullOutput (pulledList (now (clips .entry)) (now (file .entry)) budget (now (list .entry))) (now (list .entry)) (now (result .entry)) ⌝ }
-    ensures { λ _. ⌜ now (result .exit) ≡ pullResult (pulled (now (clips .entry)) (now (file .entry)) budget (length (now (list .entry)))) (now (result .entry)) ⌝ }
+    ensures { λ _. ⌜ now (list .exit)
+        ≡ pullOutput (pulledList (now (clips .entry)) (now (file .entry)) budget (now (list .entry))) (now (list .entry)) (now (result .entry)) ⌝ }
+    ensures { λ _. ⌜ now (result .exit)
+        ≡ pullResult (pulled (now (clips .entry)) (now (file .entry)) budget (length (now (list .entry)))) (now (result .entry)) ⌝ }
 {
     if result.len() < 2 {
         return;

@@ -62,7 +62,9 @@ pub record Linear : Type 0 where
 
 -- the n code bytes at p, which stands on a byte; 2 at the first that is missing
 unfoldable pub codeAt : List ℕ → List Entry → ℕ → ℕ → Got Linear
-codeAt s es n p = cond (leb (p + 8 * n) (8 * length s)) (got (record { entries = es; start = p / 8; code = take n (drop (p / 8) s) }) (p + 8 * n)) (refused cutField (8 * length s))
+codeAt s es n p =
+    cond (leb (p + 8 * n) (8 * length s)) (got (record { entries = es; start = p / 8; code = take n (drop (p / 8) s) }) (p + 8 * n))
+    (refused cutField (8 * length s))
 
 -- template own of T at p
 unfoldable pub linearTemplateAt : List ℕ → ℕ → ℕ → ℕ → Got Linear

@@ -47,7 +47,8 @@ module _ (s : List ℕ) (deep : Deep) where
   shaped p v q (suc (suc zero)) = withField q (λ a q₁. item (simple v (a ∷ [])) q₁) (fieldRead s q 8)
   shaped p v q (suc (suc (suc zero))) = withField q (λ a q₁. withField q₁ (λ b q₂. item (simple v (a ∷ b ∷ [])) q₂) (fieldRead s q₁ 8)) (fieldRead s q 8)
   shaped p v q (suc (suc (suc (suc zero)))) = withDeep p (λ f. withList (λ x q₁. withList (λ y q₂. item (unless-i x y) q₂) (f q₁)) (f q)) deep
-  shaped p v q (suc (suc (suc (suc (suc zero))))) = withDeep p (λ f. withField q (λ n q₁. withList (λ x q₂. item (cont-i n x) q₂) (f q₁)) (fieldRead s q 8)) deep
+  shaped p v q (suc (suc (suc (suc (suc zero))))) =
+      withDeep p (λ f. withField q (λ n q₁. withList (λ x q₂. item (cont-i n x) q₂) (f q₁)) (fieldRead s q 8)) deep
   shaped p v q (suc (suc (suc (suc (suc (suc k)))))) = bad invalidField p
 
   -- what stands at p

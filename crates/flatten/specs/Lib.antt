@@ -1,6 +1,4 @@
 -- The specs of the crate flatten.
 pub mod Flatten
-pub mod Copied
 pub mod ToFlatten
-pub mod TemplateSteps
-pub mod FileSteps
+pub mod laws

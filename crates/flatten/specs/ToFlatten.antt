@@ -1,4 +1,4 @@
--- What is known of the templates that are to be written, and what was written of one. Assumes nothing.
+-- What is known of the templates that are to be written, and what was written of one.
 use Prim.Native.Nat.{ℕ, _+_, _*_, _-_, _≤_}
 use mathlib.Core.Path.{_≡_}
 use mathlib.Core.Bool.{true}

@@ -67,8 +67,10 @@ fn write_template(
     out: &mut [u8],
     front: usize,
 ) -> Past
-    requires { ⌜ (length (now s) ≤ 65536) × (length (now table) ≡ 16384) × (own < 64) × TemplateToWrite (now s) (now table) own (at .0) front (length (now out)) ⌝ }
-    ensures { λ r. ⌜ ((w : TemplateToWrite (now (s .entry)) (now (table .entry)) own (at .0) front (length (now (out .entry)))) → TemplateDone w r (now (out .entry)) (now (out .exit))) ⌝ }
+    requires { ⌜ (length (now s) ≤ 65536) × (length (now table) ≡ 16384) × (own < 64)
+        × TemplateToWrite (now s) (now table) own (at .0) front (length (now out)) ⌝ }
+    ensures { λ r. ⌜ ((w : TemplateToWrite (now (s .entry)) (now (table .entry)) own (at .0) front (length (now (out .entry))))
+        → TemplateDone w r (now (out .entry)) (now (out .exit))) ⌝ }
 {
     let p = at.0;
     let slot = 256 * own;
@@ -87,7 +89,8 @@ fn write_template(
 // The `count` templates, which stand from bit 8 on, into the bytes from 1 on.
 fn write_templates(s: &[u8], table: &[u64], count: usize, out: &mut [u8])
     requires { ⌜ (length (now s) ≤ 65536) × (length (now table) ≡ 16384) × TemplatesToWrite (now s) (now table) count 0 8 1 (length (now out)) ⌝ }
-    ensures { λ _. ⌜ ((w : TemplatesToWrite (now (s .entry)) (now (table .entry)) count 0 8 1 (length (now (out .entry)))) → now (out .exit) ≡ sets (now (out .entry)) 1 (templatesBytes (w .templates))) ⌝ }
+    ensures { λ _. ⌜ ((w : TemplatesToWrite (now (s .entry)) (now (table .entry)) count 0 8 1 (length (now (out .entry))))
+        → now (out .exit) ≡ sets (now (out .entry)) 1 (templatesBytes (w .templates))) ⌝ }
 {
     let mut own: usize = 0;
     let mut here = BitPlace(8);

@@ -1,3 +1,3 @@
 -- The specs of the crate frames.
 pub mod Ends
-pub mod Told
+pub mod laws

@@ -37,7 +37,9 @@ pub fn make_cont(
     cell: u64,
 ) -> Kept
     requires { ⌜ (length (now stack) ≡ 256) × (length (now frames) ≡ 2048) × (fr ≤ 2048) × Fit r ⌝ }
-    ensures { λ x. ⌜ ((g s : List ℕ) → left x (mem g (now (stack .exit)) s) (now (frames .exit)) ≡ endsKept (keepRule n cell) (state r (mem g (now (stack .entry)) s) (now (frames .entry)) fr)) ⌝ }
+    ensures { λ x. ⌜ ((g s : List ℕ)
+        → left x (mem g (now (stack .exit)) s) (now (frames .exit)) ≡ endsKept (keepRule n cell)
+        (state r (mem g (now (stack .entry)) s) (now (frames .entry)) fr)) ⌝ }
     ensures fits { λ x. ⌜ KeptFit x ⌝ }
 {
     let sp = r.sp;
@@ -65,7 +67,8 @@ pub fn make_cont(
 // Stack, template, environment and place come back, v stays.
 pub fn give_back(stack: &mut [u64], frames: &mut [u64], fr: usize, r: Regs) -> Returned
     requires { ⌜ (length (now stack) ≡ 256) × (length (now frames) ≡ 2048) × (fr ≤ 2048) × Fit r ⌝ }
-    ensures { λ x. ⌜ ((g s : List ℕ) → left x (mem g (now (stack .exit)) s) (now (frames .exit)) ≡ endsBack returnRule (state r (mem g (now (stack .entry)) s) (now (frames .entry)) fr)) ⌝ }
+    ensures { λ x. ⌜ ((g s : List ℕ)
+        → left x (mem g (now (stack .exit)) s) (now (frames .exit)) ≡ endsBack returnRule (state r (mem g (now (stack .entry)) s) (now (frames .entry)) fr)) ⌝ }
     ensures fits { λ x. ⌜ BackFit x ⌝ }
 {
     if fr == 0 {

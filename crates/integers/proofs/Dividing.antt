@@ -13,8 +13,8 @@ use mir.Val.{SFits, toZ, ofZ}
 use mir.Facts.{toZ-ofZ}
 use Rattle.cells.specs.Cells.{half, full}
 use Rattle.integers.specs.Integers.{signed, floorQuotient}
-use Rattle.integers.specs.Laws.{signed-zero}
-use Rattle.integers.specs.Floor.{differ, leftOver, corrected, corrected-is}
+use Rattle.integers.specs.laws.Laws.{signed-zero}
+use Rattle.integers.specs.laws.Floor.{differ, leftOver, corrected, corrected-is}
 use Rattle.integers.proofs.Exact.{mag-add, mag-neg, Value, value-again}
 
 mag-quot : (x y : ℤ) → mag (quotZ x y) ≤ mag x + 2

@@ -14,7 +14,7 @@ use mir.Facts.{toZ-ofZ}
 use Rattle.cells.specs.Cells.{half, full}
 use Rattle.integers.specs.Integers.{signed, within, intBits}
 use Rattle.integers.specs.Answers.{rangedOf}
-use Rattle.integers.specs.Laws.{signed-low, signed-high, signed-mag, mag-within, bits-fit}
+use Rattle.integers.specs.laws.Laws.{signed-low, signed-high, signed-mag, mag-within, bits-fit}
 use Rattle.integers.specs.declared.Ranged.the-variants.{Within, Over}
 
 not-below-zero : (n : ℕ) → n < 0 → ⊥

@@ -1,3 +1,2 @@
 pub mod Filled
-pub mod LinearSteps
-pub mod LinearTable
+pub mod laws

@@ -1,4 +1,3 @@
 -- The specs of the crate linear_code.
 pub mod Bytes
-pub mod BytesLaws
-pub mod ProgramLaws
+pub mod laws

@@ -105,7 +105,8 @@ fn fetch_whole(file: &[u8], i: usize, left: usize, op: u8, next: BytePlace) -> I
 // What stands at a place of the `len` bytes of code at `start`.
 fn fetch_code(file: &[u8], start: usize, len: usize, at: BytePlace) -> Instruction
     requires { ⌜ Within (now file) start len × (length (now file) ≤ 262144) ⌝ }
-    ensures { λ r. ⌜ ((table : List ℕ) (t : ℕ) → fetchedAs (slotAt table t) r ≡ fetchBytes (now (file .entry)) table t start len (at .0)) × Places linearForm r ⌝ }
+    ensures { λ r. ⌜ ((table : List ℕ) (t : ℕ) → fetchedAs (slotAt table t) r ≡ fetchBytes (now (file .entry)) table t start len (at .0))
+        × Places linearForm r ⌝ }
 {
     let left = at.left(len);
     if left == 0 {
@@ -129,7 +130,8 @@ fn fetch_code(file: &[u8], start: usize, len: usize, at: BytePlace) -> Instructi
 // What stands at a place of a template.
 pub fn fetch(file: &[u8], table: &[u64], template: u8, at: BytePlace) -> Instruction
     requires { ⌜ AllWithin (now file) (now table) ⌝ }
-    ensures { λ r. ⌜ (fetchedAs (slotAt (now (table .entry)) template) r ≡ fetchBytes (now (file .entry)) (now (table .entry)) template (codeStart (now (table .entry)) template) (codeLength (now (table .entry)) template) (at .0)) × Places linearForm r ⌝ }
+    ensures { λ r. ⌜ (fetchedAs (slotAt (now (table .entry)) template) r ≡ fetchBytes (now (file .entry)) (now (table .entry)) template
+        (codeStart (now (table .entry)) template) (codeLength (now (table .entry)) template) (at .0)) × Places linearForm r ⌝ }
 {
     let slot = machines::slot_at(table, template, 0);
     let start = (slot % 0x1_0000_0000) as usize;

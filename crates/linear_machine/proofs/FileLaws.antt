@@ -4,24 +4,26 @@ use mathlib.Core.Path.{_≡_, refl, sym, ap, _∙_}
 use mathlib.Core.List.{List}
 use native.Mathlib.Omega.{arith}
 use lib.ListN.{length}
-use Rattle.cells.specs.Laws.{clash}
+use Rattle.cells.specs.laws.Laws.{clash}
 use Rattle.cells.specs.declared.BitPlace.{BitPlace}
 use Rattle.files.specs.Reading.{Got, got, refused}
 use Rattle.files.specs.Linear.{Linear, linearRead}
 use Rattle.files.specs.Table.{linearTable}
 use Rattle.linear.specs.Filled.{linearTold, linearFilled}
-use Rattle.linear.specs.LinearTable.{linear-table}
+use Rattle.linear.specs.laws.LinearTable.{linear-table}
 use Rattle.linear.specs.declared.LinearFile.{LinearFile}
 use Rattle.linear.specs.declared.LinearFile.the-variants.{Read, Refused}
 use Rattle.owners.specs.Owners.{ownerOf}
 use Rattle.owners.specs.declared.Owner.{Owner}
 use Rattle.machines.specs.Machine.{linearProgram}
 use Rattle.machines.specs.Runs.{Memory, Ran, ran, refusedRun, startState, programRun, onLinear}
-use Rattle.machines.specs.Start.{zeros, zeros-length, refusal}
-use Rattle.machines.specs.Steps.{ranFrom, whole-budget}
+use Rattle.machines.specs.Start.{zeros, refusal}
+use Rattle.machines.specs.laws.Start.{zeros-length}
+use Rattle.machines.specs.Steps.{ranFrom}
+use Rattle.machines.specs.laws.Steps.{whole-budget}
 use Rattle.machines.specs.declared.Run.{Run}
 use Rattle.linear_code.specs.Bytes.{bytesProgram, AllBytes, AllWithin}
-use Rattle.linear_code.specs.ProgramLaws.{table-within, program-is}
+use Rattle.linear_code.specs.laws.ProgramLaws.{table-within, program-is}
 use Rattle.linear_machine.specs.Again.{TableOf}
 
 -- ---- what reading answered

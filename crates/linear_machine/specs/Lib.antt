@@ -1,2 +1,3 @@
 -- The specs of the crate linear_machine.
 pub mod Again
+pub mod laws

@@ -7,7 +7,7 @@ use machines::Start;
 use owners::Owner;
 ghost use mathlib.Core.Path.{_≡_};
 ghost use Rattle.files.specs.Linear.{linearRead};
-ghost use Rattle.machines.specs.Runs.{memory, ran, startState, onLinear, linearRun};
+ghost use Rattle.machines.specs.Runs.{lent, ran, startState, onLinear, linearRun};
 ghost use Rattle.machines.specs.Start.{zeros, MayStart, startRefusal};
 ghost use Rattle.machines.specs.Steps.{ranFrom};
 ghost use Rattle.linear_code.specs.Bytes.{bytesProgram, AllWithin};
@@ -24,8 +24,9 @@ fn run_read(
     store: &mut [u64],
     frames: &mut [u64],
 ) -> Run
-    requires { ⌜ MayStart 2000000 budget (memory (now globals) (now stack) (now store) (now frames)) × AllWithin (now file) (now table) ⌝ }
-    ensures { λ x. ⌜ ran x (memory (now (globals .exit)) (now (stack .exit)) (now (store .exit)) (now (frames .exit))) ≡ ranFrom owner (bytesProgram (now (file .entry)) (now (table .entry))) budget 0 (startState (now (globals .entry)) 0) ⌝ }
+    requires { ⌜ MayStart 2000000 budget (lent globals stack store frames) × AllWithin (now file) (now table) ⌝ }
+    ensures { λ x. ⌜ ran x (lent (globals .exit) (stack .exit) (store .exit) (frames .exit))
+        ≡ ranFrom owner (bytesProgram (now (file .entry)) (now (table .entry))) budget 0 (startState (now (globals .entry)) 0) ⌝ }
 {
     let no_links = [0u32; 1];
     let first = CodePlace::Linear(BytePlace(0));
@@ -54,8 +55,9 @@ fn run_file(
     store: &mut [u64],
     frames: &mut [u64],
 ) -> Run
-    requires { ⌜ MayStart 2000000 budget (memory (now globals) (now stack) (now store) (now frames)) × (now table ≡ zeros 16384) ⌝ }
-    ensures { λ x. ⌜ ran x (memory (now (globals .exit)) (now (stack .exit)) (now (store .exit)) (now (frames .exit))) ≡ onLinear owner budget (memory (now (globals .entry)) (now (stack .entry)) (now (store .entry)) (now (frames .entry))) (linearRead (now (file .entry))) ⌝ }
+    requires { ⌜ MayStart 2000000 budget (lent globals stack store frames) × (now table ≡ zeros 16384) ⌝ }
+    ensures { λ x. ⌜ ran x (lent (globals .exit) (stack .exit) (store .exit) (frames .exit))
+        ≡ onLinear owner budget (lent (globals .entry) (stack .entry) (store .entry) (frames .entry)) (linearRead (now (file .entry))) ⌝ }
 {
     match linear::read_linear(file, table) {
         LinearFile::Read(_) => run_read(file, table, budget, owner, globals, stack, store, frames),
@@ -73,8 +75,9 @@ fn run_accepted(
     store: &mut [u64],
     frames: &mut [u64],
 ) -> Run
-    requires { ⌜ MayStart 2000000 budget (memory (now globals) (now stack) (now store) (now frames)) ⌝ }
-    ensures { λ x. ⌜ ran x (memory (now (globals .exit)) (now (stack .exit)) (now (store .exit)) (now (frames .exit))) ≡ onLinear owner budget (memory (now (globals .entry)) (now (stack .entry)) (now (store .entry)) (now (frames .entry))) (linearRead (now (file .entry))) ⌝ }
+    requires { ⌜ MayStart 2000000 budget (lent globals stack store frames) ⌝ }
+    ensures { λ x. ⌜ ran x (lent (globals .exit) (stack .exit) (store .exit) (frames .exit))
+        ≡ onLinear owner budget (lent (globals .entry) (stack .entry) (store .entry) (frames .entry)) (linearRead (now (file .entry))) ⌝ }
 {
     let mut table = [0u64; 16384];
     run_file(
@@ -98,7 +101,8 @@ pub fn run_linear(
     store: &mut [u64],
     frames: &mut [u64],
 ) -> Run
-    ensures { λ x. ⌜ ran x (memory (now (globals .exit)) (now (stack .exit)) (now (store .exit)) (now (frames .exit))) ≡ linearRun (now (file .entry)) budget owner (memory (now (globals .entry)) (now (stack .entry)) (now (store .entry)) (now (frames .entry))) ⌝ }
+    ensures { λ x. ⌜ ran x (lent (globals .exit) (stack .exit) (store .exit) (frames .exit))
+        ≡ linearRun (now (file .entry)) budget owner (lent (globals .entry) (stack .entry) (store .entry) (frames .entry)) ⌝ }
 {
     match machines::start_refusal(globals, stack, store, frames, budget, 2_000_000, owner) {
         Start::Go => {
@@ -122,8 +126,9 @@ pub fn run_again(
     frames: &mut [u64],
 ) -> Run
     requires { ⌜ TableOf (now file) (now table) ⌝ }
-    requires { ⌜ startRefusal 2000000 budget owner (memory (now globals) (now stack) (now store) (now frames)) ≡ Start.Go ⌝ }
-    ensures { λ x. ⌜ ran x (memory (now (globals .exit)) (now (stack .exit)) (now (store .exit)) (now (frames .exit))) ≡ linearRun (now (file .entry)) budget owner (memory (now (globals .entry)) (now (stack .entry)) (now (store .entry)) (now (frames .entry))) ⌝ }
+    requires { ⌜ startRefusal 2000000 budget owner (lent globals stack store frames) ≡ Start.Go ⌝ }
+    ensures { λ x. ⌜ ran x (lent (globals .exit) (stack .exit) (store .exit) (frames .exit))
+        ≡ linearRun (now (file .entry)) budget owner (lent (globals .entry) (stack .entry) (store .entry) (frames .entry)) ⌝ }
 {
     let whose = owners::owner_of(owner);
     run_read(file, table, budget, whose, globals, stack, store, frames)

@@ -6,14 +6,14 @@ use mathlib.Core.List.{List}
 use borrow.Author.Tests.{le-leb}
 use lib.ListN.{length, take, drop}
 use lib.Seq.{take-at}
-use Rattle.cells.specs.Laws.{clash}
+use Rattle.cells.specs.laws.Laws.{clash}
 use Rattle.files.specs.Reading.{Got, got, refused}
 use Rattle.files.specs.Entries.{then}
 use Rattle.files.specs.Tree.{Template}
 use Rattle.files.specs.Accepted.{flatAccepted}
 use Rattle.files.specs.Linear.{linearFile}
-use Rattle.readback.specs.TreeFacts.{tree-short}
-use Rattle.files.specs.AcceptedLaws.{checked-read, flat-checked, flat-accepted-checked}
+use Rattle.readback.specs.laws.TreeFacts.{tree-short}
+use Rattle.files.specs.laws.AcceptedLaws.{checked-read, flat-checked, flat-accepted-checked}
 use Rattle.flatten.specs.Flatten.{intoBytes, flattened, answered, written}
 use Rattle.flatten.specs.declared.Flattened.the-variants.{Written, Refused}
 use Rattle.lines.specs.Lines.{linearOf, refusedLine, acceptedLines, sheetLines}

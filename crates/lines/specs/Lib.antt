@@ -1,3 +1,3 @@
 -- The specs of the crate lines.
 pub mod Lines
-pub mod Laws
+pub mod laws

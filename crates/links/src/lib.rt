@@ -127,8 +127,11 @@ fn link_arms(
     past: BitPlace,
     levels: usize,
 )
-    requires { ⌜ (length (now s) ≤ 65536) × (length (now table) ≡ 16384) × (own < 64) × (at .0 + 10 ≤ second .0) × (second .0 + 5 ≤ past .0) × (past .0 ≤ 524288) × Whole (listAt (now s) levels (at .0 + 5)) × Whole (listAt (now s) levels (second .0)) ⌝ }
-    ensures { λ _. ⌜ now (links .exit) ≡ linkedArms (now (links .entry)) (at .0) (second .0) (past .0) (listAt (now (s .entry)) levels (at .0 + 5)) (listAt (now (s .entry)) levels (second .0)) ⌝ }
+    requires { ⌜ (length (now s) ≤ 65536) × (length (now table) ≡ 16384) × (own < 64) × (at .0 + 10 ≤ second .0) × (second .0 + 5 ≤ past .0)
+        × (past .0 ≤ 524288) × Whole (listAt (now s) levels (at .0 + 5)) × Whole (listAt (now s) levels (second .0)) ⌝ }
+    ensures { λ _. ⌜ now (links .exit)
+        ≡ linkedArms (now (links .entry)) (at .0) (second .0) (past .0) (listAt (now (s .entry)) levels (at .0 + 5))
+        (listAt (now (s .entry)) levels (second .0)) ⌝ }
 {
     set_link(links, at, second);
     link_list(
@@ -164,7 +167,8 @@ fn link_saved(
     past: BitPlace,
     levels: usize,
 )
-    requires { ⌜ (length (now s) ≤ 65536) × (length (now table) ≡ 16384) × (own < 64) × (at .0 + 18 ≤ past .0) × (past .0 ≤ 524288) × (end .0 ≤ 524288) × Whole (listAt (now s) levels (at .0 + 13)) ⌝ }
+    requires { ⌜ (length (now s) ≤ 65536) × (length (now table) ≡ 16384) × (own < 64) × (at .0 + 18 ≤ past .0) × (past .0 ≤ 524288) × (end .0 ≤ 524288)
+        × Whole (listAt (now s) levels (at .0 + 13)) ⌝ }
     ensures { λ _. ⌜ now (links .exit) ≡ linkedSaved (now (links .entry)) (at .0) (end .0) (past .0) (listAt (now (s .entry)) levels (at .0 + 13)) ⌝ }
 {
     set_link(links, at, past);
@@ -192,7 +196,8 @@ fn link_list(
     follow: BitPlace,
     levels: usize,
 )
-    requires { ⌜ (length (now s) ≤ 65536) × (length (now table) ≡ 16384) × (own < 64) × (end .0 ≤ 524288) × (follow .0 ≤ 524288) × Whole (listAt (now s) levels (at .0)) ⌝ }
+    requires { ⌜ (length (now s) ≤ 65536) × (length (now table) ≡ 16384) × (own < 64) × (end .0 ≤ 524288) × (follow .0 ≤ 524288)
+        × Whole (listAt (now s) levels (at .0)) ⌝ }
     ensures { λ _. ⌜ now (links .exit) ≡ linkedGot (now (links .entry)) (at .0) (end .0) (follow .0) (listAt (now (s .entry)) levels (at .0)) ⌝ }
 {
     let mut here = at;

@@ -11,7 +11,8 @@ ghost use Rattle.files.specs.Flat.{armsFit};
 ghost use Rattle.files.specs.Reading.{headAt, deepOf, listAt};
 ghost use Rattle.lists.specs.Sets.{unite};
 ghost use Rattle.lists.specs.Facts.{slotFits, slotNamed, slotCloses, listed};
-ghost use Rattle.lists.specs.Pass.{classesAfter, isSave, stateAfter, begun, finish, simpleAdded, conditionalKind, conditionalSize, conditionalAdded, saveKind, saveAdded, simpleAt, deepAt, itemed};
+ghost use Rattle.lists.specs.Pass.{classesAfter, isSave, stateAfter, begun, finish, simpleAdded, conditionalKind, conditionalSize, conditionalAdded};
+ghost use Rattle.lists.specs.Pass.{saveKind, saveAdded, simpleAt, deepAt, itemed};
 
 // What is to be known of a list: its class (0 empty, 1 open, 2 closed, 3 neither), how many bytes its flat code has, whether codes 6 to 9
 // name entries that suit them, whether its offsets fit, and which templates its closures name: bit t, from the lowest, for template t.

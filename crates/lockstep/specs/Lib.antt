@@ -1,8 +1,2 @@
 -- The specs of the crate lockstep.
-pub mod Lockstep
-pub mod InStep
-pub mod Likeness
-pub mod Plain
-pub mod Frames
-pub mod Kept
-pub mod Same
+pub mod laws

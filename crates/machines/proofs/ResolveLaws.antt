@@ -6,7 +6,7 @@ use mathlib.Core.Option.{Option, none, some}
 use native.Mathlib.Omega.{arith}
 use lib.Dec.{leb, eqb}
 use borrow.Author.Tests.{ne-eqb, eqb-true, lt-leb}
-use Rattle.cells.specs.Laws.{clash}
+use Rattle.cells.specs.laws.Laws.{clash}
 use Rattle.cells.specs.Cells.{tagOf}
 use Rattle.rules.specs.declared.Plain.{Plain}
 use Rattle.rules.specs.declared.Plain.the-variants.{Closure}

@@ -13,7 +13,8 @@ use Rattle.files.specs.Tree.{Template}
 use Rattle.files.specs.Linear.{Linear}
 use Rattle.files.specs.Table.{constantCell}
 use Rattle.rules.specs.declared.Plain.{Plain}
-use Rattle.rules.specs.declared.Plain.the-variants.{Literal, Closure, Global, SetGlobal, Local, SetLocal, Push, Unspecified, MakeEnv, CheckArgs, Cons, Car, Cdr, Eqv, Add, Sub, Less, FloorDiv}
+use Rattle.rules.specs.declared.Plain.the-variants.{Literal, Closure, Global, SetGlobal, Local, SetLocal, Push, Unspecified, MakeEnv, CheckArgs, Cons, Car, Cdr}
+use Rattle.rules.specs.declared.Plain.the-variants.{Eqv, Add, Sub, Less, FloorDiv}
 
 -- the places in it are where to go on
 pub data Fetched : Type 0 where

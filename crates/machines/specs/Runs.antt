@@ -3,6 +3,7 @@ use Prim.Native.Nat.{ℕ, _+_}
 use mathlib.Core.Bool.{Bool, cond, _&&_}
 use mathlib.Core.List.{List, [], _∷_}
 use mathlib.Core.Option.{Option, none, some}
+use denote.Ref.{RefT, now}
 use lib.Dec.{leb, eqb}
 use lib.ListN.{length, replicate}
 use Rattle.cells.specs.Cells.{startingGlobal, undefinedCell, unspecifiedCell, valueOf, cellOf}
@@ -29,6 +30,10 @@ pub record Memory : Type 0 where
 
 abbrev pub memory : List ℕ → List ℕ → List ℕ → List ℕ → Memory
 memory g s t f = record { globals = g; stack = s; store = t; frames = f }
+
+-- what four lent slices hold
+abbrev pub lent : RefT (List ℕ) → RefT (List ℕ) → RefT (List ℕ) → RefT (List ℕ) → Memory
+lent g s t f = memory (now g) (now s) (now t) (now f)
 
 -- fresh memory, all globals undefined
 abbrev pub freshMemory : Memory

@@ -5,7 +5,7 @@ use cells::Value;
 use rules::Plain;
 ghost use mathlib.Core.Path.{_≡_};
 ghost use lib.ListN.{length};
-ghost use Rattle.machines.specs.Runs.{memory, lowestUnfit};
+ghost use Rattle.machines.specs.Runs.{lent, lowestUnfit};
 ghost use Rattle.machines.specs.Fetched.{asLiteral};
 ghost use Rattle.machines.specs.Slots.{slotNames, slotAt, slotResolve, resolvedAs, markedAs};
 ghost use Rattle.machines.specs.Start.{zeros, refusal, globalsRefusal, startRefusal};
@@ -58,7 +58,7 @@ pub fn start_refusal(
     most: u64,
     owner: u64,
 ) -> Start
-    ensures { λ r. ⌜ r ≡ startRefusal most budget owner (memory (now (globals .entry)) (now (stack .entry)) (now (store .entry)) (now (frames .entry))) ⌝ }
+    ensures { λ r. ⌜ r ≡ startRefusal most budget owner (lent (globals .entry) (stack .entry) (store .entry) (frames .entry)) ⌝ }
 {
     if globals.len() != 256 {
         return Start::Refused(20, 0);

@@ -15,7 +15,7 @@ use lib.Signed.{mag, ltZ}
 use mir.Syntax.{w32}
 use mir.Val.{toZ, ofZ}
 use mir.Facts.{toZ-ofZ}
-use Rattle.cells.specs.Laws.{clash}
+use Rattle.cells.specs.laws.Laws.{clash}
 use Rattle.files.specs.Linear.{linearRead}
 use Rattle.linear.specs.Filled.{linearTold}
 use Rattle.linear.specs.declared.LinearFile.the-variants.{Read, Refused as RefusedFile}

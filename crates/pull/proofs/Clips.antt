@@ -11,9 +11,10 @@ use lib.ListN.{length, set, getD, take, drop, replicate, length-replicate, drop-
 use lib.Seq.{sets, sets-eq, getD-take, getD-drop}
 use Rattle.cells.specs.Cells.{full, undefinedCell, intCell, tagOf, intOf, startingGlobal}
 use Rattle.machines.specs.Runs.{memory, Ran, ran, linearRun}
-use Rattle.linear_machine.specs.Again.{Alike, run-alike, AllFit}
+use Rattle.linear_machine.specs.Again.{AllFit}
+use Rattle.linear_machine.specs.laws.Again.{Alike, run-alike}
 use Rattle.text.specs.Put.{Put}
-use Rattle.text.specs.Laws.{put-then}
+use Rattle.text.specs.laws.Laws.{put-then}
 use Rattle.pull.specs.Pull.{clipCount, clipAt, word, wordCell, clipGlobals, clipMemory, foundOf, clipRun, foundLine, pullLine, pullLines, pullList}
 
 -- ---- the loop that fills the first n places with x

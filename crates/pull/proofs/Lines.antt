@@ -12,8 +12,8 @@ use lib.Signed.{ltZ}
 use Rattle.cells.specs.Cells.{full, tagOf, intOf}
 use Rattle.text.specs.Text.{decimal, integer, line}
 use Rattle.text.specs.Put.{Put}
-use Rattle.text.specs.Laws.{put-then, put-before}
-use Rattle.text.specs.Lengths.{decimal-length, integer-length}
+use Rattle.text.specs.laws.Laws.{put-then, put-before}
+use Rattle.text.specs.laws.Lengths.{decimal-length, integer-length}
 use Rattle.machines.specs.declared.End.{End}
 use Rattle.machines.specs.declared.End.the-variants.{Halted, Wrong, OutOfBudget, Refused}
 use Rattle.pull.specs.declared.Found.{Found}

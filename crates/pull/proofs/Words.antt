@@ -14,7 +14,7 @@ use mir.Val.{Fits, SFits, toZ, ofZ}
 use mir.Facts.{toZ-ofZ}
 use Rattle.cells.specs.Cells.{half, full}
 use Rattle.integers.specs.Integers.{signed, intBits}
-use Rattle.integers.specs.Laws.{mag-within, bits-fit, signed-back}
+use Rattle.integers.specs.laws.Laws.{mag-within, bits-fit, signed-back}
 
 -- what is promised of a word's bits
 abbrev pub Bits : ℕ → ℤ → Type 0

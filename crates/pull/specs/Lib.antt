@@ -1,4 +1,3 @@
 -- The specs of the crate pull.
 pub mod Pull
-pub mod Laws
-pub mod Places
+pub mod laws

@@ -21,7 +21,7 @@ use Rattle.files.specs.Tree.{Template}
 use Rattle.files.specs.Linear.{Linear, linearRead}
 use Rattle.files.specs.Accepted.{treeAccepted}
 use Rattle.files.specs.Valid.{Bytes}
-use Rattle.files.specs.AllGot.{AllGot}
+use Rattle.files.specs.laws.AllGot.{AllGot}
 use Rattle.owners.specs.Owners.{isOwner, ownerOf}
 use Rattle.owners.specs.declared.Owner.{Owner}
 use Rattle.owners.specs.declared.Owner.the-variants.{House, Vendor}
@@ -30,10 +30,10 @@ use Rattle.machines.specs.Runs.{Memory, Ran, ran, runOf, leftOf, refusedRun, ri
 use Rattle.machines.specs.Runs.{programRun, onTree, onLinear, treeRun, linearRun}
 use Rattle.machines.specs.declared.End.the-variants.{Refused}
 use Rattle.machines.specs.declared.Run.{Run}
-use Rattle.sound.specs.Programs.{ProgramOk}
-use Rattle.sound.specs.Files.{tree-accepted-ok, linear-ok}
-use Rattle.sound.specs.Runs.{FitGlobals, fit-globals}
-use Rattle.renamed.specs.Owned.{EndSame, house, house-alike, vendor-keeps}
+use Rattle.sound.specs.laws.Programs.{ProgramOk}
+use Rattle.sound.specs.laws.Files.{tree-accepted-ok, linear-ok}
+use Rattle.sound.specs.laws.Runs.{FitGlobals, fit-globals}
+use Rattle.renamed.specs.laws.Owned.{EndSame, house, house-alike, vendor-keeps}
 
 -- ---- THE STATEMENTS
 -- a machine on one file with one budget: the owner's number and what is lent to what is returned and left
@@ -76,7 +76,8 @@ began most b o m r = by (rightLengths m) refl (leb b most) (isOwner o) (lowestUn
   where
     by : (x : Bool) → rightLengths m ≡ x → (y z : Bool) (u : Option ℕ) → lowestUnfit 0 (m .globals) ≡ u
         → Began m r (cond x (cond y (cond z (fitGlobals u m r) (refusedRun 31 0 m)) (refusedRun 21 0 m)) (refusedRun 20 0 m))
-    by true h true true none e = runs (fit-globals (m .globals) (eqb-true (length (m .globals)) 256 (and-eq-true-iff (eqb (length (m .globals)) 256) _ .0 h .0)) e)
+    by true h true true none e =
+        runs (fit-globals (m .globals) (eqb-true (length (m .globals)) 256 (and-eq-true-iff (eqb (length (m .globals)) 256) _ .0 h .0)) e)
     by true h true true (some g) e = refused-start 22 g
     by true h true false u e = refused-start 31 0
     by true h false z u e = refused-start 21 0

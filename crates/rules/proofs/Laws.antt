@@ -12,7 +12,7 @@ use borrow.Author.Tests.{lt-ltb, le-ltb, le-leb, eq-eqb, ne-eqb}
 use Rattle.cells.specs.Cells.{half, full, tagOf, intCell, intOf, layerParent, layerCount}
 use Rattle.integers.specs.Integers.{signed, within, intBits, allIntegers, totalOf, isZero, floorQuotient}
 use Rattle.integers.specs.Answers.{rangedOf, sumOf}
-use Rattle.integers.specs.Laws.{signed-low, signed-high, bits-fit}
+use Rattle.integers.specs.laws.Laws.{signed-low, signed-high, bits-fit}
 use Rattle.integers.specs.declared.Ranged.{Ranged}
 use Rattle.integers.specs.declared.Ranged.the-variants.{Within, Over}
 use Rattle.integers.specs.declared.Total.{Total}
@@ -20,9 +20,9 @@ use Rattle.integers.specs.declared.Total.the-variants.{Exactly, NotIntegers}
 use Rattle.owners.specs.declared.Owner.{Owner}
 use Rattle.rules.specs.State.{Mem, Held, Res, wrong, need, out, told}
 use Rattle.rules.specs.Fit.{Fit, EndFit}
-use Rattle.rules.specs.Told.{told-next}
-use Rattle.rules.specs.Clean.{plain-fit}
-use Rattle.rules.specs.Lists.{by-lt}
+use Rattle.rules.specs.laws.Told.{told-next}
+use Rattle.rules.specs.laws.Clean.{plain-fit}
+use Rattle.rules.specs.laws.Lists.{by-lt}
 use Rattle.rules.specs.Rules.{walk, found, top, under, emptied, integerRule, addRule, twoIntegers, divided, plainRule}
 use Rattle.rules.specs.Owned.{mayDo, ownedRule, without-right, by-right, owned-ok}
 use Rattle.rules.specs.Answers.{foundAt, integerBy, RangedFits, operandsOf}

@@ -4,16 +4,17 @@ use mathlib.Core.Path.{_≡_, refl}
 use mathlib.Core.Bool.{Bool, true, false}
 use Prim.Native.Nat.{ℕ}
 use native.Mathlib.Omega.{arith}
-use Rattle.cells.specs.Laws.{clash}
+use Rattle.cells.specs.laws.Laws.{clash}
 use Rattle.cells.specs.Numbers.{notOwned}
 use Rattle.owners.specs.Owners.{mayRead, maySet}
 use Rattle.owners.specs.declared.Owner.{Owner}
 use Rattle.rules.specs.State.{Mem, Held, Res, ok, wrong, need}
 use Rattle.rules.specs.Rules.{plainRule}
-use Rattle.rules.specs.Never16.{Never16, need-other, plain-never}
+use Rattle.rules.specs.laws.Never16.{Never16, need-other, plain-never}
 use Rattle.rules.specs.declared.Regs.{Regs}
 use Rattle.rules.specs.declared.Plain.{Plain}
-use Rattle.rules.specs.declared.Plain.the-variants.{Literal, Closure, Global, SetGlobal, Local, SetLocal, Push, Unspecified, MakeEnv, CheckArgs, Cons, Car, Cdr, Eqv, Add, Sub, Less, FloorDiv}
+use Rattle.rules.specs.declared.Plain.the-variants.{Literal, Closure, Global, SetGlobal, Local, SetLocal, Push, Unspecified, MakeEnv, CheckArgs, Cons}
+use Rattle.rules.specs.declared.Plain.the-variants.{Car, Cdr, Eqv, Add, Sub, Less, FloorDiv}
 
 -- whether an instruction is within the owner's right
 unfoldable pub mayDo : Owner → Plain → Bool

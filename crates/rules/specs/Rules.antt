@@ -18,7 +18,8 @@ use Rattle.cells.specs.Numbers.{wrongCount, noClosure, undefined, beyondLayers,
 use Rattle.rules.specs.State.{Mem, mem, regs, Held, Res, ok, wrong, on, need}
 use Rattle.rules.specs.declared.Regs.{Regs}
 use Rattle.rules.specs.declared.Plain.{Plain}
-use Rattle.rules.specs.declared.Plain.the-variants.{Literal, Closure, Global, SetGlobal, Local, SetLocal, Push, Unspecified, MakeEnv, CheckArgs, Cons, Car, Cdr, Eqv, Add, Sub, Less, FloorDiv}
+use Rattle.rules.specs.declared.Plain.the-variants.{Literal, Closure, Global, SetGlobal, Local, SetLocal, Push, Unspecified, MakeEnv, CheckArgs, Cons}
+use Rattle.rules.specs.declared.Plain.the-variants.{Car, Cdr, Eqv, Add, Sub, Less, FloorDiv}
 
 -- v is c
 abbrev pub value : ℕ → Regs → Regs

@@ -8,7 +8,8 @@ ghost use Rattle.rules.specs.State.{Mem, mem, regs, out};
 ghost use Rattle.rules.specs.Fit.{Fit, EndFit, CallFit};
 ghost use Rattle.rules.specs.Answers.{ends, foundAt, integerBy, RangedFits, operandsOf, OperandsFit, calledTo};
 ghost use Rattle.rules.specs.Rules.{literalRule, closureRule, heldRule, walk, localRule, setLocalRule};
-ghost use Rattle.rules.specs.Rules.{pushRule, makeEnvRule, checkArgsRule, consRule, top, partRule, carRule, cdrRule, eqvRule, addRule, subRule, lessRule, floorDivRule};
+ghost use Rattle.rules.specs.Rules.{pushRule, makeEnvRule, checkArgsRule, consRule, top, partRule, carRule, cdrRule, eqvRule, addRule, subRule, lessRule};
+ghost use Rattle.rules.specs.Rules.{floorDivRule};
 ghost use Rattle.rules.specs.Rules.{callRule};
 ghost use Rattle.rules.specs.Owned.{ownedRule};
 use cells::pair_first;
@@ -151,7 +152,8 @@ fn global(owner: Owner, globals: &[u64], g: u8, r: Regs) -> Stepped
 
 fn set_global(owner: Owner, globals: &mut [u64], g: u8, r: Regs) -> Stepped
     requires { ⌜ length (now globals) ≡ 256 ⌝ }
-    ensures { λ x. ⌜ ((s t : List ℕ) → out x (mem (now (globals .exit)) s t) ≡ ends (ownedRule owner (Plain.SetGlobal g)) (mem (now (globals .entry)) s t) r) ⌝ }
+    ensures { λ x. ⌜ ((s t : List ℕ)
+        → out x (mem (now (globals .exit)) s t) ≡ ends (ownedRule owner (Plain.SetGlobal g)) (mem (now (globals .entry)) s t) r) ⌝ }
 {
     if !owners::may_set(owner, g) {
         return Stepped::Wrong(25);
@@ -230,7 +232,8 @@ fn push(stack: &mut [u64], r: Regs) -> Stepped
 
 fn make_env(stack: &mut [u64], store: &mut [u64], n: u8, r: Regs) -> Stepped
     requires { ⌜ (length (now stack) ≡ 256) × (length (now store) ≡ 2048) × Fit r ⌝ }
-    ensures { λ x. ⌜ ((g : List ℕ) → out x (mem g (now (stack .exit)) (now (store .exit))) ≡ ends (makeEnvRule n) (mem g (now (stack .entry)) (now (store .entry))) r) ⌝ }
+    ensures { λ x. ⌜ ((g : List ℕ)
+        → out x (mem g (now (stack .exit)) (now (store .exit))) ≡ ends (makeEnvRule n) (mem g (now (stack .entry)) (now (store .entry))) r) ⌝ }
 {
     let sp = r.sp;
     let st = r.st;
@@ -281,7 +284,8 @@ fn emptied(stack: &mut [u64], c: u64, r: Regs) -> Regs
 
 fn cons(stack: &mut [u64], store: &mut [u64], r: Regs) -> Stepped
     requires { ⌜ (length (now stack) ≡ 256) × (length (now store) ≡ 2048) × Fit r ⌝ }
-    ensures { λ x. ⌜ ((g : List ℕ) → out x (mem g (now (stack .exit)) (now (store .exit))) ≡ ends consRule (mem g (now (stack .entry)) (now (store .entry))) r) ⌝ }
+    ensures { λ x. ⌜ ((g : List ℕ)
+        → out x (mem g (now (stack .exit)) (now (store .exit))) ≡ ends consRule (mem g (now (stack .entry)) (now (store .entry))) r) ⌝ }
 {
     let sp = r.sp;
     let st = r.st;
@@ -307,7 +311,8 @@ fn cons(stack: &mut [u64], store: &mut [u64], r: Regs) -> Stepped
 // What stands at a location of the pair on top.
 fn part(stack: &mut [u64], store: &[u64], l: u16, r: Regs) -> Stepped
     requires { ⌜ (length (now stack) ≡ 256) × Fit r ⌝ }
-    ensures { λ x. ⌜ ((location : ℕ → ℕ) (g : List ℕ) → location (top (mem g (now (stack .entry)) (now (store .entry))) r) ≡ l → out x (mem g (now (stack .exit)) (now (store .entry))) ≡ ends (partRule location) (mem g (now (stack .entry)) (now (store .entry))) r) ⌝ }
+    ensures { λ x. ⌜ ((location : ℕ → ℕ) (g : List ℕ) → location (top (mem g (now (stack .entry)) (now (store .entry))) r) ≡ l
+        → out x (mem g (now (stack .exit)) (now (store .entry))) ≡ ends (partRule location) (mem g (now (stack .entry)) (now (store .entry))) r) ⌝ }
 {
     let sp = r.sp;
     if sp < 1 {
@@ -332,7 +337,8 @@ fn top_of(stack: &[u64], r: Regs) -> u64
 
 fn car(stack: &mut [u64], store: &[u64], r: Regs) -> Stepped
     requires { ⌜ (length (now stack) ≡ 256) × Fit r ⌝ }
-    ensures { λ x. ⌜ ((g : List ℕ) → out x (mem g (now (stack .exit)) (now (store .entry))) ≡ ends carRule (mem g (now (stack .entry)) (now (store .entry))) r) ⌝ }
+    ensures { λ x. ⌜ ((g : List ℕ)
+        → out x (mem g (now (stack .exit)) (now (store .entry))) ≡ ends carRule (mem g (now (stack .entry)) (now (store .entry))) r) ⌝ }
 {
     let l = pair_first(top_of(stack, r));
     part(stack, store, l, r)
@@ -340,7 +346,8 @@ fn car(stack: &mut [u64], store: &[u64], r: Regs) -> Stepped
 
 fn cdr(stack: &mut [u64], store: &[u64], r: Regs) -> Stepped
     requires { ⌜ (length (now stack) ≡ 256) × Fit r ⌝ }
-    ensures { λ x. ⌜ ((g : List ℕ) → out x (mem g (now (stack .exit)) (now (store .entry))) ≡ ends cdrRule (mem g (now (stack .entry)) (now (store .entry))) r) ⌝ }
+    ensures { λ x. ⌜ ((g : List ℕ)
+        → out x (mem g (now (stack .exit)) (now (store .entry))) ≡ ends cdrRule (mem g (now (stack .entry)) (now (store .entry))) r) ⌝ }
 {
     let l = pair_second(top_of(stack, r));
     part(stack, store, l, r)
@@ -456,7 +463,8 @@ pub fn plain_rule(
     r: Regs,
 ) -> Stepped
     requires { ⌜ (length (now globals) ≡ 256) × (length (now stack) ≡ 256) × (length (now store) ≡ 2048) × Fit r ⌝ }
-    ensures { λ x. ⌜ out x (mem (now (globals .exit)) (now (stack .exit)) (now (store .exit))) ≡ ends (ownedRule owner i) (mem (now (globals .entry)) (now (stack .entry)) (now (store .entry))) r ⌝ }
+    ensures { λ x. ⌜ out x (mem (now (globals .exit)) (now (stack .exit)) (now (store .exit)))
+        ≡ ends (ownedRule owner i) (mem (now (globals .entry)) (now (stack .entry)) (now (store .entry))) r ⌝ }
     ensures fits { λ x. ⌜ EndFit x ⌝ }
 {
     match i {

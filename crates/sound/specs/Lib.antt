@@ -1,5 +1,2 @@
 -- The specs of the crate sound.
-pub mod Programs
-pub mod Runs
-pub mod Files
-pub mod Machines
+pub mod laws

@@ -12,8 +12,10 @@ use Rattle.rules.specs.State.{regs}
 use Rattle.rules.specs.declared.Regs.{Regs}
 use Rattle.machines.specs.Machine.{Program, State, step}
 use Rattle.machines.specs.Runs.{Memory, Ran, ran, memoryOf, startState}
-use Rattle.machines.specs.Start.{zeros, zeros-length}
-use Rattle.machines.specs.Steps.{ranFrom, endsIn, turn-goes, turn-halts, turn-stops, budget-spent}
+use Rattle.machines.specs.Start.{zeros}
+use Rattle.machines.specs.laws.Start.{zeros-length}
+use Rattle.machines.specs.Steps.{ranFrom}
+use Rattle.machines.specs.laws.Steps.{endsIn, turn-goes, turn-halts, turn-stops, budget-spent}
 use Rattle.machines.specs.Instruction.{number, Form, formOf, Of}
 use Rattle.machines.specs.declared.CodePlace.{CodePlace}
 use Rattle.machines.specs.declared.End.the-variants as end

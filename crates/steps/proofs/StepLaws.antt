@@ -5,7 +5,7 @@ use mathlib.Core.List.{List}
 use mathlib.Core.Option.{Option, none, some}
 use native.Mathlib.Omega.{arith}
 use borrow.Author.Tests.{eq-eqb, ne-eqb}
-use Rattle.cells.specs.Laws.{clash}
+use Rattle.cells.specs.laws.Laws.{clash}
 use Rattle.cells.specs.Cells.{falseCell, frameCell, frameTemplate, framePlace}
 use Rattle.cells.specs.declared.BitPlace.{BitPlace}
 use Rattle.cells.specs.declared.BytePlace.{BytePlace}
@@ -15,7 +15,7 @@ use Rattle.rules.specs.Owned.{ownedRule}
 use Rattle.rules.specs.Rules.{Data, callRule, keepRule, makeContRule, returnRule}
 use Rattle.rules.specs.Fit.{Fit, EndFit, CallFit}
 use Rattle.rules.specs.Answers.{calledTo}
-use Rattle.rules.specs.Told.{told-next, told-wrong, called-to, called-wrong}
+use Rattle.rules.specs.laws.Told.{told-next, told-wrong, called-to, called-wrong}
 use Rattle.rules.specs.declared.Plain.{Plain}
 use Rattle.rules.specs.declared.Regs.{Regs}
 use Rattle.rules.specs.declared.Stepped.{Stepped}
@@ -23,7 +23,7 @@ use Rattle.rules.specs.declared.Stepped.the-variants as ruled
 use Rattle.rules.specs.declared.Called.{Called}
 use Rattle.rules.specs.declared.Called.the-variants as callee
 use Rattle.frames.specs.Ends.{state, left, toldKept, toldBack, KeptFit, BackFit}
-use Rattle.frames.specs.Told.{keep-is, kept-on, kept-wrong, back-to, back-halt}
+use Rattle.frames.specs.laws.Told.{keep-is, kept-on, kept-wrong, back-to, back-halt}
 use Rattle.frames.specs.declared.Kept.{Kept}
 use Rattle.frames.specs.declared.Kept.the-variants as saved
 use Rattle.frames.specs.declared.Returned.{Returned}

@@ -22,7 +22,7 @@ ghost use Rattle.cells.specs.Cells.{frameCell, framePlace};
 ghost use Rattle.rules.specs.Fit.{Fit};
 ghost use Rattle.machines.specs.Fetched.{plain, returns, calls, branches, saves, plainly};
 ghost use Rattle.machines.specs.Machine.{Program, act, step};
-ghost use Rattle.machines.specs.Runs.{Memory, memory, ran, startState};
+ghost use Rattle.machines.specs.Runs.{Memory, memory, lent, ran, startState};
 ghost use Rattle.machines.specs.Slots.{slotAt, slotResolve};
 ghost use Rattle.machines.specs.Steps.{ranFrom};
 ghost use Rattle.machines.specs.Instruction.{number, formOf, fetchedAs, Of, Places};
@@ -77,7 +77,8 @@ fn start_place(table: &[u64], template: u8, like: CodePlace) -> CodePlace
 
 fn fetch(file: &[u8], links: &[u32], table: &[u64], template: u8, at: CodePlace) -> Instruction
     requires { ⌜ CodeReady (formOf at) (now file) (now table) ⌝ }
-    ensures { λ x. ⌜ (fetchedAs (slotAt (now (table .entry)) template) x ≡ codeProgram (formOf at) (now (file .entry)) (now (links .entry)) (now (table .entry)) .fetch template (number at)) × Places (formOf at) x ⌝ }
+    ensures { λ x. ⌜ (fetchedAs (slotAt (now (table .entry)) template) x ≡ codeProgram (formOf at) (now (file .entry)) (now (links .entry))
+        (now (table .entry)) .fetch template (number at)) × Places (formOf at) x ⌝ }
 {
     match at {
         CodePlace::Tree(p) => tree_code::fetch(file, links, p),
@@ -98,7 +99,10 @@ fn act_plain(
     c: Control,
 ) -> OneStep
     requires { ⌜ (length (now globals) ≡ 256) × (length (now stack) ≡ 256) × (length (now store) ≡ 2048) × Fit r × (c .fr ≤ 2048) ⌝ }
-    ensures { λ x. ⌜ ((P : Program) (f : List ℕ) → Taken (formOf next) x (memory (now (globals .entry)) (now (stack .entry)) (now (store .entry)) f) (memory (now (globals .exit)) (now (stack .exit)) (now (store .exit)) f) (act owner P (plain i (number next)) (stateOf r c (memory (now (globals .entry)) (now (stack .entry)) (now (store .entry)) f)))) ⌝ }
+    ensures { λ x. ⌜ ((P : Program) (f : List ℕ)
+        → Taken (formOf next) x (memory (now (globals .entry)) (now (stack .entry)) (now (store .entry)) f)
+        (memory (now (globals .exit)) (now (stack .exit)) (now (store .exit)) f)
+        (act owner P (plain i (number next)) (stateOf r c (memory (now (globals .entry)) (now (stack .entry)) (now (store .entry)) f)))) ⌝ }
 {
     match rules::plain_rule(owner, i, globals, stack, store, r) {
         Stepped::Next(q) => {
@@ -130,7 +134,11 @@ fn act_neutral(
     c: Control,
 ) -> OneStep
     requires { ⌜ (length (now globals) ≡ 256) × (length (now stack) ≡ 256) × (length (now store) ≡ 2048) × Fit r × (c .fr ≤ 2048) ⌝ }
-    ensures { λ x. ⌜ ((P : Program) (f : List ℕ) → Taken (formOf next) x (memory (now (globals .entry)) (now (stack .entry)) (now (store .entry)) f) (memory (now (globals .exit)) (now (stack .exit)) (now (store .exit)) f) (act owner P (plainly (slotResolve (slotAt (now (table .entry)) (c .template)) op a b) (number next)) (stateOf r c (memory (now (globals .entry)) (now (stack .entry)) (now (store .entry)) f)))) ⌝ }
+    ensures { λ x. ⌜ ((P : Program) (f : List ℕ)
+        → Taken (formOf next) x (memory (now (globals .entry)) (now (stack .entry)) (now (store .entry)) f)
+        (memory (now (globals .exit)) (now (stack .exit)) (now (store .exit)) f)
+        (act owner P (plainly (slotResolve (slotAt (now (table .entry)) (c .template)) op a b) (number next))
+        (stateOf r c (memory (now (globals .entry)) (now (stack .entry)) (now (store .entry)) f)))) ⌝ }
 {
     match machines::resolve(table, c.template, op, a, b) {
         Resolved::Fit(i) => act_plain(owner, i, next, globals, stack, store, r, c),
@@ -140,7 +148,8 @@ fn act_neutral(
 
 fn act_call(table: &[u64], n: u8, r: Regs, c: Control) -> OneStep
     requires { ⌜ Fit r × (c .fr ≤ 2048) ⌝ }
-    ensures { λ x. ⌜ ((o : Owner) (P : Program) (m : Memory) → ((t : ℕ) → startAt (formOf (c .place)) (now (table .entry)) t ≡ P .start t) → Taken (formOf (c .place)) x m m (act o P (calls n) (stateOf r c m))) ⌝ }
+    ensures { λ x. ⌜ ((o : Owner) (P : Program) (m : Memory) → ((t : ℕ) → startAt (formOf (c .place)) (now (table .entry)) t ≡ P .start t)
+        → Taken (formOf (c .place)) x m m (act o P (calls n) (stateOf r c m))) ⌝ }
 {
     match rules::call(n, r) {
         Called::To(template, q) => {
@@ -161,7 +170,8 @@ fn act_call(table: &[u64], n: u8, r: Regs, c: Control) -> OneStep
 
 fn act_branch(first: CodePlace, second: CodePlace, r: Regs, c: Control) -> OneStep
     requires { ⌜ Fit r × (c .fr ≤ 2048) × Of (formOf first) second ⌝ }
-    ensures { λ x. ⌜ ((o : Owner) (P : Program) (m : Memory) → Taken (formOf first) x m m (act o P (branches 0 (number first) (number second)) (stateOf r c m))) ⌝ }
+    ensures { λ x. ⌜ ((o : Owner) (P : Program) (m : Memory)
+        → Taken (formOf first) x m m (act o P (branches 0 (number first) (number second)) (stateOf r c m))) ⌝ }
 {
     if r.v == cells::FALSE {
         act_jump(second, r, c)
@@ -194,7 +204,9 @@ fn act_save(
     c: Control,
 ) -> OneStep
     requires { ⌜ (length (now stack) ≡ 256) × (length (now frames) ≡ 2048) × Fit r × (c .fr ≤ 2048) × (number saved < 2 ^ 24) ⌝ }
-    ensures { λ x. ⌜ ((o : Owner) (P : Program) (g t : List ℕ) → Taken (formOf rest) x (memory g (now (stack .entry)) t (now (frames .entry))) (memory g (now (stack .exit)) t (now (frames .exit))) (act o P (saves n (number saved) (number rest)) (stateOf r c (memory g (now (stack .entry)) t (now (frames .entry)))))) ⌝ }
+    ensures { λ x. ⌜ ((o : Owner) (P : Program) (g t : List ℕ)
+        → Taken (formOf rest) x (memory g (now (stack .entry)) t (now (frames .entry))) (memory g (now (stack .exit)) t (now (frames .exit)))
+        (act o P (saves n (number saved) (number rest)) (stateOf r c (memory g (now (stack .entry)) t (now (frames .entry)))))) ⌝ }
 {
     let cell = frame_of(n, c.template, r.env, saved);
     match frames::make_cont(stack, frames, c.fr, r, n, cell) {
@@ -214,7 +226,9 @@ fn act_save(
 
 fn act_return(stack: &mut [u64], frames: &mut [u64], r: Regs, c: Control) -> OneStep
     requires { ⌜ (length (now stack) ≡ 256) × (length (now frames) ≡ 2048) × Fit r × (c .fr ≤ 2048) ⌝ }
-    ensures { λ x. ⌜ ((o : Owner) (P : Program) (g t : List ℕ) → Taken (formOf (c .place)) x (memory g (now (stack .entry)) t (now (frames .entry))) (memory g (now (stack .exit)) t (now (frames .exit))) (act o P returns (stateOf r c (memory g (now (stack .entry)) t (now (frames .entry)))))) ⌝ }
+    ensures { λ x. ⌜ ((o : Owner) (P : Program) (g t : List ℕ)
+        → Taken (formOf (c .place)) x (memory g (now (stack .entry)) t (now (frames .entry))) (memory g (now (stack .exit)) t (now (frames .exit)))
+        (act o P returns (stateOf r c (memory g (now (stack .entry)) t (now (frames .entry)))))) ⌝ }
 {
     match frames::give_back(stack, frames, c.fr, r) {
         Returned::To(q, fr, cell) => {
@@ -246,8 +260,11 @@ fn take_step(
     r: Regs,
     c: Control,
 ) -> OneStep
-    requires { ⌜ StepReady (now file) (now table) (memory (now globals) (now stack) (now store) (now frames)) r c ⌝ }
-    ensures { λ x. ⌜ Taken (formOf (c .place)) x (memory (now (globals .entry)) (now (stack .entry)) (now (store .entry)) (now (frames .entry))) (memory (now (globals .exit)) (now (stack .exit)) (now (store .exit)) (now (frames .exit))) (step owner (codeProgram (formOf (c .place)) (now (file .entry)) (now (links .entry)) (now (table .entry))) (stateOf r c (memory (now (globals .entry)) (now (stack .entry)) (now (store .entry)) (now (frames .entry))))) ⌝ }
+    requires { ⌜ StepReady (now file) (now table) (lent globals stack store frames) r c ⌝ }
+    ensures { λ x. ⌜ Taken (formOf (c .place)) x (lent (globals .entry) (stack .entry) (store .entry) (frames .entry))
+        (lent (globals .exit) (stack .exit) (store .exit) (frames .exit))
+        (step owner (codeProgram (formOf (c .place)) (now (file .entry)) (now (links .entry)) (now (table .entry)))
+        (stateOf r c (lent (globals .entry) (stack .entry) (store .entry) (frames .entry)))) ⌝ }
 {
     let place = c.place;
     match fetch(file, links, table, c.template, place) {
@@ -293,8 +310,10 @@ fn run_from(
     first: Regs,
     from: Control,
 ) -> Run
-    requires { ⌜ StepReady (now file) (now table) (memory (now globals) (now stack) (now store) (now frames)) first from ⌝ }
-    ensures { λ x. ⌜ ran x (memory (now (globals .exit)) (now (stack .exit)) (now (store .exit)) (now (frames .exit))) ≡ ranFrom owner (codeProgram (formOf (from .place)) (now (file .entry)) (now (links .entry)) (now (table .entry))) budget 0 (stateOf first from (memory (now (globals .entry)) (now (stack .entry)) (now (store .entry)) (now (frames .entry)))) ⌝ }
+    requires { ⌜ StepReady (now file) (now table) (lent globals stack store frames) first from ⌝ }
+    ensures { λ x. ⌜ ran x (lent (globals .exit) (stack .exit) (store .exit) (frames .exit))
+        ≡ ranFrom owner (codeProgram (formOf (from .place)) (now (file .entry)) (now (links .entry)) (now (table .entry))) budget 0
+        (stateOf first from (lent (globals .entry) (stack .entry) (store .entry) (frames .entry))) ⌝ }
 {
     let mut r = first;
     let mut c = from;
@@ -342,8 +361,11 @@ pub fn run_code(
     store: &mut [u64],
     frames: &mut [u64],
 ) -> Run
-    requires { ⌜ CodeReady (formOf first) (now file) (now table) × (length (now globals) ≡ 256) × (length (now stack) ≡ 256) × (length (now store) ≡ 2048) × (length (now frames) ≡ 2048) ⌝ }
-    ensures { λ x. ⌜ ran x (memory (now (globals .exit)) (now (stack .exit)) (now (store .exit)) (now (frames .exit))) ≡ ranFrom owner (codeProgram (formOf first) (now (file .entry)) (now (links .entry)) (now (table .entry))) budget 0 (startState (now (globals .entry)) (number first)) ⌝ }
+    requires { ⌜ CodeReady (formOf first) (now file) (now table) × (length (now globals) ≡ 256) × (length (now stack) ≡ 256) × (length (now store) ≡ 2048)
+        × (length (now frames) ≡ 2048) ⌝ }
+    ensures { λ x. ⌜ ran x (lent (globals .exit) (stack .exit) (store .exit) (frames .exit))
+        ≡ ranFrom owner (codeProgram (formOf first) (now (file .entry)) (now (links .entry)) (now (table .entry))) budget 0
+        (startState (now (globals .entry)) (number first)) ⌝ }
 {
     machines::clear_all(stack, store, frames);
     let registers = Regs {

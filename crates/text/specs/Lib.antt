@@ -1,5 +1,4 @@
 -- The specs of the crate text.
 pub mod Text
 pub mod Put
-pub mod Laws
-pub mod Lengths
+pub mod laws

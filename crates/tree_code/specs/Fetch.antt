@@ -36,7 +36,8 @@ module _ (s L table : List ℕ) (t : ℕ) where
   shapedAs p v q zero = bad
   shapedAs p v q (suc zero) = cond (eqb v 1) returns (plainly (slotResolve (slotAt table t) v 0 0) q)
   shapedAs p v q (suc (suc zero)) = withRead (λ a q₁. cond (eqb v 2) (calls a) (plainly (slotResolve (slotAt table t) v a 0) q₁)) (fieldRead s q 8)
-  shapedAs p v q (suc (suc (suc zero))) = withRead (λ a q₁. withRead (λ b q₂. plainly (slotResolve (slotAt table t) v a b) q₂) (fieldRead s q₁ 8)) (fieldRead s q 8)
+  shapedAs p v q (suc (suc (suc zero))) =
+      withRead (λ a q₁. withRead (λ b q₂. plainly (slotResolve (slotAt table t) v a b) q₂) (fieldRead s q₁ 8)) (fieldRead s q 8)
   shapedAs p v q (suc (suc (suc (suc zero)))) = branches 0 q (linkAt L p)
   shapedAs p v q (suc (suc (suc (suc (suc zero))))) = withRead (λ n q₁. saves n q₁ (linkAt L p)) (fieldRead s q 8)
   shapedAs p v q (suc (suc (suc (suc (suc (suc k)))))) = bad

@@ -1,3 +1,3 @@
 -- The specs of the crate tree_code.
 pub mod Fetch
-pub mod FetchSteps
+pub mod laws

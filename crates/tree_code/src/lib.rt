@@ -16,7 +16,8 @@ ghost use Rattle.tree_code.specs.Fetch.{shapedAs, fetchedAt};
 // A code that ends at a place and has one operand.
 fn fetch_one(file: &[u8], code: u32, at: BitPlace) -> Instruction
     requires { ⌜ (length (now file) ≤ 65536) × (code < 32) ⌝ }
-    ensures { λ r. ⌜ ((L table : List ℕ) (t p : ℕ) → fetchedAs (slotAt table t) r ≡ shapedAs (now (file .entry)) L table t p code (at .0) 2) × Places treeForm r ⌝ }
+    ensures { λ r. ⌜ ((L table : List ℕ) (t p : ℕ) → fetchedAs (slotAt table t) r ≡ shapedAs (now (file .entry)) L table t p code (at .0) 2)
+        × Places treeForm r ⌝ }
 {
     let Field::Read(n, next) = fields::read_field(file, at, 8) else {
         return Instruction::Bad;
@@ -31,7 +32,8 @@ fn fetch_one(file: &[u8], code: u32, at: BitPlace) -> Instruction
 // The same of two operands.
 fn fetch_two(file: &[u8], code: u32, at: BitPlace) -> Instruction
     requires { ⌜ (length (now file) ≤ 65536) × (code < 32) ⌝ }
-    ensures { λ r. ⌜ ((L table : List ℕ) (t p : ℕ) → fetchedAs (slotAt table t) r ≡ shapedAs (now (file .entry)) L table t p code (at .0) 3) × Places treeForm r ⌝ }
+    ensures { λ r. ⌜ ((L table : List ℕ) (t p : ℕ) → fetchedAs (slotAt table t) r ≡ shapedAs (now (file .entry)) L table t p code (at .0) 3)
+        × Places treeForm r ⌝ }
 {
     let Field::Read(a, second) = fields::read_field(file, at, 8) else {
         return Instruction::Bad;
@@ -45,7 +47,8 @@ fn fetch_two(file: &[u8], code: u32, at: BitPlace) -> Instruction
 // A make-cont, whose code stands at a place and ends at `after`.
 fn fetch_save(file: &[u8], links: &[u32], at: BitPlace, after: BitPlace) -> Instruction
     requires { ⌜ length (now file) ≤ 65536 ⌝ }
-    ensures { λ r. ⌜ ((table : List ℕ) (t v : ℕ) → fetchedAs (slotAt table t) r ≡ shapedAs (now (file .entry)) (now (links .entry)) table t (at .0) v (after .0) 5) × Places treeForm r ⌝ }
+    ensures { λ r. ⌜ ((table : List ℕ) (t v : ℕ)
+        → fetchedAs (slotAt table t) r ≡ shapedAs (now (file .entry)) (now (links .entry)) table t (at .0) v (after .0) 5) × Places treeForm r ⌝ }
 {
     let Field::Read(n, saved) = fields::read_field(file, after, 8) else {
         return Instruction::Bad;
@@ -66,7 +69,8 @@ fn fetch_instruction(
     next: BitPlace,
 ) -> Instruction
     requires { ⌜ (length (now file) ≤ 65536) × (code < 32) ⌝ }
-    ensures { λ r. ⌜ ((table : List ℕ) (t : ℕ) → fetchedAs (slotAt table t) r ≡ shapedAs (now (file .entry)) (now (links .entry)) table t (at .0) code (next .0) (shapeOf code)) × Places treeForm r ⌝ }
+    ensures { λ r. ⌜ ((table : List ℕ) (t : ℕ)
+        → fetchedAs (slotAt table t) r ≡ shapedAs (now (file .entry)) (now (links .entry)) table t (at .0) code (next .0) (shapeOf code)) × Places treeForm r ⌝ }
 {
     match lists::shape_of(code) {
         1 => {
@@ -91,7 +95,8 @@ fn fetch_instruction(
 // in more than 16 lists.
 pub fn fetch(file: &[u8], links: &[u32], at: BitPlace) -> Instruction
     requires { ⌜ length (now file) ≤ 65536 ⌝ }
-    ensures { λ r. ⌜ ((table : List ℕ) (t : ℕ) → fetchedAs (slotAt table t) r ≡ fetchedAt (now (file .entry)) (now (links .entry)) table t (at .0)) × Places treeForm r ⌝ }
+    ensures { λ r. ⌜ ((table : List ℕ) (t : ℕ) → fetchedAs (slotAt table t) r ≡ fetchedAt (now (file .entry)) (now (links .entry)) table t (at .0))
+        × Places treeForm r ⌝ }
 {
     if at.0 == 0 {
         return Instruction::Return;

@@ -11,7 +11,7 @@ ghost use lib.ListN.{length};
 ghost use Rattle.files.specs.Tree.{treeRead};
 ghost use Rattle.files.specs.Accepted.{treeAccepted};
 ghost use Rattle.links.specs.TreeSteps.{FileReady};
-ghost use Rattle.machines.specs.Runs.{memory, ran, onTree, treeRun};
+ghost use Rattle.machines.specs.Runs.{lent, ran, onTree, treeRun};
 ghost use Rattle.machines.specs.Start.{zeros, MayStart};
 
 // The run of a file that is accepted, where the table is its table and has `count` templates, with links of zeros for it to fill.
@@ -27,8 +27,10 @@ fn run_linked(
     store: &mut [u64],
     frames: &mut [u64],
 ) -> Run
-    requires { ⌜ MayStart 1000000 budget (memory (now globals) (now stack) (now store) (now frames)) × FileReady (now file) (now table) count × (length (now table) ≡ 16384) × (treeAccepted (now file) ≡ treeRead (now file)) × (8 * length (now file) ≤ 5 * length (now links)) ⌝ }
-    ensures { λ x. ⌜ ran x (memory (now (globals .exit)) (now (stack .exit)) (now (store .exit)) (now (frames .exit))) ≡ onTree owner budget (memory (now (globals .entry)) (now (stack .entry)) (now (store .entry)) (now (frames .entry))) (treeAccepted (now (file .entry))) ⌝ }
+    requires { ⌜ MayStart 1000000 budget (lent globals stack store frames) × FileReady (now file) (now table) count × (length (now table) ≡ 16384)
+        × (treeAccepted (now file) ≡ treeRead (now file)) × (8 * length (now file) ≤ 5 * length (now links)) ⌝ }
+    ensures { λ x. ⌜ ran x (lent (globals .exit) (stack .exit) (store .exit) (frames .exit))
+        ≡ onTree owner budget (lent (globals .entry) (stack .entry) (store .entry) (frames .entry)) (treeAccepted (now (file .entry))) ⌝ }
 {
     links::link_tree(file, table, count, links);
     let start = machines::slot_at(table, 0, 0) as usize;
@@ -60,8 +62,10 @@ fn run_read(
     store: &mut [u64],
     frames: &mut [u64],
 ) -> Run
-    requires { ⌜ MayStart 1000000 budget (memory (now globals) (now stack) (now store) (now frames)) × FileReady (now file) (now table) count × (length (now table) ≡ 16384) × (treeAccepted (now file) ≡ treeRead (now file)) ⌝ }
-    ensures { λ x. ⌜ ran x (memory (now (globals .exit)) (now (stack .exit)) (now (store .exit)) (now (frames .exit))) ≡ onTree owner budget (memory (now (globals .entry)) (now (stack .entry)) (now (store .entry)) (now (frames .entry))) (treeAccepted (now (file .entry))) ⌝ }
+    requires { ⌜ MayStart 1000000 budget (lent globals stack store frames) × FileReady (now file) (now table) count × (length (now table) ≡ 16384)
+        × (treeAccepted (now file) ≡ treeRead (now file)) ⌝ }
+    ensures { λ x. ⌜ ran x (lent (globals .exit) (stack .exit) (store .exit) (frames .exit))
+        ≡ onTree owner budget (lent (globals .entry) (stack .entry) (store .entry) (frames .entry)) (treeAccepted (now (file .entry))) ⌝ }
 {
     if file.len() <= 4096 {
         let mut links = [0u32; 6554];
@@ -105,8 +109,9 @@ fn run_file(
     store: &mut [u64],
     frames: &mut [u64],
 ) -> Run
-    requires { ⌜ MayStart 1000000 budget (memory (now globals) (now stack) (now store) (now frames)) × (now table ≡ zeros 16384) ⌝ }
-    ensures { λ x. ⌜ ran x (memory (now (globals .exit)) (now (stack .exit)) (now (store .exit)) (now (frames .exit))) ≡ onTree owner budget (memory (now (globals .entry)) (now (stack .entry)) (now (store .entry)) (now (frames .entry))) (treeAccepted (now (file .entry))) ⌝ }
+    requires { ⌜ MayStart 1000000 budget (lent globals stack store frames) × (now table ≡ zeros 16384) ⌝ }
+    ensures { λ x. ⌜ ran x (lent (globals .exit) (stack .exit) (store .exit) (frames .exit))
+        ≡ onTree owner budget (lent (globals .entry) (stack .entry) (store .entry) (frames .entry)) (treeAccepted (now (file .entry))) ⌝ }
 {
     match tree::read_accepted(file, table) {
         Judged::Accepted(sum) => run_read(
@@ -133,7 +138,8 @@ pub fn run_tree(
     store: &mut [u64],
     frames: &mut [u64],
 ) -> Run
-    ensures { λ x. ⌜ ran x (memory (now (globals .exit)) (now (stack .exit)) (now (store .exit)) (now (frames .exit))) ≡ treeRun (now (file .entry)) budget owner (memory (now (globals .entry)) (now (stack .entry)) (now (store .entry)) (now (frames .entry))) ⌝ }
+    ensures { λ x. ⌜ ran x (lent (globals .exit) (stack .exit) (store .exit) (frames .exit))
+        ≡ treeRun (now (file .entry)) budget owner (lent (globals .entry) (stack .entry) (store .entry) (frames .entry)) ⌝ }
 {
     match machines::start_refusal(globals, stack, store, frames, budget, 1_000_000, owner) {
         Start::Go => {

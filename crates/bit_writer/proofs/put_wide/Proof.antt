@@ -1,6 +1,6 @@
 -- `bit_writer::put_wide` meets its contract: two fields and a word one after the other. Assumes nothing.
 use native.Mathlib.Omega.{arith}
-use Rattle.bit_writer.specs.Laws.{put-three}
+use Rattle.bit_writer.specs.laws.Laws.{put-three}
 use borrow.Author.Needs.{needs}
 use Rattle.bit_writer.proofs.put_wide.Statement.{statement}
 use Rattle.bit_writer.proofs.put_wide.Tie as tie

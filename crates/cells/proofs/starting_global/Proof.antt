@@ -1,6 +1,6 @@
 -- `cells::starting_global` meets its contract: a law for each case of the tag. Assumes nothing.
 use borrow.Author.Needs.{needs}
-use Rattle.cells.specs.Laws.{starting-integer, starting-constant, starting-none-below, starting-none-above}
+use Rattle.cells.specs.laws.Laws.{starting-integer, starting-constant, starting-none-below, starting-none-above}
 use Rattle.cells.proofs.starting_global.Statement.{statement}
 use Rattle.cells.proofs.starting_global.Tie as tie
 

@@ -2,7 +2,7 @@
 use borrow.Author.Needs.{needs}
 use mathlib.Core.Path.{sym, _∙_}
 use Rattle.cells.specs.Cells.{valueOf}
-use Rattle.cells.specs.Laws.{no-value}
+use Rattle.cells.specs.laws.Laws.{no-value}
 use Rattle.cells.proofs.value_of.Statement.{statement}
 use Rattle.cells.proofs.value_of.Tie as tie
 

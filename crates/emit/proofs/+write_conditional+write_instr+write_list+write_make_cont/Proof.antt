@@ -1,18 +1,18 @@
 -- The cycle of calls {write_conditional, write_instr, write_list, write_make_cont} meets its contracts: a level falls at each list inside an
 -- instruction, and the unread bits within a list. Assumes nothing.
 use lib.ListN.{length-set}
-use Rattle.fields.specs.Laws.{field-small}
+use Rattle.fields.specs.laws.Laws.{field-small}
 use Rattle.files.specs.Codes.{shapeOf}
-use Rattle.emit.specs.Known.{head-within}
-use Rattle.emit.specs.Steps.{deeper-arms, item-arms, arms-item, deeper-saved, item-saved, saved-item, plain, plain-room, plain-item}
-use Rattle.emit.specs.Steps.{saved-size, saved-cut, saved-rest, saved-to-write, saved-done}
-use Rattle.emit.specs.Steps.{left-all, left-within, left-none, left-item, left-less, next-is, back-less, left-next}
+use Rattle.emit.specs.laws.Known.{head-within}
+use Rattle.emit.specs.laws.Steps.{deeper-arms, item-arms, arms-item, deeper-saved, item-saved, saved-item, plain, plain-room, plain-item}
+use Rattle.emit.specs.laws.Steps.{saved-size, saved-cut, saved-rest, saved-to-write, saved-done}
+use Rattle.emit.specs.laws.Steps.{left-all, left-within, left-none, left-item, left-less, next-is, back-less, left-next}
 use Prim.Native.Nat.{_+_, _*_, _-_, _≤_}
 use native.Mathlib.Omega.{arith}
 use mathlib.Core.Path.{_≡_, refl, sym, ap, _∙_}
 use lib.ListN.{length}
-use Rattle.emit.specs.Steps.{arms-room, arms-near, jump-near, first-to-write, second-to-write, arms-done}
-use Rattle.emit.specs.Steps.{Left}
+use Rattle.emit.specs.laws.Steps.{arms-room, arms-near, jump-near, first-to-write, second-to-write, arms-done}
+use Rattle.emit.specs.laws.Steps.{Left}
 use borrow.Author.Needs.{needs}
 use Prim.Native.Nat.{ℕ, _<_}
 use borrow.Fn.Kinds.{In}

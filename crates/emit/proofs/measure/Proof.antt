@@ -1,8 +1,8 @@
 -- `emit::measure` meets its contract: what is read is told, and what is refused was not read. Assumes nothing.
 use mathlib.Core.Path.{sym, _∙_}
-use Rattle.files.specs.AllGot.{refused-got}
-use Rattle.lists.specs.ReadLaws.{listed-done, listed-refused}
-use Rattle.emit.specs.Steps.{measured-done}
+use Rattle.files.specs.laws.AllGot.{refused-got}
+use Rattle.lists.specs.laws.ReadLaws.{listed-done, listed-refused}
+use Rattle.emit.specs.laws.Steps.{measured-done}
 use borrow.Author.Needs.{needs}
 use Rattle.emit.proofs.measure.Statement.{statement}
 use Rattle.emit.proofs.measure.Tie as tie

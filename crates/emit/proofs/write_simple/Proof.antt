@@ -6,7 +6,7 @@ use mathlib.Core.Path.{_≡_, refl, _∙_}
 use lib.ListN.{length, length-set}
 use lib.Seq.{sets}
 use Rattle.emit.specs.Written.{operandsAt}
-use Rattle.emit.specs.Stores.{operands-none, operands-on, simple-written}
+use Rattle.emit.specs.laws.Stores.{operands-none, operands-on, simple-written}
 use borrow.Author.Needs.{needs}
 use Rattle.emit.proofs.write_simple.Statement.{statement}
 use Rattle.emit.proofs.write_simple.Tie as tie

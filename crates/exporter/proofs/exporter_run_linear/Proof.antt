@@ -1,6 +1,6 @@
 -- `exporter::exporter_run_linear` meets its contract: nothing is done without room for eight slots; else the machine's contract. Assumes nothing.
 use borrow.Author.Needs.{needs}
-use Rattle.exporter.specs.Answers.{linear-fits}
+use Rattle.exporter.specs.laws.Answers.{linear-fits}
 use Rattle.exporter.proofs.Laws.{answer-fits, nothing-done, run-told}
 use Rattle.exporter.proofs.exporter_run_linear.Statement.{statement}
 use Rattle.exporter.proofs.exporter_run_linear.Tie as tie

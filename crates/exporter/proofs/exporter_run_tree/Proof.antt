@@ -1,6 +1,6 @@
 -- `exporter::exporter_run_tree` meets its contract: nothing is done without room for eight slots; else the machine's contract. Assumes nothing.
 use borrow.Author.Needs.{needs}
-use Rattle.exporter.specs.Answers.{tree-fits}
+use Rattle.exporter.specs.laws.Answers.{tree-fits}
 use Rattle.exporter.proofs.Laws.{answer-fits, nothing-done, run-told}
 use Rattle.exporter.proofs.exporter_run_tree.Statement.{statement}
 use Rattle.exporter.proofs.exporter_run_tree.Tie as tie

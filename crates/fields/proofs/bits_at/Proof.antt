@@ -4,7 +4,7 @@ use mathlib.Core.Path.{ap}
 use native.Mathlib.Omega.{arith}
 use lib.ListN.{getD}
 use lib.Pow.{pow-pos}
-use Rattle.fields.specs.Laws.{shl-one, shifted}
+use Rattle.fields.specs.laws.Laws.{shl-one, shifted}
 use borrow.Author.Needs.{needs}
 use Rattle.fields.proofs.bits_at.Statement.{statement}
 use Rattle.fields.proofs.bits_at.Tie as tie

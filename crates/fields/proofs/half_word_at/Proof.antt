@@ -3,7 +3,7 @@ use mathlib.Core.Path.{ap, _∙_}
 use Prim.Native.Nat.{ℕ}
 use borrow.Author.Needs.{needs}
 use Rattle.fields.specs.Field.{fieldAt}
-use Rattle.fields.specs.Laws.{joined, field-small}
+use Rattle.fields.specs.laws.Laws.{joined, field-small}
 use Rattle.fields.proofs.half_word_at.Statement.{statement}
 use Rattle.fields.proofs.half_word_at.Tie as tie
 

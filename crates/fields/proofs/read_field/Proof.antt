@@ -1,7 +1,7 @@
 -- `fields::read_field` meets its contract. Assumes nothing.
 use native.Mathlib.Omega.{arith}
 use borrow.Author.Needs.{needs}
-use Rattle.fields.specs.Laws.{lies, cut-by, whole-by}
+use Rattle.fields.specs.laws.Laws.{lies, cut-by, whole-by}
 use Rattle.fields.proofs.read_field.Statement.{statement}
 use Rattle.fields.proofs.read_field.Tie as tie
 

@@ -4,7 +4,7 @@ use native.Mathlib.Omega.{arith}
 use mathlib.Core.Path.{ap, _∙_}
 use borrow.Author.Needs.{needs}
 use Rattle.fields.specs.Field.{fieldAt}
-use Rattle.fields.specs.Laws.{lies, cut-by, whole-by, joined}
+use Rattle.fields.specs.laws.Laws.{lies, cut-by, whole-by, joined}
 use Rattle.fields.proofs.read_three.Statement.{statement}
 use Rattle.fields.proofs.read_three.Tie as tie
 

@@ -1,6 +1,6 @@
 -- `fields::read_word` meets its contract: the field lies within the file or runs past its end. Assumes nothing.
 use native.Mathlib.Omega.{arith}
-use Rattle.fields.specs.Laws.{lies, cut-by, whole-by}
+use Rattle.fields.specs.laws.Laws.{lies, cut-by, whole-by}
 use borrow.Author.Needs.{needs}
 use Rattle.fields.proofs.read_word.Statement.{statement}
 use Rattle.fields.proofs.read_word.Tie as tie

@@ -2,7 +2,7 @@
 use mathlib.Core.Path.{ap, _∙_}
 use Prim.Native.Nat.{ℕ}
 use Rattle.fields.specs.Field.{fieldAt}
-use Rattle.fields.specs.Laws.{joined}
+use Rattle.fields.specs.laws.Laws.{joined}
 use borrow.Author.Needs.{needs}
 use Rattle.fields.proofs.wide_at.Statement.{statement}
 use Rattle.fields.proofs.wide_at.Tie as tie

@@ -4,7 +4,7 @@ use mathlib.Core.Path.{sym, _∙_}
 use borrow.Author.Needs.{needs}
 use borrow.Author.Tests.{eqb-true, eqb-false}
 use lib.ListN.{length}
-use Rattle.files.specs.PaddingSteps.{at-end, not-at-end}
+use Rattle.files.specs.laws.PaddingSteps.{at-end, not-at-end}
 use Rattle.files.proofs.nothing_more.Statement.{statement}
 use Rattle.files.proofs.nothing_more.Tie as tie
 

@@ -1,8 +1,8 @@
 -- `files::read_constant` meets its contract: each test leads to its case of `constantAt`. Assumes nothing.
 use native.Mathlib.Omega.{arith}
 use mathlib.Core.Path.{refl}
-use Rattle.fields.specs.Laws.{lies, cut-by, whole-by, field-small}
-use Rattle.files.specs.EntriesSteps.{field-cut, field-read, plain-constant, narrow-cut, narrow-read, wide-cut, wide-read, bad-tag}
+use Rattle.fields.specs.laws.Laws.{lies, cut-by, whole-by, field-small}
+use Rattle.files.specs.laws.EntriesSteps.{field-cut, field-read, plain-constant, narrow-cut, narrow-read, wide-cut, wide-read, bad-tag}
 use borrow.Author.Needs.{needs}
 use Rattle.files.proofs.read_constant.Statement.{statement}
 use Rattle.files.proofs.read_constant.Tie as tie

@@ -7,7 +7,7 @@ use lib.ListN.{length}
 use lib.Seq.{sets}
 use Rattle.files.specs.Entries.{entriesAt}
 use Rattle.files.specs.EntriesRead.{entriesTold, slotsAt}
-use Rattle.files.specs.EntriesSteps.{none-left, entries-on, slots-on, entries-stop, slots-stop}
+use Rattle.files.specs.laws.EntriesSteps.{none-left, entries-on, slots-on, entries-stop, slots-stop}
 use Rattle.files.proofs.read_entries.Statement.{statement}
 use Rattle.files.proofs.read_entries.Tie as tie
 

@@ -1,7 +1,7 @@
 -- `files::read_entry` meets its contract. Assumes nothing.
 use mathlib.Core.Path.{_∙_}
 use borrow.Author.Needs.{needs}
-use Rattle.files.specs.EntriesSteps.{field-cut, field-read, field-below, entry-cut, entry-kind}
+use Rattle.files.specs.laws.EntriesSteps.{field-cut, field-read, field-below, entry-cut, entry-kind}
 use Rattle.files.proofs.read_entry.Statement.{statement}
 use Rattle.files.proofs.read_entry.Tie as tie
 

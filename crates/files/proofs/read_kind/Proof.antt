@@ -2,7 +2,7 @@
 use native.Mathlib.Omega.{arith}
 use mathlib.Core.Path.{_∙_}
 use borrow.Author.Needs.{needs}
-use Rattle.files.specs.EntriesSteps.{field-cut, field-read, field-within, constant-cut, constant-read, global-cut, global-read, template-cut, template-low, template-high, template-read, bad-kind}
+use Rattle.files.specs.laws.EntriesSteps.{field-cut, field-read, field-within, constant-cut, constant-read, global-cut, global-read, template-cut, template-low, template-high, template-read, bad-kind}
 use Rattle.files.proofs.read_kind.Statement.{statement}
 use Rattle.files.proofs.read_kind.Tie as tie
 

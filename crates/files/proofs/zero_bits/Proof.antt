@@ -7,7 +7,7 @@ use borrow.Author.Needs.{needs}
 use lib.ListN.{length}
 use Rattle.files.specs.Entries.{zeroBits}
 use Rattle.files.specs.EntriesRead.{paddingTold}
-use Rattle.files.specs.PaddingSteps.{no-bits, bits-on, bits-stop}
+use Rattle.files.specs.laws.PaddingSteps.{no-bits, bits-on, bits-stop}
 use Rattle.files.proofs.zero_bits.Statement.{statement}
 use Rattle.files.proofs.zero_bits.Tie as tie
 

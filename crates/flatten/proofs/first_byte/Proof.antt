@@ -1,6 +1,6 @@
 -- `flatten::first_byte` meets its contract: whole, or shifted up. Assumes nothing.
 use mathlib.Core.Path.{_∙_}
-use Rattle.flatten.specs.Copied.{shifted, byte-whole}
+use Rattle.flatten.specs.laws.Copied.{shifted, byte-whole}
 use borrow.Author.Needs.{needs}
 use Rattle.flatten.proofs.first_byte.Statement.{statement}
 use Rattle.flatten.proofs.first_byte.Tie as tie

@@ -2,8 +2,8 @@
 use native.Mathlib.Omega.{arith}
 use mathlib.Core.Path.{sym, _∙_}
 use lib.ListN.{length-set}
-use Rattle.tree.specs.Judged.{judged-refused}
-use Rattle.flatten.specs.FileSteps.{flatten-refused, flatten-far, flatten-short, some-bytes, file-short, file-to-write, flatten-written}
+use Rattle.tree.specs.laws.Judged.{judged-refused}
+use Rattle.flatten.specs.laws.FileSteps.{flatten-refused, flatten-far, flatten-short, some-bytes, file-short, file-to-write, flatten-written}
 use borrow.Author.Needs.{needs}
 use Rattle.flatten.proofs.flatten.Statement.{statement}
 use Rattle.flatten.proofs.flatten.Tie as tie

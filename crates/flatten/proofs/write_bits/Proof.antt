@@ -6,7 +6,7 @@ use lib.ListN.{length, length-set}
 use lib.Seq.{sets}
 use Rattle.files.specs.Linear.{bytesOf}
 use Rattle.readback.specs.Lists.{bitsFrom}
-use Rattle.flatten.specs.Copied.{bytes-none, bytes-on}
+use Rattle.flatten.specs.laws.Copied.{bytes-none, bytes-on}
 use borrow.Author.Needs.{needs}
 use Rattle.flatten.proofs.write_bits.Statement.{statement}
 use Rattle.flatten.proofs.write_bits.Tie as tie

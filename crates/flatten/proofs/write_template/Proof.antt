@@ -2,7 +2,7 @@
 use native.Mathlib.Omega.{arith}
 use mathlib.Core.Path.{_∙_}
 use lib.ListN.{length-set}
-use Rattle.flatten.specs.TemplateSteps.{places, count-within, room-enough, size-small, listToWrite, template-done}
+use Rattle.flatten.specs.laws.TemplateSteps.{places, count-within, room-enough, size-small, listToWrite, template-done}
 use borrow.Author.Needs.{needs}
 use Rattle.flatten.proofs.write_template.Statement.{statement}
 use Rattle.flatten.proofs.write_template.Tie as tie

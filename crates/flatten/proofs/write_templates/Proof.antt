@@ -3,7 +3,7 @@ use Prim.Native.Nat.{_-_, _≤_}
 use native.Mathlib.Omega.{arith}
 use mathlib.Core.Path.{_≡_, refl, _∙_}
 use lib.ListN.{length}
-use Rattle.flatten.specs.FileSteps.{Left, left-all, left-none, leftTemplate, left-next}
+use Rattle.flatten.specs.laws.FileSteps.{Left, left-all, left-none, leftTemplate, left-next}
 use borrow.Author.Needs.{needs}
 use Rattle.flatten.proofs.write_templates.Statement.{statement}
 use Rattle.flatten.proofs.write_templates.Tie as tie

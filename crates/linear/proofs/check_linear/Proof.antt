@@ -1,7 +1,7 @@
 -- `linear::check_linear` meets its contract. Assumes nothing.
 use mathlib.Core.Path.{sym, _∙_}
 use borrow.Author.Needs.{needs}
-use Rattle.linear.specs.LinearSteps.{checked-read, checked-refused}
+use Rattle.linear.specs.laws.LinearSteps.{checked-read, checked-refused}
 use Rattle.linear.proofs.check_linear.Statement.{statement}
 use Rattle.linear.proofs.check_linear.Tie as tie
 

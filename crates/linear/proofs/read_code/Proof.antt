@@ -6,10 +6,10 @@ use borrow.Author.Tests.{leb-false}
 use borrow.Author.Needs.{needs}
 use lib.ListN.{length}
 use Rattle.cells.specs.declared.BitPlace.{BitPlace}
-use Rattle.fields.specs.Laws.{lies}
+use Rattle.fields.specs.laws.Laws.{lies}
 use Rattle.files.specs.Reading.{refused}
-use Rattle.files.specs.EntriesSteps.{field-cut, field-read, field-within}
-use Rattle.linear.specs.LinearSteps.{padding-set, length-cut, code-cut, code-read, code-stops, code-ends}
+use Rattle.files.specs.laws.EntriesSteps.{field-cut, field-read, field-within}
+use Rattle.linear.specs.laws.LinearSteps.{padding-set, length-cut, code-cut, code-read, code-stops, code-ends}
 use Rattle.linear.proofs.read_code.Statement.{statement}
 use Rattle.linear.proofs.read_code.Tie as tie
 

@@ -1,7 +1,7 @@
 -- `linear::read_linear` meets its contract: each answer leads to its case of `linearRead`. Assumes nothing.
 use borrow.Author.Needs.{needs}
-use Rattle.files.specs.EntriesSteps.{field-cut, field-read}
-use Rattle.linear.specs.LinearSteps.{too-long, count-cut, count-low, count-high, templates-stop, more-stop, file-done}
+use Rattle.files.specs.laws.EntriesSteps.{field-cut, field-read}
+use Rattle.linear.specs.laws.LinearSteps.{too-long, count-cut, count-low, count-high, templates-stop, more-stop, file-done}
 use Rattle.linear.proofs.read_linear.Statement.{statement}
 use Rattle.linear.proofs.read_linear.Tie as tie
 

@@ -1,9 +1,9 @@
 -- `linear::read_template` meets its contract. Assumes nothing.
 use mathlib.Core.Path.{_∙_, sym}
 use borrow.Author.Needs.{needs}
-use Rattle.files.specs.EntriesLaws.{entries-read}
-use Rattle.files.specs.EntriesSteps.{field-cut, field-read, field-below, field-within, entries-told, entries-refused}
-use Rattle.linear.specs.LinearSteps.{entries-cut, entries-stop, template-done}
+use Rattle.files.specs.laws.EntriesLaws.{entries-read}
+use Rattle.files.specs.laws.EntriesSteps.{field-cut, field-read, field-below, field-within, entries-told, entries-refused}
+use Rattle.linear.specs.laws.LinearSteps.{entries-cut, entries-stop, template-done}
 use Rattle.linear.proofs.read_template.Statement.{statement}
 use Rattle.linear.proofs.read_template.Tie as tie
 

@@ -6,7 +6,7 @@ use borrow.Author.Needs.{needs}
 use lib.ListN.{length}
 use Rattle.files.specs.Linear.{linearTemplatesAt}
 use Rattle.linear.specs.Filled.{partTold, templatesFilled}
-use Rattle.linear.specs.LinearSteps.{linears-none, linears-stop, linears-on}
+use Rattle.linear.specs.laws.LinearSteps.{linears-none, linears-stop, linears-on}
 use Rattle.linear.proofs.read_templates.Statement.{statement}
 use Rattle.linear.proofs.read_templates.Tie as tie
 

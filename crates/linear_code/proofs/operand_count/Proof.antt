@@ -4,7 +4,7 @@ use mathlib.Core.Path.{refl, sym}
 use lib.ListN.{List·getD-eq-default}
 use Rattle.files.specs.Codes.{linearBytes, operandBytes}
 use native.Mathlib.Omega.{arith}
-use Rattle.machines.specs.FetchedLaws.{operand-bytes-few}
+use Rattle.machines.specs.laws.FetchedLaws.{operand-bytes-few}
 use Rattle.linear_code.proofs.operand_count.Statement.{statement}
 use Rattle.linear_code.proofs.operand_count.Tie as tie
 

@@ -2,7 +2,7 @@
 use native.Mathlib.Omega.{arith}
 use mathlib.Core.Path.{sym, _∙_}
 use Rattle.machines.specs.Runs.{linearRun}
-use Rattle.machines.specs.Start.{startable, started-go}
+use Rattle.machines.specs.laws.Start.{startable, started-go}
 use Rattle.linear_machine.proofs.FileLaws.{again-within, again-ran, file-owned}
 use borrow.Author.Needs.{needs}
 use Rattle.linear_machine.proofs.run_again.Statement.{statement}

@@ -1,7 +1,7 @@
 -- `linear_machine::run_linear` meets its contract. Assumes nothing.
 use borrow.Author.Needs.{needs}
 use Rattle.machines.specs.Runs.{linearRun}
-use Rattle.machines.specs.Start.{may-start, start-goes, start-refused}
+use Rattle.machines.specs.laws.Start.{may-start, start-goes, start-refused}
 use Rattle.linear_machine.proofs.FileLaws.{file-owned}
 use Rattle.linear_machine.proofs.run_linear.Statement.{statement}
 use Rattle.linear_machine.proofs.run_linear.Tie as tie

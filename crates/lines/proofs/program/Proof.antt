@@ -3,7 +3,7 @@ use borrow.Author.Needs.{needs}
 use native.Mathlib.Omega.{arith}
 use mathlib.Core.Path.{sym}
 use lib.Seq.{length-take-le}
-use Rattle.text.specs.Laws.{put-taken}
+use Rattle.text.specs.laws.Laws.{put-taken}
 use Rattle.lines.proofs.Laws.{lines-fit, lines-do-not-fit}
 use Rattle.lines.proofs.program.Statement.{statement}
 use Rattle.lines.proofs.program.Tie as tie

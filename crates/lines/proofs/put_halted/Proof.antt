@@ -2,7 +2,7 @@
 use borrow.Author.Needs.{needs}
 use native.Mathlib.Omega.{arith}
 use Rattle.lines.specs.Lines.{endWords}
-use Rattle.text.specs.Laws.{put-then, put-line}
+use Rattle.text.specs.laws.Laws.{put-then, put-line}
 use Rattle.lines.proofs.put_halted.Statement.{statement}
 use Rattle.lines.proofs.put_halted.Tie as tie
 

@@ -3,7 +3,7 @@ use borrow.Author.Needs.{needs}
 use native.Mathlib.Omega.{arith}
 use mathlib.Core.List.{append-assoc}
 use Rattle.text.specs.Text.{line}
-use Rattle.text.specs.Laws.{put-then}
+use Rattle.text.specs.laws.Laws.{put-then}
 use Rattle.lines.proofs.put_linear.Statement.{statement}
 use Rattle.lines.proofs.put_linear.Tie as tie
 

@@ -4,7 +4,7 @@ use native.Mathlib.Omega.{arith}
 use mathlib.Core.List.{append-assoc}
 use lib.ListN.{length-append}
 use Rattle.lines.specs.Lines.{machineLine}
-use Rattle.text.specs.Laws.{put-then, put-length}
+use Rattle.text.specs.laws.Laws.{put-then, put-length}
 use Rattle.lines.proofs.put_machine.Statement.{statement}
 use Rattle.lines.proofs.put_machine.Tie as tie
 

@@ -6,7 +6,7 @@ use mathlib.Core.Path.{_≡_, sym, _∙_}
 use lib.ListN.{length}
 use Rattle.files.specs.Reading.{listAt}
 use Rattle.links.specs.Parts.{Whole, linkedGot}
-use Rattle.links.specs.LinkSteps.{Outcome, outcome, arms-linked, saved-linked, linked-on}
+use Rattle.links.specs.laws.LinkSteps.{Outcome, outcome, arms-linked, saved-linked, linked-on}
 use Rattle.links.specs.declared.Parts.{Parts}
 use borrow.Author.Needs.{needs}
 use Prim.Native.Nat.{ℕ, _<_}

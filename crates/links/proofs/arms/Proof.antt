@@ -1,7 +1,7 @@
 -- `links::arms` meets its contract. Assumes nothing.
 use mathlib.Core.Path.{sym, _∙_}
-use Rattle.lists.specs.ReadLaws.{listed-done, listed-refused}
-use Rattle.links.specs.PartsLaws.{arms-read, first-refused, second-refused}
+use Rattle.lists.specs.laws.ReadLaws.{listed-done, listed-refused}
+use Rattle.links.specs.laws.PartsLaws.{arms-read, first-refused, second-refused}
 use borrow.Author.Needs.{needs}
 use Rattle.links.proofs.arms.Statement.{statement}
 use Rattle.links.proofs.arms.Tie as tie

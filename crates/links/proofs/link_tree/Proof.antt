@@ -5,7 +5,8 @@ use native.Mathlib.Omega.{arith}
 use mathlib.Core.Path.{_≡_, sym, _∙_}
 use lib.ListN.{length}
 use Rattle.files.specs.Tree.{treeRead}
-use Rattle.links.specs.TreeSteps.{linkedFrom, ready-short, at-most-64, linked-all, list-whole, template-linked, linked-on}
+use Rattle.links.specs.TreeSteps.{linkedFrom}
+use Rattle.links.specs.laws.TreeSteps.{ready-short, at-most-64, linked-all, list-whole, template-linked, linked-on}
 use borrow.Author.Needs.{needs}
 use Rattle.links.proofs.link_tree.Statement.{statement}
 use Rattle.links.proofs.link_tree.Tie as tie

@@ -1,10 +1,10 @@
 -- `links::parts_at` meets its contract. Assumes nothing.
 use Rattle.links.specs.Parts.{partsOf}
-use Rattle.lists.specs.ReadLaws.{read-below, simple-anywhere, deep-anywhere, deep-last}
+use Rattle.lists.specs.laws.ReadLaws.{read-below, simple-anywhere, deep-anywhere, deep-last}
 use Rattle.lists.specs.Pass.{deepAt}
-use Rattle.files.specs.Heads.{code-cut, code-read, no-code}
+use Rattle.files.specs.laws.Heads.{code-cut, code-read, no-code}
 use Rattle.files.specs.Reading.{shaped, headAt, deepOf}
-use Rattle.fields.specs.Laws.{value-of}
+use Rattle.fields.specs.laws.Laws.{value-of}
 use Rattle.fields.specs.Field.{fieldRead}
 use Rattle.fields.specs.declared.Field.the-variants.{Read}
 use native.Mathlib.Omega.{arith}

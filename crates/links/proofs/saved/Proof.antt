@@ -1,7 +1,7 @@
 -- `links::saved` meets its contract. Assumes nothing.
 use mathlib.Core.Path.{sym, _∙_}
-use Rattle.lists.specs.ReadLaws.{listed-done, listed-refused}
-use Rattle.links.specs.PartsLaws.{no-count, no-saved, saved-read}
+use Rattle.lists.specs.laws.ReadLaws.{listed-done, listed-refused}
+use Rattle.links.specs.laws.PartsLaws.{no-count, no-saved, saved-read}
 use borrow.Author.Needs.{needs}
 use Rattle.links.proofs.saved.Statement.{statement}
 use Rattle.links.proofs.saved.Tie as tie

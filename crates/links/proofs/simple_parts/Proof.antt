@@ -1,5 +1,5 @@
 -- `links::simple_parts` meets its contract. Assumes nothing.
-use Rattle.links.specs.PartsLaws.{simple-fits, simple-past}
+use Rattle.links.specs.laws.PartsLaws.{simple-fits, simple-past}
 use borrow.Author.Needs.{needs}
 use Rattle.links.proofs.simple_parts.Statement.{statement}
 use Rattle.links.proofs.simple_parts.Tie as tie

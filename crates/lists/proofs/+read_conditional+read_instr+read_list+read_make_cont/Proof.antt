@@ -32,11 +32,11 @@ use mathlib.Core.Path.{_≡_, refl, sym, ap, _∙_}
 use borrow.Author.Needs.{needs}
 use lib.ListN.{length}
 use Rattle.files.specs.Reading.{shaped, headAt, deepOf, listAt}
-use Rattle.files.specs.Heads.{code-cut, code-read, no-code, first-arm-refused, second-arm-refused, conditional-read, count-cut, saved-refused, make-cont-read}
+use Rattle.files.specs.laws.Heads.{code-cut, code-read, no-code, first-arm-refused, second-arm-refused, conditional-read, count-cut, saved-refused, make-cont-read}
 use Rattle.lists.specs.Facts.{listed}
 use Rattle.lists.specs.Pass.{addedBy, begun, listedFrom, itemed, deepAt}
-use Rattle.lists.specs.PassLaws.{listed-begun}
-use Rattle.lists.specs.ReadLaws.{read-below, simple-anywhere, deep-anywhere, deep-last, listed-done, listed-refused, listed-size, turn-end, turn-more, turn-bad, turn-bits, tail-size}
+use Rattle.lists.specs.laws.PassLaws.{listed-begun}
+use Rattle.lists.specs.laws.ReadLaws.{read-below, simple-anywhere, deep-anywhere, deep-last, listed-done, listed-refused, listed-size, turn-end, turn-more, turn-bad, turn-bits, tail-size}
 
 abbrev μ-read-conditional : Measures 2 read-conditional-kinds.ps ℕ
 μ-read-conditional κs a = 3 * a .1 .1 .1 .1 .0 + 3

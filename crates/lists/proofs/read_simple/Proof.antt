@@ -1,6 +1,6 @@
 -- `lists::read_simple` meets its contract. Assumes nothing.
 use borrow.Author.Needs.{needs}
-use Rattle.lists.specs.ReadLaws.{read-below, no-operand, operand-cut, one-operand, operand-cut-2, two-operands}
+use Rattle.lists.specs.laws.ReadLaws.{read-below, no-operand, operand-cut, one-operand, operand-cut-2, two-operands}
 use native.Mathlib.Omega.{arith}
 use mathlib.Core.Path.{sym, _∙_}
 use Rattle.lists.proofs.read_simple.Statement.{statement}

@@ -1,6 +1,6 @@
 -- `lists::shape_of` meets its contract. Assumes nothing.
 use borrow.Author.Needs.{needs}
-use Rattle.files.specs.CodesLaws.{shape-listed}
+use Rattle.files.specs.laws.CodesLaws.{shape-listed}
 use Rattle.lists.proofs.shape_of.Statement.{statement}
 use Rattle.lists.proofs.shape_of.Tie as tie
 

@@ -2,7 +2,7 @@
 use mathlib.Core.Path.{refl, sym, _∙_}
 use native.Mathlib.Omega.{arith}
 use borrow.Author.Tests.{eq-eqb, ne-eqb}
-use Rattle.fields.specs.Laws.{shl-one}
+use Rattle.fields.specs.laws.Laws.{shl-one}
 use Rattle.lists.specs.Facts.{slotCloses}
 use borrow.Author.Needs.{needs}
 use Rattle.lists.proofs.slot_closes.Statement.{statement}

@@ -4,7 +4,7 @@ use Prim.Native.Nat.{_+_, _-_, _*_, _/_, _≤_}
 use mathlib.Core.Path.{_≡_, sym, _∙_}
 use lib.ListN.{length}
 use Rattle.text.specs.Put.{Put}
-use Rattle.text.specs.Laws.{put-length}
+use Rattle.text.specs.laws.Laws.{put-length}
 use Rattle.pull.specs.Pull.{clipCount, pullLines}
 use Rattle.pull.proofs.Clips.{no-lines, one-line-more, all-lines}
 use borrow.Author.Needs.{needs}

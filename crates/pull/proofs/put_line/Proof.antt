@@ -1,6 +1,6 @@
 -- `pull::put_line` meets its contract: the clip's number and a blank, then the rest of the line. Assumes nothing.
 use native.Mathlib.Omega.{arith}
-use Rattle.text.specs.Laws.{put-length}
+use Rattle.text.specs.laws.Laws.{put-length}
 use Rattle.pull.proofs.Lines.{number-after, put-found}
 use borrow.Author.Needs.{needs}
 use Rattle.pull.proofs.put_line.Statement.{statement}

@@ -1,6 +1,6 @@
 -- `pull::put_range` meets its contract: the media's frames as bits, the word, and the numbers. Assumes nothing.
 use native.Mathlib.Omega.{arith}
-use Rattle.text.specs.Laws.{put-before}
+use Rattle.text.specs.laws.Laws.{put-before}
 use Rattle.pull.specs.Pull.{sourceWords}
 use borrow.Author.Needs.{needs}
 use Rattle.pull.proofs.put_range.Statement.{statement}

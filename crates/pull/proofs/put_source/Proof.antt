@@ -1,6 +1,6 @@
 -- `pull::put_source` meets its contract: an integer has at most 16 bytes, so the second has room too. Assumes nothing.
 use native.Mathlib.Omega.{arith}
-use Rattle.text.specs.Laws.{put-then, put-length}
+use Rattle.text.specs.laws.Laws.{put-then, put-length}
 use Rattle.pull.proofs.Lines.{integer-short, put-two}
 use borrow.Author.Needs.{needs}
 use Rattle.pull.proofs.put_source.Statement.{statement}

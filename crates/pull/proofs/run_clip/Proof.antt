@@ -1,6 +1,6 @@
 -- `pull::run_clip` meets its contract: the machine's contract; what the slices held is not seen. Assumes nothing.
 use native.Mathlib.Omega.{arith}
-use Rattle.linear_machine.specs.Again.{may-run}
+use Rattle.linear_machine.specs.laws.Again.{may-run}
 use Rattle.pull.proofs.Clips.{run-found}
 use Rattle.pull.specs.Pull.{foundOf}
 use borrow.Author.Needs.{needs}

@@ -1,7 +1,7 @@
 -- `text::put_number` meets its contract: a number, then what follows it. Assumes nothing.
 use borrow.Author.Needs.{needs}
 use native.Mathlib.Omega.{arith}
-use Rattle.text.specs.Laws.{put-then}
+use Rattle.text.specs.laws.Laws.{put-then}
 use Rattle.text.proofs.put_number.Statement.{statement}
 use Rattle.text.proofs.put_number.Tie as tie
 

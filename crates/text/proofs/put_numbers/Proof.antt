@@ -2,7 +2,7 @@
 use borrow.Author.Needs.{needs}
 use native.Mathlib.Omega.{arith}
 use lib.ListN.{length-append}
-use Rattle.text.specs.Laws.{put-line, put-length}
+use Rattle.text.specs.laws.Laws.{put-line, put-length}
 use Rattle.text.proofs.put_numbers.Statement.{statement}
 use Rattle.text.proofs.put_numbers.Tie as tie
 

@@ -1,6 +1,6 @@
 -- `text::put_word` meets its contract: a word, then a blank. Assumes nothing.
 use borrow.Author.Needs.{needs}
-use Rattle.text.specs.Laws.{put-then}
+use Rattle.text.specs.laws.Laws.{put-then}
 use Rattle.text.proofs.put_word.Statement.{statement}
 use Rattle.text.proofs.put_word.Tie as tie
 

@@ -1,7 +1,7 @@
 -- `tree::check_tree` meets its contract. Assumes nothing.
 use mathlib.Core.Path.{sym, ap, _∙_}
 use Rattle.tree.specs.Summary.{checkedTold}
-use Rattle.tree.specs.Judged.{judged-told, judged-refused}
+use Rattle.tree.specs.laws.Judged.{judged-told, judged-refused}
 use borrow.Author.Needs.{needs}
 use Rattle.tree.proofs.check_tree.Statement.{statement}
 use Rattle.tree.proofs.check_tree.Tie as tie

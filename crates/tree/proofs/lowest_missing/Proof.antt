@@ -3,7 +3,7 @@ use Prim.Native.Nat.{_+_, _-_, _/_, _≤_}
 use native.Mathlib.Omega.{arith}
 use mathlib.Core.Path.{_≡_, refl, sym, _∙_}
 use Rattle.tree.specs.Summary.{lowestMissing}
-use Rattle.tree.specs.Judged.{missing-here, missing-on, missing-none}
+use Rattle.tree.specs.laws.Judged.{missing-here, missing-on, missing-none}
 use borrow.Author.Needs.{needs}
 use Rattle.tree.proofs.lowest_missing.Statement.{statement}
 use Rattle.tree.proofs.lowest_missing.Tie as tie

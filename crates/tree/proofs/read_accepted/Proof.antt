@@ -1,7 +1,7 @@
 -- `tree::read_accepted` meets its contract. Assumes nothing.
 use mathlib.Core.Path.{sym, ap, _∙_}
 use Rattle.tree.specs.Summary.{judgedTold}
-use Rattle.tree.specs.Judged.{judged-orphan, judged-accepted, judged-refused, accepted-refused}
+use Rattle.tree.specs.laws.Judged.{judged-orphan, judged-accepted, judged-refused, accepted-refused}
 use borrow.Author.Needs.{needs}
 use Rattle.tree.proofs.read_accepted.Statement.{statement}
 use Rattle.tree.proofs.read_accepted.Tie as tie

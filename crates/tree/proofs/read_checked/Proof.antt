@@ -1,7 +1,7 @@
 -- `tree::read_checked` meets its contract. Assumes nothing.
 use mathlib.Core.Path.{refl, sym, ap, _∙_}
 use Rattle.tree.specs.Summary.{judgedTold}
-use Rattle.tree.specs.Judged.{judged-unclosed, judged-misnamed, judged-good, checked-refused}
+use Rattle.tree.specs.laws.Judged.{judged-unclosed, judged-misnamed, judged-good, checked-refused}
 use borrow.Author.Needs.{needs}
 use Rattle.tree.proofs.read_checked.Statement.{statement}
 use Rattle.tree.proofs.read_checked.Tie as tie

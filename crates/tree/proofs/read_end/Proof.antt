@@ -1,7 +1,7 @@
 -- `tree::read_end` meets its contract. Assumes nothing.
 use mathlib.Core.Path.{sym, ap, _∙_}
 use Rattle.files.specs.EntriesRead.{paddingTold}
-use Rattle.tree.specs.TreeSteps.{end-on, end-set}
+use Rattle.tree.specs.laws.TreeSteps.{end-on, end-set}
 use borrow.Author.Needs.{needs}
 use Rattle.tree.proofs.read_end.Statement.{statement}
 use Rattle.tree.proofs.read_end.Tie as tie

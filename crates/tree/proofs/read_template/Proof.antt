@@ -2,11 +2,11 @@
 use lib.ListN.{length-set}
 use native.Mathlib.Omega.{arith}
 use mathlib.Core.Path.{sym, _∙_}
-use Rattle.files.specs.EntriesSteps.{field-cut, field-read, field-below, entries-told, entries-refused}
-use Rattle.files.specs.EntriesLaws.{entries-read}
-use Rattle.files.specs.ReadingLaws.{list-bits}
-use Rattle.lists.specs.ReadLaws.{listed-done, listed-refused, listed-size}
-use Rattle.tree.specs.TemplateSteps.{count-cut, entries-stop, list-stop, list-done}
+use Rattle.files.specs.laws.EntriesSteps.{field-cut, field-read, field-below, entries-told, entries-refused}
+use Rattle.files.specs.laws.EntriesLaws.{entries-read}
+use Rattle.files.specs.laws.ReadingLaws.{list-bits}
+use Rattle.lists.specs.laws.ReadLaws.{listed-done, listed-refused, listed-size}
+use Rattle.tree.specs.laws.TemplateSteps.{count-cut, entries-stop, list-stop, list-done}
 use borrow.Author.Needs.{needs}
 use Rattle.tree.proofs.read_template.Statement.{statement}
 use Rattle.tree.proofs.read_template.Tie as tie

@@ -8,7 +8,7 @@ use Rattle.files.specs.Tree.{templatesAt}
 use Rattle.files.specs.RowFilled.{Unfilled}
 use Rattle.tree.specs.Summary.{templatesTold, toldFrom, summaryAfter}
 use Rattle.tree.specs.Filled.{templatesFilled}
-use Rattle.tree.specs.TemplateSteps.{templates-none, templates-stop, templates-on, next-unfilled, next-small, told-all}
+use Rattle.tree.specs.laws.TemplateSteps.{templates-none, templates-stop, templates-on, next-unfilled, next-small, told-all}
 use borrow.Author.Needs.{needs}
 use Rattle.tree.proofs.read_templates.Statement.{statement}
 use Rattle.tree.proofs.read_templates.Tie as tie

@@ -1,7 +1,7 @@
 -- `tree::read_tree` meets its contract. Assumes nothing.
-use Rattle.files.specs.EntriesSteps.{field-cut, field-read}
-use Rattle.files.specs.RowFilled.{zeros-unfilled}
-use Rattle.tree.specs.TreeSteps.{too-long, count-cut, count-none, count-many, file-stop, file-within, file-set, file-read}
+use Rattle.files.specs.laws.EntriesSteps.{field-cut, field-read}
+use Rattle.files.specs.laws.RowFilled.{zeros-unfilled}
+use Rattle.tree.specs.laws.TreeSteps.{too-long, count-cut, count-none, count-many, file-stop, file-within, file-set, file-read}
 use borrow.Author.Needs.{needs}
 use Rattle.tree.proofs.read_tree.Statement.{statement}
 use Rattle.tree.proofs.read_tree.Tie as tie

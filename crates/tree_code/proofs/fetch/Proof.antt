@@ -2,10 +2,10 @@
 use Prim.Native.Nat.{_≤_}
 use mathlib.Core.Path.{_≡_, refl, sym, _∙_}
 use native.Mathlib.Omega.{arith}
-use Rattle.lists.specs.ReadLaws.{read-below}
+use Rattle.lists.specs.laws.ReadLaws.{read-below}
 use Rattle.machines.specs.Instruction.{Places}
 use Rattle.tree_code.specs.Fetch.{settled}
-use Rattle.tree_code.specs.FetchSteps.{nowhere-fetched, cut-fetched, code-fetched, end-fetched, end-followed}
+use Rattle.tree_code.specs.laws.FetchSteps.{nowhere-fetched, cut-fetched, code-fetched, end-fetched, end-followed}
 use borrow.Author.Needs.{needs}
 use Rattle.tree_code.proofs.fetch.Statement.{statement}
 use Rattle.tree_code.proofs.fetch.Tie as tie

@@ -2,7 +2,7 @@
 use mathlib.Core.Path.{refl, sym, ap, _∙_}
 use Rattle.machines.specs.Instruction.{Places, formOf}
 use Rattle.tree_code.specs.Fetch.{shapedAs}
-use Rattle.tree_code.specs.FetchSteps.{shape-is, return-read, none-read, branch-read, no-code}
+use Rattle.tree_code.specs.laws.FetchSteps.{shape-is, return-read, none-read, branch-read, no-code}
 use borrow.Author.Needs.{needs}
 use Rattle.tree_code.proofs.fetch_instruction.Statement.{statement}
 use Rattle.tree_code.proofs.fetch_instruction.Tie as tie

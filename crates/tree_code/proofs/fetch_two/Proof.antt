@@ -1,7 +1,7 @@
 -- `tree_code::fetch_two` meets its contract. Assumes nothing.
 use Rattle.machines.specs.Instruction.{Places, formOf}
-use Rattle.tree_code.specs.FetchSteps.{operand-cut, second-cut, two-read}
-use Rattle.lists.specs.ReadLaws.{read-below}
+use Rattle.tree_code.specs.laws.FetchSteps.{operand-cut, second-cut, two-read}
+use Rattle.lists.specs.laws.ReadLaws.{read-below}
 use native.Mathlib.Omega.{arith}
 use mathlib.Core.Path.{refl, sym, _∙_}
 use borrow.Author.Needs.{needs}

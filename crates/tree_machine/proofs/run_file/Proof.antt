@@ -1,8 +1,9 @@
 -- `tree_machine::run_file` meets its contract. Assumes nothing.
 use mathlib.Core.Path.{ap, _∙_}
 use lib.ListN.{length}
-use Rattle.machines.specs.Start.{zeros, zeros-length}
-use Rattle.tree_machine.specs.FileLaws.{file-ready, file-good, file-refused}
+use Rattle.machines.specs.Start.{zeros}
+use Rattle.machines.specs.laws.Start.{zeros-length}
+use Rattle.tree_machine.specs.laws.FileLaws.{file-ready, file-good, file-refused}
 use borrow.Author.Needs.{needs}
 use Rattle.tree_machine.proofs.run_file.Statement.{statement}
 use Rattle.tree_machine.proofs.run_file.Tie as tie

@@ -1,8 +1,8 @@
 -- `tree_machine::run_linked` meets its contract. Assumes nothing.
-use Rattle.links.specs.TreeSteps.{ready-short}
+use Rattle.links.specs.laws.TreeSteps.{ready-short}
 use Rattle.machines.specs.Instruction.{number, formOf}
 use Rattle.steps.specs.Step.{codeProgram, CodeReady}
-use Rattle.tree_machine.specs.FileLaws.{linked-ran}
+use Rattle.tree_machine.specs.laws.FileLaws.{linked-ran}
 use borrow.Author.Needs.{needs}
 use Rattle.tree_machine.proofs.run_linked.Statement.{statement}
 use Rattle.tree_machine.proofs.run_linked.Tie as tie

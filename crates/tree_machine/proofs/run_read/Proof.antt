@@ -1,8 +1,8 @@
 -- `tree_machine::run_read` meets its contract. Assumes nothing.
 use native.Mathlib.Omega.{arith}
-use Rattle.links.specs.TreeSteps.{ready-short}
+use Rattle.links.specs.laws.TreeSteps.{ready-short}
 use Rattle.machines.specs.Start.{zeros}
-use Rattle.tree_machine.specs.FileLaws.{zeros-hold}
+use Rattle.tree_machine.specs.laws.FileLaws.{zeros-hold}
 use borrow.Author.Needs.{needs}
 use Rattle.tree_machine.proofs.run_read.Statement.{statement}
 use Rattle.tree_machine.proofs.run_read.Tie as tie

@@ -1,9 +1,10 @@
 -- `tree_machine::run_tree` meets its contract. Assumes nothing.
-use Rattle.machines.specs.Start.{zeros, may-start, start-goes, start-refused}
+use Rattle.machines.specs.Start.{zeros}
+use Rattle.machines.specs.laws.Start.{may-start, start-goes, start-refused}
 use Rattle.machines.specs.Runs.{treeRun}
 use mathlib.Core.Path.{refl}
 use borrow.Author.Needs.{needs}
-use Rattle.tree_machine.specs.FileLaws.{file-owned}
+use Rattle.tree_machine.specs.laws.FileLaws.{file-owned}
 use Rattle.tree_machine.proofs.run_tree.Statement.{statement}
 use Rattle.tree_machine.proofs.run_tree.Tie as tie
 

@@ -3,7 +3,7 @@ use borrow.Author.Needs.{needs}
 use lib.ListN.{length}
 use Prim.Native.Nat.{_-_, _≤_}
 use mathlib.Core.Path.{_≡_}
-use Rattle.trial.specs.Input.{within-read}
+use Rattle.trial.specs.laws.Input.{within-read}
 use Rattle.trial.proofs.read_sheet.Statement.{statement}
 use Rattle.trial.proofs.read_sheet.Tie as tie
 

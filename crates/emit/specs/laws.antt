@@ -1,0 +1,4 @@
+-- The laws of the crate emit.
+pub mod Known
+pub mod Stores
+pub mod Steps

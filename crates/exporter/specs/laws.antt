@@ -1,0 +1,2 @@
+-- The laws of the crate exporter.
+pub mod Answers

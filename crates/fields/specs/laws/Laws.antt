@@ -1,0 +1,136 @@
+-- What the proofs use of `fieldRead`. Assumes nothing.
+use Prim.Native.Nat.{ℕ, zero, suc, _+_, _*_, _-_, _/_, _%_, _^_, _≤_, _<_}
+use native.Mathlib.Nat.{mul-assoc, add-zero, add-suc, add-assoc, pow-suc, one-mul, div-div-eq-div-mul, mod-one, mod-eq-of-lt}
+use native.Mathlib.Numerals.{add-one}
+use native.Mathlib.Omega.{arith}
+use mathlib.Core.Path.{_≡_, refl, sym, ap, _∙_}
+use mathlib.Core.List.{List}
+use mathlib.Core.Bool.{Bool, true, false}
+use borrow.Author.Tests.{le-leb, lt-leb, leb-true, leb-false}
+use lib.ListN.{length, getD}
+use lib.Dec.{leb}
+use lib.Pow.{pow-add, pow-lt, pow-mono, mod-pow-add}
+use Rattle.cells.specs.laws.Laws.{clash}
+use Rattle.cells.specs.declared.BitPlace.{BitPlace}
+use Rattle.fields.specs.declared.Field.{Field}
+use Rattle.fields.specs.declared.Field.the-variants.{Read, Cut}
+use Rattle.fields.specs.Field.{bitAt, fieldAt, pickField, fieldRead}
+
+module _ (s : List ℕ) (p w : ℕ) where
+  -- a field that runs past the end
+  pub cut : 8 * length s < p + w → Cut ≡ fieldRead s p w
+  unfolding fieldRead pickField
+  cut h = rw (lt-leb (p + w) (8 * length s) h) refl
+
+  -- a field that does not
+  pub whole : p + w ≤ 8 * length s → Read (fieldAt s p w) (record { 0 = p + w }) ≡ fieldRead s p w
+  unfolding fieldRead pickField
+  whole h = rw (le-leb (p + w) (8 * length s) h) refl
+
+  -- by the answer b to whether it lies within the file
+  module _ {b : Bool} (asked : b ≡ leb (p + w) (8 * length s)) where
+    pub lies : b ≡ true → p + w ≤ 8 * length s
+    lies e = leb-true (p + w) (8 * length s) (sym asked ∙ e)
+
+    pub cut-by : b ≡ false → Cut ≡ fieldRead s p w
+    unfolding fieldRead pickField
+    cut-by e = rw (sym asked ∙ e) refl
+
+    pub whole-by : b ≡ true → {v : ℕ} {q : BitPlace} → v ≡ fieldAt s p w → q .0 ≡ p + w → Read v q ≡ fieldRead s p w
+    unfolding fieldRead pickField
+    whole-by e {v} {q} f g = rw (sym asked ∙ e, f) (ap (λ (x : ℕ). Read (fieldAt s p w) (record { 0 = x })) g)
+
+  -- what holds of both holds of what is read
+  pub read-cases : (P : Field → Type 0) → P Cut → (p + w ≤ 8 * length s → P (Read (fieldAt s p w) (record { 0 = p + w }))) → P (fieldRead s p w)
+  unfolding fieldRead pickField
+  read-cases P ends fits = go (leb (p + w) (8 * length s)) refl
+    where
+      go : (b : Bool) → leb (p + w) (8 * length s) ≡ b → P (pickField b (Read (fieldAt s p w) (record { 0 = p + w })))
+      go true e = fits (leb-true (p + w) (8 * length s) e)
+      go false e = ends
+
+  -- what is known of a value that was read
+  pub value-of : (v : ℕ) (q : BitPlace) → fieldRead s p w ≡ Read v q → (v ≡ fieldAt s p w) × ((q .0 ≡ p + w) × (p + w ≤ 8 * length s))
+  value-of v q e = read-cases (λ f. f ≡ Read v q → (v ≡ fieldAt s p w) × ((q .0 ≡ p + w) × (p + w ≤ 8 * length s)))
+      (λ e. clash (cc))
+      (λ h e. let e₁ : fieldAt s p w ≡ v = cc in let e₂ : _≡_ {A = BitPlace} (record { 0 = p + w }) q = cc in
+      (sym e₁, (ap (λ (x : BitPlace). x .0) (sym e₂), h))) e
+
+-- a field of w bits is below 2 ^ w
+pub field-small : (s : List ℕ) (p w : ℕ) → fieldAt s p w < 2 ^ w
+unfolding fieldAt bitAt
+field-small s p zero = omega arith
+field-small s p (suc w) = let h : fieldAt s p w < 2 ^ w = field-small s p w in omega (arith, pow-suc 2 w)
+
+-- a field of two parts
+pub field-split : (s : List ℕ) (p w v : ℕ) → fieldAt s p (w + v) ≡ fieldAt s p w * 2 ^ v + fieldAt s (p + w) v
+unfolding fieldAt
+field-split s p w zero = simp add-zero (omega arith)
+field-split s p w (suc v) = rw (add-suc w v, field-split s p w v, pow-suc 2 v, ← mul-assoc (fieldAt s p w) (2 ^ v) 2, ← add-assoc p w v) (omega arith)
+
+-- a field that is read in two parts, x and y
+module _ (s : List ℕ) (p w v x y : ℕ) (first : x ≡ fieldAt s p w) (second : y ≡ fieldAt s (p + w) v) where
+  pub joined : x * 2 ^ v + y ≡ fieldAt s p (w + v)
+  joined = rw (first, second) (sym (field-split s p w v))
+
+  pub read-joined : p + (w + v) ≤ 8 * length s → Read (x * 2 ^ v + y) (record { 0 = p + (w + v) }) ≡ fieldRead s p (w + v)
+  read-joined h = rw joined (whole s p (w + v) h)
+
+-- A field of at most 8 bits lies in two bytes, a and b.
+high : (a b m : ℕ) → b < 256 → (a * 256 + b) / 2 ^ (8 + m) ≡ a / 2 ^ m
+high a b m h = rw (pow-add 2 8 m, ← div-div-eq-div-mul) (ap (λ (x : ℕ). x / 2 ^ m) (omega arith))
+
+low : (a b k : ℕ) → k < 8 → (a * 256 + b) / 2 ^ k % 2 ≡ b / 2 ^ k % 2
+low a b zero h = omega arith
+low a b (suc zero) h = omega arith
+low a b (suc (suc zero)) h = omega arith
+low a b (suc (suc (suc zero))) h = omega arith
+low a b (suc (suc (suc (suc zero)))) h = omega arith
+low a b (suc (suc (suc (suc (suc zero))))) h = omega arith
+low a b (suc (suc (suc (suc (suc (suc zero)))))) h = omega arith
+low a b (suc (suc (suc (suc (suc (suc (suc zero))))))) h = omega arith
+low a b (suc (suc (suc (suc (suc (suc (suc (suc k)))))))) h = absurd (omega arith)
+
+-- one bit more at the end
+one-more : (x k w f b : ℕ) → x / 2 ^ suc k % 2 ^ w ≡ f → x / 2 ^ k % 2 ≡ b → x / 2 ^ k % 2 ^ suc w ≡ 2 * f + b
+one-more x k w f b h i =
+    let d : x / 2 ^ k / 2 ^ 1 ≡ x / 2 ^ suc k = div-div-eq-div-mul x (2 ^ k) 2 ∙ ap (λ (y : ℕ). x / y) (sym (pow-suc 2 k)) in
+    ap (λ (n : ℕ). x / 2 ^ k % 2 ^ n) (sym (add-one w)) ∙ mod-pow-add (x / 2 ^ k) w 1 ∙ rw (d, h, i) (omega arith)
+
+module _ (s : List ℕ) (p : ℕ) (small : getD s (p / 8 + 1) 0 < 256) where
+  two-bit : (w : ℕ) → w < 8 → (getD s (p / 8) 0 * 256 + getD s (p / 8 + 1) 0) / 2 ^ (15 - p % 8 - w) % 2 ≡ bitAt s (p + w)
+  unfolding bitAt
+  two-bit w h = go (leb 8 (p % 8 + w)) refl
+    where
+      go : (t : Bool) → leb 8 (p % 8 + w) ≡ t
+          → (getD s (p / 8) 0 * 256 + getD s (p / 8 + 1) 0) / 2 ^ (15 - p % 8 - w) % 2 ≡ getD s ((p + w) / 8) 0 / 2 ^ (7 - (p + w) % 8) % 2
+      go true e =
+          let i : 8 ≤ p % 8 + w = leb-true 8 (p % 8 + w) e in
+          let e₁ : (p + w) / 8 ≡ p / 8 + 1 = omega arith in
+          let e₂ : 7 - (p + w) % 8 ≡ 15 - p % 8 - w = omega arith in
+          rw (e₁, e₂) (low (getD s (p / 8) 0) (getD s (p / 8 + 1) 0) (15 - p % 8 - w) (omega arith))
+      go false e =
+          let i : p % 8 + w < 8 = leb-false 8 (p % 8 + w) e in
+          let e₁ : (p + w) / 8 ≡ p / 8 = omega arith in
+          let e₂ : 7 - (p + w) % 8 ≡ 7 - p % 8 - w = omega arith in
+          let e₃ : 15 - p % 8 - w ≡ 8 + (7 - p % 8 - w) = omega arith in
+          rw (e₁, e₂, e₃) (ap (λ (x : ℕ). x % 2) (high (getD s (p / 8) 0) (getD s (p / 8 + 1) 0) (7 - p % 8 - w) small))
+
+  pub window : (w : ℕ) → w ≤ 8 → (getD s (p / 8) 0 * 256 + getD s (p / 8 + 1) 0) / 2 ^ (16 - p % 8 - w) % 2 ^ w ≡ fieldAt s p w
+  unfolding fieldAt
+  window zero h = mod-one _
+  window (suc w) h =
+      let e₁ : 16 - p % 8 - suc w ≡ 15 - p % 8 - w = omega arith in
+      let e₂ : 16 - p % 8 - w ≡ suc (15 - p % 8 - w) = omega arith in
+      rw e₁ (one-more _ (15 - p % 8 - w) w _ _ (rw (← e₂) (window w (omega arith))) (two-bit w (omega arith)))
+
+-- 1 << w is 2 ^ w, in n bits
+pub shl-one : (n w : ℕ) → w < n → 1 * 2 ^ w % 2 ^ n ≡ 2 ^ w
+shl-one n w h = rw one-mul (mod-eq-of-lt (pow-lt h))
+
+-- the two bytes, shifted and cut
+pub shifted : (s : List ℕ) (p w a b : ℕ) → a ≡ getD s (p / 8) 0 → b ≡ getD s (p / 8 + 1) 0 → b < 256 → w ≤ 8
+    → ((a * 256 + b) / 2 ^ (16 - p % 8 - w) % (1 * 2 ^ w % 2 ^ 32) ≡ fieldAt s p w) × ((a * 256 + b) / 2 ^ (16 - p % 8 - w) % (1 * 2 ^ w % 2 ^ 32) < 256)
+shifted s p w a b ea eb small h =
+    let l : 2 ^ w ≤ 2 ^ 8 = pow-mono h in
+    rw (ea, eb, shl-one 32 w (omega arith), window s p (rw eb at small) w h) (refl, omega (arith, field-small s p w))

@@ -1,0 +1,3 @@
+-- The laws of the crate linear.
+pub mod LinearSteps
+pub mod LinearTable

@@ -1,0 +1,3 @@
+-- The laws of the crate linear_code.
+pub mod BytesLaws
+pub mod ProgramLaws

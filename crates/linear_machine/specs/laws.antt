@@ -1,0 +1,2 @@
+-- The laws of the crate linear_machine.
+pub mod Again

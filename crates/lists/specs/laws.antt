@@ -1,0 +1,7 @@
+-- The laws of the crate lists.
+pub mod SetsLaws
+pub mod Each
+pub mod PassLaws
+pub mod ReadLaws
+pub mod SlotLaws
+pub mod Rows

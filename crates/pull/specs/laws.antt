@@ -1,0 +1,3 @@
+-- The laws of the crate pull.
+pub mod Laws
+pub mod Places

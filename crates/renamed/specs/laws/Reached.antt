@@ -1,0 +1,176 @@
+-- The templates that closures lead to from template 0 on: of an accepted tree file they may stay alone (request 5). Assumes nothing.
+use mathlib.Core.Path.{_≡_, refl}
+use mathlib.Core.Bool.{Bool, true, false, cond, _&&_, _||_, and-eq-true-iff}
+use mathlib.Core.List.{List, [], _∷_}
+use mathlib.Core.Option.{Option, none, some}
+use Prim.Native.Nat.{ℕ, zero, suc, _+_, _<_, _≤_}
+use native.Mathlib.Omega.{arith}
+use lib.Dec.{eqb}
+use lib.ListN.{length, getD}
+use borrow.Author.Tests.{le-leb, eq-eqb, eqb-true}
+use Rattle.files.specs.Code.{Code, done, neutral, return, call, unless-false, make-cont}
+use Rattle.files.specs.Entries.{Entry, constant, global, template}
+use Rattle.files.specs.laws.EntriesLaws.{EntriesOk}
+use Rattle.files.specs.Grammar.{entryOf, suits, indexFits, indicesFit, lowest, indexedTemplate, eachNeutral}
+use Rattle.files.specs.Tree.{Template}
+use Rattle.files.specs.Reading.{got}
+use Rattle.files.specs.laws.AllGot.{Each, each-at, each-weaker}
+use Rattle.files.specs.Linear.{linearFile}
+use Rattle.files.specs.Orphans.{isTemplate, closes}
+use Rattle.files.specs.Accepted.{treeChecked, flatChecked}
+use Rattle.files.specs.Valid.{Bytes}
+use Rattle.readback.specs.laws.TreeFacts.{TreeFacts, tree-facts}
+use Rattle.readback.specs.laws.Led.{lowest-at}
+use Rattle.files.specs.laws.AcceptedLaws.{checked, checked-read, flat-checked}
+use Rattle.machines.specs.Fetched.{noTemplate}
+use Rattle.machines.specs.Runs.{Memory, checkedRun, linearRun}
+use Rattle.renamed.specs.laws.Reindexed.{Names}
+use Rattle.renamed.specs.laws.Ends.{EndAlike-renamed}
+use Rattle.renamed.specs.laws.Trim.{Keeps, Written, or-left, or-right, tree-trim-alike, linear-trim-alike}
+
+-- ---- the definitions
+-- what is marked after templates of numbers t on: k, and what those of them that are marked name
+unfoldable pub marked : ℕ → (ℕ → Bool) → List Template → ℕ → Bool
+unfolding closes
+marked t k [] u = k u
+marked t k (x ∷ ts) u = marked (t + 1) (λ v. k v || (k t && closes (x .entries) v (x .code))) ts u
+
+unfoldable pub reached : List Template → ℕ → Bool
+unfolding marked
+reached ts u = marked 0 (λ v. eqb v 0) ts u
+
+-- ---- tests
+or-cases : {P : Type 0} (a b : Bool) → (a || b) ≡ true → (a ≡ true → P) → (b ≡ true → P) → P
+or-cases true b e f g = f refl
+or-cases false b e f g = g e
+
+never : {P : Type 0} → _≡_ {A = Bool} false true → P
+never e = let z : _≡_ {A = ℕ} 0 1 = cc in absurd (omega arith)
+
+-- ---- templates that are named are above their own
+module _ (own T : ℕ) where
+  found-up : (es : List Entry) (n u : ℕ) → EntriesOk own T es → isTemplate u (entryOf es n) ≡ true → (own < u) × (u < T)
+  unfolding entryOf isTemplate
+  found-up es zero u k e = never e
+  found-up [] (suc n) u k e = never e
+  found-up (constant t x ∷ es) (suc zero) u k e = never e
+  found-up (global g ∷ es) (suc zero) u k e = never e
+  found-up (template t ∷ es) (suc zero) u k e = let h : t ≡ u = eqb-true t u e in omega arith
+  found-up (x ∷ es) (suc (suc n)) u k e = found-up es (suc n) u (k .1) e
+
+  closes-up : (es : List Entry) (c : Code) (u : ℕ) → EntriesOk own T es → closes es u c ≡ true → (own < u) × (u < T)
+  unfolding closes
+  closes-up es done u k e = never e
+  closes-up es (neutral op ns r) u k e =
+      or-cases (eqb op 7 && isTemplate u (entryOf es (getD ns 0 0))) (closes es u r) e
+      (λ h. found-up es (getD ns 0 0) u k (and-eq-true-iff (eqb op 7) (isTemplate u (entryOf es (getD ns 0 0))) .0 h .1)) (λ h. closes-up es r u k h)
+  closes-up es (return r) u k e = closes-up es r u k e
+  closes-up es (call m r) u k e = closes-up es r u k e
+  closes-up es (unless-false x y r) u k e =
+      or-cases (closes es u x) (closes es u y || closes es u r) e (λ h. closes-up es x u k h)
+      (λ h. or-cases (closes es u y) (closes es u r) h (λ h. closes-up es y u k h) (λ h. closes-up es r u k h))
+  closes-up es (make-cont m x r) u k e = or-cases (closes es u x) (closes es u r) e (λ h. closes-up es x u k h) (λ h. closes-up es r u k h)
+
+-- ---- where the indices suit, a template that is named is named by a closure
+closure-names : (es : List Entry) (Q : ℕ → Type 0) (c : Code) → indicesFit es c ≡ true → ((u : ℕ) → closes es u c ≡ true → Q u)
+    → Names (λ n. (u : ℕ) → entryOf es n ≡ some (template u) → Q u) c
+unfolding indicesFit eachNeutral indexFits suits closes isTemplate Names
+closure-names es Q done f h = tt
+closure-names es Q (neutral op ns r) f h =
+    let k = and-eq-true-iff (indexFits es op (getD ns 0 0)) (indicesFit es r) .0 f in (
+      (λ l u e. h u (or-left (eqb op 7 && isTemplate u (entryOf es (getD ns 0 0))) (closes es u r) (names-it l u e (k .0)))),
+      closure-names es Q r (k .1) (λ u e. h u (or-right (eqb op 7 && isTemplate u (entryOf es (getD ns 0 0))) (closes es u r) e)),
+    )
+  where
+    names-it : op ≤ 9 → (u : ℕ) → entryOf es (getD ns 0 0) ≡ some (template u) → indexFits es op (getD ns 0 0) ≡ true
+        → (eqb op 7 && isTemplate u (entryOf es (getD ns 0 0))) ≡ true
+    names-it l u e g =
+        let s : eqb op 7 ≡ true = rw (le-leb op 9 l, e) at g in
+        rw (s, e, eq-eqb u u refl) refl
+closure-names es Q (return r) f h = closure-names es Q r f h
+closure-names es Q (call m r) f h = closure-names es Q r f h
+closure-names es Q (unless-false x y r) f h =
+    let k = and-eq-true-iff (indicesFit es x && indicesFit es y) (indicesFit es r) .0 f in
+    let l = and-eq-true-iff (indicesFit es x) (indicesFit es y) .0 (k .0) in (
+      closure-names es Q x (l .0) (λ u e. h u (or-left (closes es u x) (closes es u y || closes es u r) e)),
+      closure-names es Q y (l .1) (λ u e. h u (or-right (closes es u x) (closes es u y || closes es u r) (or-left (closes es u y) (closes es u r) e))),
+      closure-names es Q r (k .1) (λ u e. h u (or-right (closes es u x) (closes es u y || closes es u r) (or-right (closes es u y) (closes es u r) e))),
+    )
+closure-names es Q (make-cont m x r) f h =
+    let k = and-eq-true-iff (indicesFit es x) (indicesFit es r) .0 f in (
+      closure-names es Q x (k .0) (λ u e. h u (or-left (closes es u x) (closes es u r) e)),
+      closure-names es Q r (k .1) (λ u e. h u (or-right (closes es u x) (closes es u r) e)),
+    )
+
+-- ---- marks
+abbrev Up : ℕ → Template → Type 0
+Up t x = (u : ℕ) → closes (x .entries) u (x .code) ≡ true → t < u
+
+marked-more : (t : ℕ) (k : ℕ → Bool) (ts : List Template) (u : ℕ) → k u ≡ true → marked t k ts u ≡ true
+unfolding marked
+marked-more t k [] u e = e
+marked-more t k (x ∷ ts) u e =
+    marked-more (t + 1) (λ v. k v || (k t && closes (x .entries) v (x .code))) ts u (or-left (k u) (k t && closes (x .entries) u (x .code)) e)
+
+-- what is marked in the end, up to the next template's number, is marked
+marked-back : (t : ℕ) (k : ℕ → Bool) (ts : List Template) (u : ℕ) → Each Up t ts → u ≤ t → marked t k ts u ≡ true → k u ≡ true
+unfolding marked
+marked-back t k [] u up h e = e
+marked-back t k (x ∷ ts) u up h e =
+    or-cases (k u) (k t && closes (x .entries) u (x .code))
+    (marked-back (t + 1) (λ v. k v || (k t && closes (x .entries) v (x .code))) ts u (up .1) (omega arith) e)
+    (λ g. g)
+    (λ g. let l = up .0 u (and-eq-true-iff (k t) (closes (x .entries) u (x .code)) .0 g .1) in absurd (omega arith))
+
+marked-next : (t : ℕ) (k : ℕ → Bool) (ts : List Template) (i u : ℕ) → Each Up t ts → i < length ts → marked t k ts (t + i) ≡ true
+    → closes (getD ts i noTemplate .entries) u (getD ts i noTemplate .code) ≡ true → marked t k ts u ≡ true
+unfolding marked
+marked-next t k [] i u up h e c = absurd (omega arith)
+marked-next t k (x ∷ ts) zero u up h e c =
+    let z : t + 0 ≡ t = omega arith in
+    let own : k t ≡ true = rw z at (marked-back t k (x ∷ ts) (t + 0) up (omega arith) e) in
+    marked-more (t + 1) (λ v. k v || (k t && closes (x .entries) v (x .code))) ts u (or-right (k u) (k t && closes (x .entries) u (x .code)) (rw (own, c) refl))
+marked-next t k (x ∷ ts) (suc i) u up h e c =
+    let z : t + suc i ≡ t + 1 + i = omega arith in
+    marked-next (t + 1) (λ v. k v || (k t && closes (x .entries) v (x .code))) ts i u (up .1) (omega arith) (rw z at e) c
+
+-- ---- an accepted file
+-- THE LAW
+module _ (s : List ℕ) (ts : List Template) (q : ℕ) (e : treeChecked s ≡ got ts q) where
+  facts : TreeFacts ts
+  facts = tree-facts s ts q (checked-read s ts q e)
+
+  up-all : Each Up 0 ts
+  up-all = each-weaker (λ n x h u c. closes-up n (length ts) (x .entries) (x .code) u (h .writable .entries-ok) c .0) 0 ts (facts .each)
+
+  pub reached-keeps : Keeps (reached ts) ts
+  unfolding reached
+  reached-keeps = record {
+    template-0 = marked-more 0 (λ v. eqb v 0) ts 0 refl;
+    not-empty = facts .at-least-one;
+    few = facts .at-most-64;
+    named = λ t h k.
+        let x : Template = getD ts t noTemplate in
+        let z : 0 + t ≡ t = omega arith in
+        let f = each-at _ 0 ts (facts .each) t h noTemplate in
+        closure-names (x .entries) (λ u. (marked 0 (λ v. eqb v 0) ts u ≡ true) × (u < length ts)) (x .code)
+        (lowest-at indexedTemplate 0 ts noTemplate (checked s ts q e .indexed) t h)
+        (λ u c. (
+          marked-next 0 (λ v. eqb v 0) ts t u up-all h (rw z k) c,
+          closes-up (0 + t) (length ts) (x .entries) (x .code) u
+              (f .writable .entries-ok) c .1,
+        ));
+  }
+
+  -- the file with only these templates, and only the entries that are named, ends alike on the tree machine
+  pub tree-reached-alike : (s′ : List ℕ) (ts′ : List Template) {q′ : ℕ} → Written (reached ts) ts ts′ → treeChecked s′ ≡ got ts′ q′
+      → (b o : ℕ) (m : Memory) → EndAlike-renamed (checkedRun s b o m) (checkedRun s′ b o m)
+  tree-reached-alike s′ ts′ o e′ = tree-trim-alike (reached ts) ts reached-keeps ts′ o s s′ e e′
+
+-- and, where both flatten, on the linear machine
+pub linear-reached-alike : (s s′ : List ℕ) (ts ts′ : List Template) (q q′ : ℕ) → flatChecked s ≡ got ts q → flatChecked s′ ≡ got ts′ q′
+    → Written (reached ts) ts ts′
+    → Bytes (linearFile ts) → Bytes (linearFile ts′) → (b o : ℕ) (m : Memory)
+    → EndAlike-renamed (linearRun (linearFile ts) b o m) (linearRun (linearFile ts′) b o m)
+linear-reached-alike s s′ ts ts′ q q′ e e′ o h h′ =
+    linear-trim-alike (reached ts) ts (reached-keeps s ts q (flat-checked s ts q e)) ts′ o s s′ e e′ h h′

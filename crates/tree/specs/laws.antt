@@ -1,0 +1,7 @@
+-- The laws of the crate tree.
+pub mod Parts
+pub mod SummaryLaws
+pub mod FilledLaws
+pub mod TemplateSteps
+pub mod TreeSteps
+pub mod Judged

@@ -1,0 +1,2 @@
+-- The laws of the crate tree_code.
+pub mod FetchSteps
