@@ -8,7 +8,7 @@ use Rattle.files.specs.Linear.{Linear}
 use Rattle.rules.specs.State.{Held, Res, ok, wrong}
 use Rattle.owners.specs.declared.Owner.{Owner}
 use Rattle.rules.specs.Owned.{ownedRule}
-use Rattle.rules.specs.Rules.{Data, callRule, makeContRule, Back, noFrame, backTo, returnRule, isFalse}
+use Rattle.rules.specs.Rules.{Data, applied, called, callRule, makeContRule, Back, noFrame, backTo, returnRule, isFalse}
 use Rattle.rules.specs.declared.Regs.{Regs}
 use Rattle.machines.specs.Fetched.{Fetched, plain, returns, calls, branches, saves, jumps, bad, noTemplate, treeAt, linearAt}
 use lib.ListN.{getD}
@@ -43,12 +43,6 @@ bind (ok a) f = f a
 bind (wrong n) f = stop n
 
 -- ---- each kind of instruction
-unfoldable pub applied : Data → Held → Data
-applied d h = record { regs = h .regs; mem = h .mem; frames = d .frames; fr = d .fr }
-
-unfoldable pub called : Data → Regs → Data
-called d r = record { regs = r; mem = d .mem; frames = d .frames; fr = d .fr }
-
 unfoldable pub returned : Back → Step
 returned noFrame = halt
 returned (backTo t p d) = go (at d t p)
@@ -56,7 +50,7 @@ returned (backTo t p d) = go (at d t p)
 -- o: whose run it is (request 12)
 module _ (o : Owner) (P : Program) where
   unfoldable pub act : Fetched → State → Step
-  unfolding bind applied called returned
+  unfolding bind returned
   act (plain i p) s = bind (ownedRule o i (s .now .mem) (s .now .regs)) (λ h. go (at (applied (s .now) h) (s .template) p))
   act returns s = returned (returnRule (s .now))
   act (calls n) s = bind (callRule n (s .now .regs)) (λ r. go (at (called (s .now) (r .1)) (r .0) (P .start (r .0))))

@@ -186,6 +186,13 @@ pub record Data : Type 0 where
   pub frames : List ℕ
   pub fr : ℕ
 
+-- the state after a plain rule, and after a call
+abbrev pub applied : Data → Held → Data
+applied d h = record { regs = h .regs; mem = h .mem; frames = d .frames; fr = d .fr }
+
+abbrev pub called : Data → Regs → Data
+called d r = record { regs = r; mem = d .mem; frames = d .frames; fr = d .fr }
+
 -- the stack's first n values and then a frame's cell x in the frames
 abbrev pub withCell : ℕ → ℕ → Data → Data
 withCell n x d = record {

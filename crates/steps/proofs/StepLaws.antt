@@ -29,7 +29,7 @@ use Rattle.frames.specs.declared.Kept.the-variants as saved
 use Rattle.frames.specs.declared.Returned.{Returned}
 use Rattle.frames.specs.declared.Returned.the-variants as back
 use Rattle.machines.specs.Fetched.{plain, returns, calls, branches, saves, jumps, bad, plainly}
-use Rattle.machines.specs.Machine.{Program, Step, go, stop, bind, applied, called, returned, act, step}
+use Rattle.machines.specs.Machine.{Program, Step, go, stop, bind, returned, act, step}
 use Rattle.machines.specs.Runs.{Memory, memory}
 use Rattle.machines.specs.Slots.{slotAt, resolvedAs}
 use Rattle.machines.specs.Instruction.{number, Form, treeForm, linearForm, formOf, fetchedAs, Of, Places}
@@ -65,7 +65,8 @@ pub framed : (n t e k cell : ℕ) (q : CodePlace) → number q ≡ k → cell �
 framed n t e k cell q i h = rw i h
 
 -- ---- on, and the two ends
-goes : (form : Form) (q : Regs) (k : Control) (m m′ : Memory) (y : Step) → y ≡ go (stateOf q k m′) → Fit q → k .fr ≤ 2048 → Of form (k .place) → Taken form (Next q k) m m′ y
+goes : (form : Form) (q : Regs) (k : Control) (m m′ : Memory) (y : Step) → y ≡ go (stateOf q k m′) → Fit q → k .fr ≤ 2048 → Of form (k .place)
+    → Taken form (Next q k) m m′ y
 unfolding meant Unchanged GoesOn
 goes form q k m m′ y e f l o = record { meant-is = sym e; unchanged = tt; goes-on = (f, l, o) }
 
@@ -77,13 +78,15 @@ stops form n m m′ y e h = record { meant-is = sym e; unchanged = h; goes-on = 
 module _ (own : Owner) (P : Program) (g s t g′ s′ t′ f : List ℕ) (i : Plain) (p : CodePlace) (r : Regs) (c : Control) (y : Stepped)
     (e : out y (mem g′ s′ t′) ≡ told (mem g s t) (ownedRule own i (mem g s t) r)) where
   pub plain-goes : (q : Regs) → y ≡ ruled.Next q → EndFit y → c .fr ≤ 2048
-      → Taken (formOf p) (Next q (control (c .template) p (c .fr))) (memory g s t f) (memory g′ s′ t′ f) (act own P (plain i (number p)) (stateOf r c (memory g s t f)))
-  unfolding act bind applied
+      → Taken (formOf p) (Next q (control (c .template) p (c .fr))) (memory g s t f) (memory g′ s′ t′ f)
+      (act own P (plain i (number p)) (stateOf r c (memory g s t f)))
+  unfolding act bind
   plain-goes q h fit l =
       let a = told-next (mem g s t) (mem g′ s′ t′) q (ownedRule own i (mem g s t) r) (rw h at e) in
       rw a (goes _ q (control (c .template) p (c .fr)) _ _ _ refl (rw h at fit) l refl)
 
-  pub plain-stops : (n : ℕ) → y ≡ ruled.Wrong n → Taken (formOf p) (Wrong n) (memory g s t f) (memory g′ s′ t′ f) (act own P (plain i (number p)) (stateOf r c (memory g s t f)))
+  pub plain-stops : (n : ℕ) → y ≡ ruled.Wrong n
+      → Taken (formOf p) (Wrong n) (memory g s t f) (memory g′ s′ t′ f) (act own P (plain i (number p)) (stateOf r c (memory g s t f)))
   unfolding act bind
   plain-stops n h =
       let a = told-wrong (mem g s t) (mem g′ s′ t′) n (ownedRule own i (mem g s t) r) (rw h at e) in
@@ -91,9 +94,10 @@ module _ (own : Owner) (P : Program) (g s t g′ s′ t′ f : List ℕ) (i : Pl
 
 -- ---- call
 module _ (own : Owner) (P : Program) (m : Memory) (n : ℕ) (r : Regs) (c : Control) (y : Called) (e : y ≡ calledTo (callRule n r)) where
-  pub call-goes : (t : ℕ) (q : Regs) (p : CodePlace) → y ≡ callee.To t q → (Fit r → CallFit y) → Fit r → number p ≡ P .start t → c .fr ≤ 2048 → Of (formOf (c .place)) p
+  pub call-goes : (t : ℕ) (q : Regs) (p : CodePlace) → y ≡ callee.To t q → (Fit r → CallFit y) → Fit r → number p ≡ P .start t → c .fr ≤ 2048
+      → Of (formOf (c .place)) p
       → Taken (formOf (c .place)) (Next q (control t p (c .fr))) m m (act own P (calls n) (stateOf r c m))
-  unfolding act bind called
+  unfolding act bind
   call-goes t q p h fit f j l o =
       let a = called-to t q (callRule n r) (sym h ∙ e) in
       rw (a, ← j) (goes _ q (control t p (c .fr)) m m _ refl (rw h at (fit f)) l o)
@@ -108,11 +112,13 @@ module _ (own : Owner) (P : Program) (m : Memory) (r : Regs) (c : Control) (fit 
   unfolding act
   jump-goes e = rw e (goes _ r (control (c .template) p (c .fr)) m m _ refl fit l refl)
 
-  pub branch-first : (q : ℕ) → (r .v ≡ falseCell → ⊥) → x ≡ Next r (control (c .template) p (c .fr)) → Taken (formOf p) x m m (act own P (branches 0 (number p) q) (stateOf r c m))
+  pub branch-first : (q : ℕ) → (r .v ≡ falseCell → ⊥) → x ≡ Next r (control (c .template) p (c .fr))
+      → Taken (formOf p) x m m (act own P (branches 0 (number p) q) (stateOf r c m))
   unfolding act
   branch-first q h e = rw (e, ne-eqb (r .v) falseCell h) (goes _ r (control (c .template) p (c .fr)) m m _ refl fit l refl)
 
-  pub branch-second : (form : Form) (q : ℕ) → r .v ≡ falseCell → Of form p → x ≡ Next r (control (c .template) p (c .fr)) → Taken form x m m (act own P (branches 0 q (number p)) (stateOf r c m))
+  pub branch-second : (form : Form) (q : ℕ) → r .v ≡ falseCell → Of form p → x ≡ Next r (control (c .template) p (c .fr))
+      → Taken form x m m (act own P (branches 0 q (number p)) (stateOf r c m))
   unfolding act
   branch-second form q h o e = rw (e, eq-eqb (r .v) falseCell h) (goes _ r (control (c .template) p (c .fr)) m m _ refl fit l o)
 
@@ -130,14 +136,16 @@ module _ (own : Owner) (P : Program) (g s t f s′ f′ : List ℕ) (n : ℕ) (p
   rule-is = keep-is n (c .template) (number p) cell before-save (place-fits n (c .template) (r .env) (number p) cell packed low)
 
   pub save-goes : (q : Regs) (k : ℕ) → y ≡ saved.On q k → KeptFit y
-      → Taken (formOf u) (Next q (control (c .template) u k)) (memory g s t f) (memory g s′ t f′) (act own P (saves n (number p) (number u)) (stateOf r c (memory g s t f)))
+      → Taken (formOf u) (Next q (control (c .template) u k)) (memory g s t f) (memory g s′ t f′)
+      (act own P (saves n (number p) (number u)) (stateOf r c (memory g s t f)))
   unfolding act bind
   save-goes q k h fit =
       let a = kept-on before-save (mem g s′ t) f′ q k _ (rw h at e) in
       let b = rw h at fit in
       rw (← rule-is, a) (goes _ q (control (c .template) u k) _ _ _ refl (b .0) (b .1) refl)
 
-  pub save-stops : (w : ℕ) → y ≡ saved.Wrong w → Taken (formOf u) (Wrong w) (memory g s t f) (memory g s′ t f′) (act own P (saves n (number p) (number u)) (stateOf r c (memory g s t f)))
+  pub save-stops : (w : ℕ) → y ≡ saved.Wrong w
+      → Taken (formOf u) (Wrong w) (memory g s t f) (memory g s′ t f′) (act own P (saves n (number p) (number u)) (stateOf r c (memory g s t f)))
   unfolding act bind
   save-stops w h =
       let a = kept-wrong before-save (mem g s′ t) f′ w _ (rw h at e) in
@@ -150,7 +158,8 @@ module _ (own : Owner) (P : Program) (g s t f s′ f′ : List ℕ) (r : Regs) (
   abbrev before-return : Data
   before-return = state r (mem g s t) f (c .fr)
 
-  pub return-goes : (q : Regs) (k cell n : ℕ) (p : CodePlace) → y ≡ back.To q k cell → BackFit y → n ≡ frameTemplate cell → number p ≡ framePlace cell → Of (formOf (c .place)) p
+  pub return-goes : (q : Regs) (k cell n : ℕ) (p : CodePlace) → y ≡ back.To q k cell → BackFit y → n ≡ frameTemplate cell → number p ≡ framePlace cell
+      → Of (formOf (c .place)) p
       → Taken (formOf (c .place)) (Next q (control n p k)) (memory g s t f) (memory g s′ t f′) (act own P returns (stateOf r c (memory g s t f)))
   unfolding act returned
   return-goes q k cell n p h fit i j o =

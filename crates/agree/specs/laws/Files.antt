@@ -16,7 +16,7 @@ use Rattle.files.specs.laws.AllGot.{Each}
 use Rattle.files.specs.Accepted.{treeChecked}
 use Rattle.readback.specs.laws.Templates.{linears}
 use Rattle.readback.specs.laws.TreeFacts.{TemplateFacts, tree-facts}
-use Rattle.readback.specs.laws.Led.{lowest-led}
+use Rattle.files.specs.laws.AcceptedLaws.{lowest-none}
 use Rattle.files.specs.laws.AcceptedLaws.{checked}
 use Rattle.machines.specs.Fetched.{noTemplate, noLinear}
 use Rattle.agree.specs.laws.Suits.{Only, Shut, Ok, closed-ok}
@@ -36,14 +36,14 @@ twins-from n k m count (x ∷ ts) f c i zero =
     record {
       same-entries = refl;
       same-code = refl;
-      closed = closed-ok (x .code) (h .valid-code) (subst T (sym (lowest-led closedTemplate m x ts c .0)) tt);
-      indexed = lowest-led indexedTemplate m x ts i .0;
+      closed = closed-ok (x .code) (h .valid-code) (subst T (sym (lowest-none closedTemplate m x ts c .0)) tt);
+      indexed = lowest-none indexedTemplate m x ts i .0;
       tree-fits = omega (arith, h .within);
       linear-fits = h .writable .short;
     }
 twins-from n k m count (x ∷ ts) f c i (suc t) =
-    twins-from (n + 1) (k + length (templateBytes x)) (m + 1) count ts (f .1) (lowest-led closedTemplate m x ts c .1)
-    (lowest-led indexedTemplate m x ts i .1) t
+    twins-from (n + 1) (k + length (templateBytes x)) (m + 1) count ts (f .1) (lowest-none closedTemplate m x ts c .1)
+    (lowest-none indexedTemplate m x ts i .1) t
 
 -- a tree file that passes 1 to 7, whatever its offsets, and the templates that flattening gives
 pub file-twins : (s : List ℕ) (ts : List Template) (q : ℕ) → treeChecked s ≡ got ts q → (t : ℕ) → Twins (getD ts t noTemplate) (getD (linears 1 ts) t noLinear)

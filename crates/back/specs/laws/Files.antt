@@ -16,7 +16,7 @@ use Rattle.files.specs.Valid.{Bytes}
 use Rattle.files.specs.laws.AllGot.{got-value, Each}
 use Rattle.files.specs.Accepted.{flatChecked}
 use Rattle.files.specs.laws.BytesLaws.{bytes-at}
-use Rattle.readback.specs.laws.Led.{lowest-led}
+use Rattle.files.specs.laws.AcceptedLaws.{lowest-none}
 use Rattle.readback.specs.laws.Templates.{linear, linears}
 use Rattle.readback.specs.laws.TreeFacts.{TemplateFacts, tree-facts}
 use Rattle.files.specs.laws.AcceptedLaws.{checked, checked-read, flat-checked, flat-offsets}
@@ -39,9 +39,9 @@ accepted-from : (T n m : ℕ) (ts : List Template) → Each (TemplateFacts T) n 
 unfolding isOf
 accepted-from T n m [] f d a b c = tt
 accepted-from T n m (t ∷ ts) f d a b c =
-    let a′ = lowest-led closedTemplate m t ts a in
-    let b′ = lowest-led indexedTemplate m t ts b in
-    let c′ = lowest-led offsetTemplate m t ts c in (
+    let a′ = lowest-none closedTemplate m t ts a in
+    let b′ = lowest-none indexedTemplate m t ts b in
+    let c′ = lowest-none offsetTemplate m t ts c in (
       record { fit = record { category = a′ .0; valid = f .0 .valid-code; deep = omega (arith, d .0); offsets = c′ .0 }; indices = b′ .0 },
       accepted-from T (n + 1) (m + 1) ts (f .1) (d .1) (a′ .1) (b′ .1) (c′ .1),
     )

@@ -20,7 +20,7 @@ use Rattle.files.specs.Tree.{Template, templatesAt, treeRead}
 use Rattle.files.specs.Table.{treeTable}
 use Rattle.files.specs.laws.TableLaws.{Few, treeEntries, row-start, tree-slot}
 use Rattle.files.specs.laws.AllGot.{got-value, field-got, tree-read}
-use Rattle.readback.specs.laws.Led.{lowest-led}
+use Rattle.files.specs.laws.AcceptedLaws.{lowest-none}
 use Rattle.tree.specs.declared.Summary.{Summary}
 use Rattle.tree.specs.declared.Judged.the-variants.{Accepted}
 use Rattle.tree.specs.Summary.{numberOr64, summaryOf, judgedTold}
@@ -109,7 +109,7 @@ all-flattenable all few front (t ∷ ts) own e l h =
     let z : 256 * own + 0 ≡ 256 * own = add-zero (256 * own) in
     let slot : getD (treeTable all) (256 * own) 0 ≡ t .start = (rw z at (tree-slot all few own 0 t (omega arith) (omega arith)))
     ∙ row-start (getD all own t .start) (getD all own t .entries) ∙ ap (λ (x : Template). x .start) at in
-    let k = lowest-led offsetTemplate own t ts h in
+    let k = lowest-none offsetTemplate own t ts h in
     let a : all ≡ (front ++ (t ∷ [])) ++ ts = e ∙ sym (append-assoc front (t ∷ []) ts) in
     let b : length (front ++ (t ∷ [])) ≡ own + 1 = length-append front (t ∷ []) ∙ omega arith in
     (slot, k .0, all-flattenable all few (front ++ (t ∷ [])) ts (own + 1) a b (k .1))

@@ -6,7 +6,7 @@ use Rattle.cells.specs.Cells.{tagOf}
 use Rattle.owners.specs.declared.Owner.{Owner}
 use Rattle.rules.specs.State.{Held, Res, ok}
 use Rattle.rules.specs.Owned.{ownedRule, owned-ok}
-use Rattle.rules.specs.Rules.{Data, walk, callRule, makeContRule, Back, backTo, returnRule, isFalse}
+use Rattle.rules.specs.Rules.{Data, applied, called, walk, callRule, makeContRule, Back, backTo, returnRule, isFalse}
 use Rattle.rules.specs.laws.Related.{ResR, okR, wrongR, BackR, noneB, someB}
 use Rattle.rules.specs.laws.Effects.{ConstantCell}
 use Rattle.rules.specs.laws.Clean.{Sized, Bound, plain-sized, plain-bound, call-sized, call-bound, make-cont-sized, make-cont-bound, return-sized, return-bound}
@@ -15,7 +15,6 @@ use Rattle.rules.specs.laws.SoundRules.{PlainOk, plain-sound, call-sound, make-
 use Rattle.rules.specs.declared.Regs.{Regs}
 use Rattle.rules.specs.declared.Plain.{Plain}
 use Rattle.rules.specs.declared.Plain.the-variants.{Literal}
-use Rattle.machines.specs.Machine.{applied, called}
 use Rattle.lockstep.specs.laws.Lockstep.{Kin}
 use Rattle.lockstep.specs.laws.Likeness.{Likeness}
 use Rattle.lockstep.specs.laws.Plain.{PlainLike, Allowed, walk-same, owned-alike, call-alike, false-alike}
@@ -38,7 +37,6 @@ pub record Safe (d : Data) : Type 0 where
   pub sound : Sound d
 
 owned-safe : (o : Owner) (i : Plain) (d : Data) (h : Held) → PlainOk i → ownedRule o i (d .mem) (d .regs) ≡ ok h → Safe d → Safe (applied d h)
-unfolding applied
 owned-safe o i d h p y k =
     let e = owned-ok o i (d .mem) (d .regs) h y .1 in
     record {
@@ -48,7 +46,6 @@ owned-safe o i d h p y k =
     }
 
 call-safe : (n : ℕ) (d : Data) (t : ℕ) (r : Regs) → callRule n (d .regs) ≡ ok (t, r) → Safe d → Safe (called d r)
-unfolding called
 call-safe n d t r e k = record { sized = call-sized n d t r e (k .sized); bound = call-bound n d t r e (k .bound); sound = call-sound n d t r e (k .sound) }
 
 module _ (L : Likeness) (R : ℕ → ℕ → ℕ → ℕ → ℕ → Type 0) where
@@ -59,12 +56,10 @@ module _ (L : Likeness) (R : ℕ → ℕ → ℕ → ℕ → ℕ → Type 0) whe
   pub apply-like : {i i′ : Plain} {d d′ : Data} {J : ℕ} (o : Owner) → Allowed L o → Like L R d d′ J → Walks d d′ → ((c : ℕ) → i ≡ Literal c → L .CR c c)
       → PlainLike L i i′
       → ResR (λ h h′. Like L R (applied d h) (applied d′ h′) J) (ownedRule o i (d .mem) (d .regs)) (ownedRule o i′ (d′ .mem) (d′ .regs))
-  unfolding applied
   apply-like o a (likeD r m f) w c y = more (owned-alike L o a m r w c y) (λ h h′ e q. likeD (q .regs-like) (q .mem-like) f)
 
   pub call-like : (n : ℕ) {d d′ : Data} {J : ℕ} → Like L R d d′ J
       → ResR (λ r r′. L .TR (r .0) (r′ .0) × Like L R (called d (r .1)) (called d′ (r′ .1)) J) (callRule n (d .regs)) (callRule n (d′ .regs))
-  unfolding called
   call-like n (likeD r m f) = more (call-alike L n r) (λ a b e q. (q .0, likeD (q .1) m f))
 
   pub false-like : {d d′ : Data} {J : ℕ} → Like L R d d′ J → isFalse (d .regs) ≡ isFalse (d′ .regs)

@@ -7,12 +7,12 @@ use mathlib.Core.Bool.{Bool, true, false, cond}
 use Rattle.rules.specs.State.{Res}
 use Rattle.owners.specs.declared.Owner.{Owner}
 use Rattle.rules.specs.Owned.{ownedRule, owned-never}
-use Rattle.rules.specs.Rules.{Data, callRule, makeContRule, Back, returnRule, isFalse}
+use Rattle.rules.specs.Rules.{Data, applied, called, callRule, makeContRule, Back, returnRule, isFalse}
 use Rattle.rules.specs.laws.Related.{ResR, okR, wrongR, BackR, noneB, someB}
 use Rattle.rules.specs.laws.Never16.{Never16, other, call-never, make-cont-never}
 use Rattle.rules.specs.declared.Plain.{Plain}
 use Rattle.machines.specs.Fetched.{Fetched, plain, returns, calls, branches, saves, jumps, bad}
-use Rattle.machines.specs.Machine.{Program, State, at, Step, go, halt, stop, bind, applied, called, returned, act, here, step}
+use Rattle.machines.specs.Machine.{Program, State, at, Step, go, halt, stop, bind, returned, act, here, step}
 use Rattle.machines.specs.Machine.{Counts, jumpCount, firstCount, counted, Ending, halted, wrongly, spent, Ended, ended, next, run}
 
 -- R t p t′ q j: place p of template t of the first program corresponds to place q of template t′ of the second, where j jumps are pending

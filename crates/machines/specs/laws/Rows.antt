@@ -24,7 +24,7 @@ use Rattle.rules.specs.Owned.{mayDo, ownedRule}
 use Rattle.integers.specs.Integers.{signed, within, intBits, totalOf, allIntegers}
 use Rattle.rules.specs.Rules.{literalRule, pushRule, addRule, plainRule, makeContRule, returnRule}
 use Rattle.machines.specs.Fetched.{namedBy, asLiteral, ruleOf, resolve, plainly, openCount, first, beyond, look, transfer, decode, treeAt, linearAt}
-use Rattle.machines.specs.Machine.{bind, applied, called, returned, act, step, jumpCount, firstCount, counted, next, run}
+use Rattle.machines.specs.Machine.{bind, returned, act, step, jumpCount, firstCount, counted, next, run}
 use Rattle.machines.specs.Runs.{freshMemory, Ran, ran, refusedRun, rightLengths, lowestUnfit, fitGlobals, byOwner, started, startState, endOf, memoryOf}
 use Rattle.machines.specs.Runs.{reported, programRun, onTree, onLinear, treeRun, linearRun}
 use Rattle.machines.specs.declared.End.{End}
@@ -73,6 +73,6 @@ unfolding startingGlobal valueOf bitAt fieldAt fieldRead pickField shapeOf isNeu
     byteOf bytesFrom bytesOf templateBytes templatesBytes linearFile codeAt linearTemplateAt linearTemplatesAt linearRead orLowest treeChecked treeAccepted
     flatAccepted closes isTemplate closureNames lowestNumber lowestOrphan constantCell signed totalOf within intBits allIntegers literalRule pushRule addRule
     plainRule isOwner ownerOf mayDo ownedRule makeContRule returnRule namedBy asLiteral ruleOf resolve plainly openCount first beyond look transfer decode
-    treeAt linearAt bind applied called returned act step jumpCount firstCount counted next run refusedRun rightLengths lowestUnfit fitGlobals byOwner started
+    treeAt linearAt bind returned act step jumpCount firstCount counted next run refusedRun rightLengths lowestUnfit fitGlobals byOwner started
     startState endOf memoryOf reported programRun onTree onLinear treeRun linearRun
 rows = (refl, refl)

@@ -21,7 +21,7 @@ use Rattle.files.specs.Valid.{Bytes, Valid}
 use Rattle.files.specs.laws.BytesLaws.{bytes-append}
 use Rattle.files.specs.Accepted.{flatChecked}
 use Rattle.readback.specs.laws.Bits.{AreBits}
-use Rattle.readback.specs.laws.Led.{lowest-led}
+use Rattle.files.specs.laws.AcceptedLaws.{lowest-none}
 use Rattle.readback.specs.laws.Entries.{entries-are}
 use Rattle.readback.specs.laws.TreeFacts.{TemplateFacts, tree-facts}
 use Rattle.files.specs.laws.AcceptedLaws.{checked-read, flat-checked, flat-offsets}
@@ -97,7 +97,7 @@ templates-bytes : (T n m : ℕ) (ts : List Template) → Each (TemplateFacts T) 
 unfolding templatesBytes Bytes
 templates-bytes T n m [] f o = tt
 templates-bytes T n m (t ∷ ts) f o =
-    let h = lowest-led offsetTemplate m t ts o in
+    let h = lowest-none offsetTemplate m t ts o in
     bytes-append (templateBytes t) (templatesBytes ts) (template-bytes T n t (f .0) (h .0)) (templates-bytes T (n + 1) (m + 1) ts (f .1) (h .1))
 
 pub file-bytes : (s : List ℕ) (ts : List Template) (q : ℕ) → flatChecked s ≡ got ts q → Bytes (linearFile ts)

@@ -12,8 +12,7 @@ use Rattle.fields.specs.Field.{bitAt}
 use Rattle.files.specs.Reading.{Got, got, refused}
 use Rattle.files.specs.Entries.{valid, toByte, zeroBits, nothingMore}
 use Rattle.files.specs.laws.AllGot.{refused-got, got-value, then-led}
-use Rattle.files.specs.Tree.{Template, paddedEnd}
-use Rattle.files.specs.Grammar.{lowest}
+use Rattle.files.specs.Tree.{paddedEnd}
 
 -- ---- a test that a refusal hangs on was passed
 pub cond-led : {A : Type 0} (b : Bool) (g : Got A) (n p : ℕ) {a : A} {q : ℕ} → cond b g (refused n p) ≡ got a q → (b ≡ true) × (g ≡ got a q)
@@ -23,21 +22,6 @@ cond-led false g n p e = refused-got e
 pub valid-led : {A : Type 0} (p : ℕ) (b : Bool) (g : Got A) {a : A} {q : ℕ} → valid p b g ≡ got a q → (b ≡ true) × (g ≡ got a q)
 valid-led p true g e = (refl, e)
 valid-led p false g e = refused-got e
-
--- what a check over all templates lets pass, passes at each
-pub lowest-led : (ok : Template → Bool) (n : ℕ) (t : Template) (ts : List Template) → lowest ok n (t ∷ ts) ≡ none
-    → (ok t ≡ true) × (lowest ok (n + 1) ts ≡ none)
-unfolding lowest
-lowest-led ok n t ts e = go (ok t) e
-  where
-    go : (b : Bool) → cond b (lowest ok (n + 1) ts) (some n) ≡ none → (b ≡ true) × (lowest ok (n + 1) ts ≡ none)
-    go true e = (refl, e)
-    go false e = let z : _≡_ {A = ℕ} 0 1 = cc in absurd (omega arith)
-
-pub lowest-at : (ok : Template → Bool) (n : ℕ) (ts : List Template) (d : Template) → lowest ok n ts ≡ none → (i : ℕ) → i < length ts → ok (getD ts i d) ≡ true
-lowest-at ok n [] d e i h = absurd (omega arith)
-lowest-at ok n (t ∷ ts) d e zero h = lowest-led ok n t ts e .0
-lowest-at ok n (t ∷ ts) d e (suc i) h = lowest-at ok (n + 1) ts d (lowest-led ok n t ts e .1) i (omega arith)
 
 module _ (s : List ℕ) where
   -- ---- n zero bits from p to q

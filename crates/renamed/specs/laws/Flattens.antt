@@ -14,7 +14,7 @@ use Rattle.files.specs.Reading.{got}
 use Rattle.files.specs.Tree.{Template}
 use Rattle.files.specs.Accepted.{orLowest, treeChecked, flatChecked}
 use Rattle.rules.specs.laws.Lists.{by-lt}
-use Rattle.readback.specs.laws.Led.{lowest-at}
+use Rattle.files.specs.laws.AcceptedLaws.{none-refused}
 use Rattle.files.specs.laws.AcceptedLaws.{flat-offsets}
 use Rattle.readback.specs.laws.Bytes.{file-bytes}
 use Rattle.machines.specs.Fetched.{noTemplate}
@@ -68,7 +68,7 @@ module _ (keep : ℕ → Bool) (ts : List Template) where
 offsets-all : (s : List ℕ) (ts : List Template) (q : ℕ) → flatChecked s ≡ got ts q → (i : ℕ) → offsetsFit (getD ts i noTemplate .code) ≡ true
 unfolding offsetsFit
 offsets-all s ts q e i =
-    by-lt i (length ts) (λ h. lowest-at offsetTemplate 0 ts noTemplate (flat-offsets s ts q e) i h) (λ h. rw (List·getD-eq-default ts noTemplate h) refl)
+    by-lt i (length ts) (λ h. none-refused offsetTemplate 0 ts i noTemplate (flat-offsets s ts q e) h) (λ h. rw (List·getD-eq-default ts noTemplate h) refl)
 
 -- ---- THE LAW
 pub trimmed-flattens : (keep : ℕ → Bool) (s s′ : List ℕ) (ts ts′ : List Template) (q q′ : ℕ) → flatChecked s ≡ got ts q → Written keep ts ts′

@@ -20,7 +20,7 @@ use Rattle.files.specs.Orphans.{isTemplate, closes}
 use Rattle.files.specs.Accepted.{treeChecked, flatChecked}
 use Rattle.files.specs.Valid.{Bytes}
 use Rattle.readback.specs.laws.TreeFacts.{TreeFacts, tree-facts}
-use Rattle.readback.specs.laws.Led.{lowest-at}
+use Rattle.files.specs.laws.AcceptedLaws.{none-refused}
 use Rattle.files.specs.laws.AcceptedLaws.{checked, checked-read, flat-checked}
 use Rattle.machines.specs.Fetched.{noTemplate}
 use Rattle.machines.specs.Runs.{Memory, checkedRun, linearRun}
@@ -154,7 +154,7 @@ module _ (s : List ℕ) (ts : List Template) (q : ℕ) (e : treeChecked s ≡ go
         let z : 0 + t ≡ t = omega arith in
         let f = each-at _ 0 ts (facts .each) t h noTemplate in
         closure-names (x .entries) (λ u. (marked 0 (λ v. eqb v 0) ts u ≡ true) × (u < length ts)) (x .code)
-        (lowest-at indexedTemplate 0 ts noTemplate (checked s ts q e .indexed) t h)
+        (none-refused indexedTemplate 0 ts t noTemplate (checked s ts q e .indexed) h)
         (λ u c. (
           marked-next 0 (λ v. eqb v 0) ts t u up-all h (rw z k) c,
           closes-up (0 + t) (length ts) (x .entries) (x .code) u

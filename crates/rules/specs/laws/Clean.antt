@@ -15,7 +15,8 @@ use Rattle.cells.specs.Cells.{tagOf, closureTemplate, closureEnv, layerCell, fr
 use Rattle.rules.specs.State.{Mem, mem, regs, Held, ok}
 use Rattle.rules.specs.Fit.{Fit}
 use Rattle.rules.specs.laws.Lists.{by-lt, sets-above, zeros-at}
-use Rattle.rules.specs.Rules.{Data, Back, noFrame, backTo, walk, lastFrame, frameBase, withFrame, withoutFrame, plainRule, callRule, makeContRule}
+use Rattle.rules.specs.Rules.{Data, applied, called, Back, noFrame, backTo, walk, lastFrame, frameBase, withFrame, withoutFrame, plainRule, callRule}
+use Rattle.rules.specs.Rules.{makeContRule}
 use Rattle.rules.specs.Rules.{returnRule}
 use Rattle.rules.specs.laws.Effects.{leaves-ok, checked, Effects, effect}
 use Rattle.rules.specs.declared.Regs.{Regs}
@@ -47,13 +48,6 @@ pub record Clean (d : Data) : Type 0 where
 -- a place that set-local! finds is in use
 abbrev pub Inside : Plain → Data → Type 0
 Inside i d = (a b l : ℕ) → i ≡ SetLocal a b → walk (d .mem .store) (d .regs .env) a b ≡ some l → l < d .regs .st
-
--- ---- the state after a plain rule, and after a call
-abbrev pub after : Data → Held → Data
-after d h = record { regs = h .regs; mem = h .mem; frames = d .frames; fr = d .fr }
-
-abbrev pub entered : Data → Regs → Data
-entered d r = record { regs = r; mem = d .mem; frames = d .frames; fr = d .fr }
 
 -- ---- P of what a return leaves
 abbrev GivesBack : (ℕ → ℕ → Data → Type 0) → Back → Type 0
@@ -110,8 +104,8 @@ module _ (i : Plain) (d : Data) (h : Held) (e : plainRule i (d .mem) (d .regs) �
   plainly : (P : Held → Type 0) → Effects i (d .mem) (d .regs) P → P h
   plainly P f = leaves-ok P (plainRule i (d .mem) (d .regs)) h e (effect (d .mem) (d .regs) P i f)
 
-  pub plain-sized : Sized d → Sized (after d h)
-  plain-sized z = plainly (λ h. Sized (after d h)) (record {
+  pub plain-sized : Sized d → Sized (applied d h)
+  plain-sized z = plainly (λ h. Sized (applied d h)) (record {
     valued = λ c w. kept refl refl refl;
     primitive = λ c w. kept refl (simp length-sets) refl;
     closed = λ t w k. kept refl refl (simp length-set);
@@ -122,14 +116,14 @@ module _ (i : Plain) (d : Data) (h : Held) (e : plainRule i (d .mem) (d .regs) �
     paired = λ k l. kept refl (simp length-sets) (simp length-sets);
   }) where
     kept : {h : Held} → length (h .mem .globals) ≡ length (d .mem .globals) → length (h .mem .stack) ≡ length (d .mem .stack)
-        → length (h .mem .store) ≡ length (d .mem .store) → Sized (after d h)
-    kept {h} g s t = same-lengths d (after d h) g s t refl z
+        → length (h .mem .store) ≡ length (d .mem .store) → Sized (applied d h)
+    kept {h} g s t = same-lengths d (applied d h) g s t refl z
 
-  pub plain-bound : Bound d → Bound (after d h)
+  pub plain-bound : Bound d → Bound (applied d h)
   plain-bound bound = let f = plain-fit i (d .mem) (d .regs) h 65535 e (omega arith) (omega arith) (omega arith) in omega arith
 
-  pub plain-clean : Inside i d → Clean d → Clean (after d h)
-  plain-clean inside c = plainly (λ h. Clean (after d h)) (record {
+  pub plain-clean : Inside i d → Clean d → Clean (applied d h)
+  plain-clean inside c = plainly (λ h. Clean (applied d h)) (record {
     valued = λ x w. cleaned (c .clean-stack) (c .clean-store);
     primitive = λ x w. cleaned (emptied (d .regs .sp) (omega arith)) (c .clean-store);
     closed = λ t w k. cleaned (c .clean-stack) (stored s (_ ∷ []) (d .regs .st) (d .regs .st + 1) (c .clean-store) (omega arith));
@@ -147,7 +141,7 @@ module _ (i : Plain) (d : Data) (h : Held) (e : plainRule i (d .mem) (d .regs) �
     emptied : (n : ℕ) → d .regs .sp ≤ n → ZeroFrom (zeroed (d .mem .stack) 0 n) 0
     emptied n k = cleared (d .mem .stack) 0 n (d .regs .sp) (c .clean-stack) (omega arith)
 
-    cleaned : {h : Held} → ZeroFrom (h .mem .stack) (h .regs .sp) → ZeroFrom (h .mem .store) (h .regs .st) → Clean (after d h)
+    cleaned : {h : Held} → ZeroFrom (h .mem .stack) (h .regs .sp) → ZeroFrom (h .mem .store) (h .regs .st) → Clean (applied d h)
     cleaned p q = record { clean-stack = p; clean-store = q; clean-frames = c .clean-frames }
 
 -- ---- call
@@ -162,15 +156,15 @@ module _ (n : ℕ) (d : Data) (t : ℕ) (r : Regs) (e : callRule n (d .regs) ≡
   pub call-template : t < 256
   call-template = by-call (λ x. x .0 < 256) (λ k. omega arith)
 
-  pub call-sized : Sized d → Sized (entered d r)
-  call-sized z = same-lengths d (entered d r) refl refl refl refl z
+  pub call-sized : Sized d → Sized (called d r)
+  call-sized z = same-lengths d (called d r) refl refl refl refl z
 
-  pub call-bound : Bound d → Bound (entered d r)
-  call-bound b = by-call (λ x. Bound (entered d (x .1))) (λ k. omega arith)
+  pub call-bound : Bound d → Bound (called d r)
+  call-bound b = by-call (λ x. Bound (called d (x .1))) (λ k. omega arith)
 
-  pub call-clean : Clean d → Clean (entered d r)
+  pub call-clean : Clean d → Clean (called d r)
   call-clean c =
-      by-call (λ x. Clean (entered d (x .1))) (λ k. record { clean-stack = c .clean-stack; clean-store = c .clean-store; clean-frames = c .clean-frames })
+      by-call (λ x. Clean (called d (x .1))) (λ k. record { clean-stack = c .clean-stack; clean-store = c .clean-store; clean-frames = c .clean-frames })
 
 -- ---- make-cont
 module _ (n t p : ℕ) (d d′ : Data) (e : makeContRule n t p d ≡ ok d′) where

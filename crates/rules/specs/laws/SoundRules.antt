@@ -13,11 +13,12 @@ use Rattle.cells.specs.Cells.{cellOf, Fits}
 use Rattle.cells.specs.laws.Laws.{closure-back, pair-back, layer-back, frame-back}
 use Rattle.cells.specs.declared.Value.{Value}
 use Rattle.rules.specs.State.{mem, regs, Held, ok}
-use Rattle.rules.specs.Rules.{Data, backTo, top, under, lastFrame, frameBase, withFrame, withoutFrame, plainRule, callRule, makeContRule, returnRule}
+use Rattle.rules.specs.Rules.{Data, applied, called, backTo, top, under, lastFrame, frameBase, withFrame, withoutFrame, plainRule, callRule, makeContRule}
+use Rattle.rules.specs.Rules.{returnRule}
 use Rattle.rules.specs.laws.Effects.{ConstantCell, unspecified-constant, From, from-literal, from-v, from-global, from-local, from-pair, from-constant}
 use Rattle.rules.specs.laws.Effects.{held, leaves-ok, effect}
 use Rattle.rules.specs.laws.Lists.{by-lt, sets-below}
-use Rattle.rules.specs.laws.Clean.{Sized, Bound, after, entered, by-call, by-make-cont, by-return}
+use Rattle.rules.specs.laws.Clean.{Sized, Bound, by-call, by-make-cont, by-return}
 use Rattle.rules.specs.laws.Sound.{Layer, EnvOk, layer, Spot, ValueIn, StoreCell, a-layer, a-value, FramesOk, no-frame, frame, GlobalsOk, StackOk}
 use Rattle.rules.specs.laws.Sound.{StoreOk, Sound}
 use Rattle.rules.specs.laws.Sound.{value-no-layer, constant-in, spot-value, Grows, grown, more-used, set-case, replaced, lower, env-moved, value-moved}
@@ -108,7 +109,7 @@ module _ (d : Data) (z : Sized d) (b : Bound d) (o : Sound d) where
   stays = more-used s u u (omega arith)
 
   kept : {s′ g l : List ℕ} {u′ v e sp : ℕ} → Grows s u s′ u′ → ValueIn s′ u′ v → EnvOk s′ u′ e → GlobalsOk s u g → StackOk s u l sp → StoreOk s′ u′
-      → Sound (after d (held (regs v e sp u′) (mem g l s′)))
+      → Sound (applied d (held (regs v e sp u′) (mem g l s′)))
   kept g x y gs ss t = record {
     v-ok = x;
     env-ok = y;
@@ -207,14 +208,14 @@ module _ (d : Data) (z : Sized d) (b : Bound d) (o : Sound d) where
         cell-at i zero e h = let j : i ≡ u = omega arith in rw j (a-layer new-layer parent)
         cell-at i (suc k) e h = a-value (value-cell i k e (omega arith))
 
-    layered-sound : Sound (after d (held (regs (d .regs .v) (u + 1) 0 (u + 1 + n)) (mem (d .mem .globals) (zeroed (d .mem .stack) 0 n) t)))
+    layered-sound : Sound (applied d (held (regs (d .regs .v) (u + 1) 0 (u + 1 + n)) (mem (d .mem .globals) (zeroed (d .mem .stack) 0 n) t)))
     layered-sound =
         let g = grows vs (u + 1 + n) total room in
         let h : u + 1 - 1 ≡ u = omega arith in
         kept g (value-moved g (o .v-ok)) (layer (rw h new-layer)) (o .globals-ok) (λ i k. absurd (omega arith)) store-layered
 
   closed-sound : (t : ℕ) → t < 256 → u + 1 ≤ 2048
-      → Sound (after d (held (regs (closureCell t (d .regs .env) u) (d .regs .env) (d .regs .sp) (u + 1))
+      → Sound (applied d (held (regs (closureCell t (d .regs .env) u) (d .regs .env) (d .regs .sp) (u + 1))
       (mem (d .mem .globals) (d .mem .stack) (set s u unspecifiedCell))))
   closed-sound t byte room =
       let vs : List ℕ = unspecifiedCell ∷ [] in
@@ -224,7 +225,7 @@ module _ (d : Data) (z : Sized d) (b : Bound d) (o : Sound d) where
       (values-grown vs (u + 1) refl room (every-cons (ValueIn s u) unspecifiedCell [] (constant-in unspecified-constant) (λ k h. absurd (omega arith))))
 
   paired-sound : 2 ≤ d .regs .sp → u + 2 ≤ 2048
-      → Sound (after d (held (regs (pairCell u (u + 1)) (d .regs .env) 0 (u + 2))
+      → Sound (applied d (held (regs (pairCell u (u + 1)) (d .regs .env) 0 (u + 2))
       (mem (d .mem .globals) (zeroed (d .mem .stack) 0 (d .regs .sp)) (sets s u (under (d .mem) (d .regs) ∷ top (d .mem) (d .regs) ∷ [])))))
   paired-sound two room =
       let vs : List ℕ = under (d .mem) (d .regs) ∷ top (d .mem) (d .regs) ∷ [] in
@@ -239,7 +240,7 @@ module _ (d : Data) (z : Sized d) (b : Bound d) (o : Sound d) where
       (every-cons (ValueIn s u) _ (top (d .mem) (d .regs) ∷ []) x (every-cons (ValueIn s u) _ [] y (λ k h. absurd (omega arith)))))
 
   local-sound : (l : ℕ) → Spot s u l
-      → Sound (after d (held (regs unspecifiedCell (d .regs .env) (d .regs .sp) u) (mem (d .mem .globals) (d .mem .stack) (set s l (d .regs .v)))))
+      → Sound (applied d (held (regs unspecifiedCell (d .regs .env) (d .regs .sp) u) (mem (d .mem .globals) (d .mem .stack) (set s l (d .regs .v)))))
   local-sound l x =
       kept g (constant-in unspecified-constant) (env-moved g (o .env-ok)) (o .globals-ok) (o .stack-ok)
       (λ i h. by-lt i l (λ k. other i h (λ e. omega arith))
@@ -265,23 +266,24 @@ module _ (d : Data) (z : Sized d) (b : Bound d) (o : Sound d) where
       let e : i ≡ d .regs .sp = omega arith in
       rw (e, getD-set-same (d .mem .stack) (d .regs .sp) (d .regs .v) 0 (omega arith)) (o .v-ok))
 
-  pub plain-sound : (i : Plain) (h : Held) → PlainOk i → plainRule i (d .mem) (d .regs) ≡ ok h → Sound (after d h)
-  plain-sound i h p e = leaves-ok (λ h. Sound (after d h)) (plainRule i (d .mem) (d .regs)) h e (effect (d .mem) (d .regs) (λ h. Sound (after d h)) i (record {
-    valued = λ c w. kept stays (from-ok i c p w) (o .env-ok) (o .globals-ok) (o .stack-ok) (o .store-ok);
-    primitive = λ c w. kept stays (from-ok i c p w) (o .env-ok) (o .globals-ok) (λ j k. absurd (omega arith)) (o .store-ok);
-    closed = λ t w k. closed-sound t (rw w at p) k;
-    global-set = λ g. kept stays (constant-in unspecified-constant) (o .env-ok)
-        (λ j k. set-case (λ c. (c ≡ undefinedCell → ⊥) → ValueIn s u c) (d .mem .globals) g j (d .regs .v) (λ n. o .v-ok) (o .globals-ok j k)) (o .stack-ok)
-        (o .store-ok);
-    local-set = λ x y l w k. local-sound l (inside s u (o .store-ok) x y (o .env-ok) k);
-    pushed = λ k. kept stays (o .v-ok) (o .env-ok) (o .globals-ok) (pushed-ok k) (o .store-ok);
-    layered = λ n w k l. layered-sound n (rw w at p) k l;
-    paired = λ k l. paired-sound k l;
-  }))
+  pub plain-sound : (i : Plain) (h : Held) → PlainOk i → plainRule i (d .mem) (d .regs) ≡ ok h → Sound (applied d h)
+  plain-sound i h p e =
+      leaves-ok (λ h. Sound (applied d h)) (plainRule i (d .mem) (d .regs)) h e (effect (d .mem) (d .regs) (λ h. Sound (applied d h)) i (record {
+        valued = λ c w. kept stays (from-ok i c p w) (o .env-ok) (o .globals-ok) (o .stack-ok) (o .store-ok);
+        primitive = λ c w. kept stays (from-ok i c p w) (o .env-ok) (o .globals-ok) (λ j k. absurd (omega arith)) (o .store-ok);
+        closed = λ t w k. closed-sound t (rw w at p) k;
+        global-set = λ g. kept stays (constant-in unspecified-constant) (o .env-ok)
+            (λ j k. set-case (λ c. (c ≡ undefinedCell → ⊥) → ValueIn s u c) (d .mem .globals) g j (d .regs .v) (λ n. o .v-ok) (o .globals-ok j k)) (o .stack-ok)
+            (o .store-ok);
+        local-set = λ x y l w k. local-sound l (inside s u (o .store-ok) x y (o .env-ok) k);
+        pushed = λ k. kept stays (o .v-ok) (o .env-ok) (o .globals-ok) (pushed-ok k) (o .store-ok);
+        layered = λ n w k l. layered-sound n (rw w at p) k l;
+        paired = λ k l. paired-sound k l;
+      }))
 
 -- ---- call
-pub call-sound : (n : ℕ) (d : Data) (t : ℕ) (r : Regs) → callRule n (d .regs) ≡ ok (t, r) → Sound d → Sound (entered d r)
-call-sound n d t r e o = by-call n d t r e (λ x. Sound (entered d (x .1))) (λ k. record {
+pub call-sound : (n : ℕ) (d : Data) (t : ℕ) (r : Regs) → callRule n (d .regs) ≡ ok (t, r) → Sound d → Sound (called d r)
+call-sound n d t r e o = by-call n d t r e (λ x. Sound (called d (x .1))) (λ k. record {
   v-ok = o .v-ok;
   env-ok = o .v-ok .closure-ok k;
   globals-ok = o .globals-ok;

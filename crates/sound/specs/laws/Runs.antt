@@ -17,7 +17,7 @@ use Rattle.files.specs.Table.{constantCell}
 use Rattle.owners.specs.declared.Owner.{Owner}
 use Rattle.rules.specs.Owned.{ownedRule, owned-ok}
 use Rattle.rules.specs.State.{Held, Res, ok, wrong}
-use Rattle.rules.specs.Rules.{Data, callRule, makeContRule, Back, noFrame, backTo, returnRule}
+use Rattle.rules.specs.Rules.{Data, applied, called, callRule, makeContRule, Back, noFrame, backTo, returnRule}
 use Rattle.rules.specs.laws.Effects.{ConstantCell, unspecified-constant, integer-constant}
 use Rattle.rules.specs.laws.Lists.{by-lt}
 use Rattle.rules.specs.laws.Clean.{Sized, Bound, Clean, plain-sized, plain-bound, plain-clean, call-template, call-sized, call-bound, call-clean}
@@ -27,7 +27,7 @@ use Rattle.rules.specs.laws.SoundRules.{PlainOk, plain-sound, call-sound, make-
 use Rattle.rules.specs.declared.Regs.{Regs}
 use Rattle.rules.specs.declared.Plain.{Plain}
 use Rattle.machines.specs.Fetched.{Fetched, plain, returns, calls, branches, saves, jumps, bad}
-use Rattle.machines.specs.Machine.{Program, State, at, Step, go, halt, stop, bind, applied, called, returned, act, here, step, Counts, noCounts, counted, next}
+use Rattle.machines.specs.Machine.{Program, State, at, Step, go, halt, stop, bind, returned, act, here, step, Counts, noCounts, counted, next}
 use Rattle.machines.specs.Machine.{run}
 use Rattle.machines.specs.Runs.{lowestUnfit, startState}
 use Rattle.sound.specs.laws.Programs.{FetchedOk, ProgramOk, constant-cell}
@@ -54,7 +54,6 @@ binds (wrong n) f k = tt
 module _ (s : State) (k : Kept s) where
   owned-kept : (o : Owner) (i : Plain) (p : ℕ) → PlainOk i → (h : Held) → ownedRule o i (s .now .mem) (s .now .regs) ≡ ok h
       → Kept (at (applied (s .now) h) (s .template) p)
-  unfolding applied
   owned-kept o i p f h y =
       let e = owned-ok o i (s .now .mem) (s .now .regs) h y .1 in
       record {
@@ -77,7 +76,6 @@ module _ (s : State) (k : Kept s) where
   }
 
   call-kept : (n t p : ℕ) (r : Regs) → callRule n (s .now .regs) ≡ ok (t, r) → Kept (at (called (s .now) r) t p)
-  unfolding called
   call-kept n t p r e = record {
     sized = call-sized n (s .now) t r e (k .sized);
     bound = call-bound n (s .now) t r e (k .bound);

@@ -13,7 +13,7 @@ use Rattle.files.specs.laws.AllGot.{tree-read}
 use Rattle.files.specs.laws.TableLaws.{Few, treeEntries, row-start, tree-slot, tree-beyond}
 use Rattle.files.specs.Tree.{Template}
 use Rattle.files.specs.Accepted.{treeChecked}
-use Rattle.readback.specs.laws.Led.{lowest-at}
+use Rattle.files.specs.laws.AcceptedLaws.{none-refused}
 use Rattle.files.specs.laws.AcceptedLaws.{Checked, checked}
 use Rattle.links.specs.Links.{linkedAll}
 use Rattle.links.specs.laws.Templates.{TemplateLaid, short, template-there, template-stands, template-links}
@@ -46,7 +46,7 @@ module _ (s : List ℕ) (ts : List Template) (q : ℕ) (accepted : treeChecked s
   there t h = template-there s (known .read) t noTemplate h
 
   closed-at : (t : ℕ) → t < length ts → isClosed (getD ts t noTemplate .code) ≡ true
-  closed-at t h = lowest-at closedTemplate 0 ts noTemplate (known .closed) t h
+  closed-at t h = none-refused closedTemplate 0 ts t noTemplate (known .closed) h
 
   no-template : (t : ℕ) → length ts ≤ t → getD ts t noTemplate ≡ noTemplate
   no-template t h = List·getD-eq-default ts noTemplate h
