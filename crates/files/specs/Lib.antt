@@ -13,4 +13,5 @@ pub mod Table
 pub mod Valid
 pub mod EntriesRead
 pub mod RowFilled
+pub mod Filled
 pub mod laws

@@ -1,7 +1,7 @@
 -- What the readers of a linear file tell of what is read, and what they leave in a run's table: each template that is read fills slots of its
 -- row, the entries' first and slot 0 last, up to the first refusal.
-use Prim.Native.Nat.{ℕ, zero, suc, _+_, _*_}
-use mathlib.Core.Bool.{cond, _&&_}
+use Prim.Native.Nat.{ℕ, _+_, _*_}
+use mathlib.Core.Bool.{cond}
 use mathlib.Core.List.{List}
 use lib.ListN.{length, set}
 use lib.Seq.{sets}
@@ -10,6 +10,7 @@ use Rattle.files.specs.Reading.{Got, got, refused}
 use Rattle.files.specs.Entries.{Entry, then, field, toByte, zeroBits}
 use Rattle.files.specs.Linear.{Linear, codeAt, linearTemplateAt}
 use Rattle.files.specs.EntriesRead.{slotsAt}
+use Rattle.files.specs.Filled.{templatesBy, countBy}
 use Rattle.linear.specs.declared.Part.{Part}
 use Rattle.linear.specs.declared.Part.the-variants.{Read, Refused}
 use Rattle.linear.specs.declared.LinearFile.{LinearFile}
@@ -51,20 +52,12 @@ entriesFilled s own T (refused n p) table = table
 unfoldable pub templateFilled : List ℕ → ℕ → ℕ → ℕ → List ℕ → List ℕ
 templateFilled s own T p table = codeFilled own (linearTemplateAt s own T p) (entriesFilled s own T (field s p 8) table)
 
--- on with the next template where this one was read
-unfoldable pub filledThen : Got Linear → (ℕ → List ℕ → List ℕ) → List ℕ → List ℕ
-filledThen (got t q) f table = f q table
-filledThen (refused n p) f table = table
+-- by templates, and by what T is read as
+abbrev pub templatesFilled : List ℕ → ℕ → ℕ → ℕ → ℕ → List ℕ → List ℕ
+templatesFilled s = templatesBy (linearTemplateAt s) (templateFilled s)
 
--- by n templates from number own on
-unfoldable pub templatesFilled : List ℕ → ℕ → ℕ → ℕ → ℕ → List ℕ → List ℕ
-templatesFilled s T own zero p table = table
-templatesFilled s T own (suc n) p table = filledThen (linearTemplateAt s own T p) (templatesFilled s T (own + 1) n) (templateFilled s own T p table)
-
--- by what T is read as
-unfoldable pub countFilled : List ℕ → Got ℕ → List ℕ → List ℕ
-countFilled s (got T p) table = cond (leb 1 T && leb T 64) (templatesFilled s T 0 T p table) table
-countFilled s (refused n p) table = table
+abbrev pub countFilled : List ℕ → Got ℕ → List ℕ → List ℕ
+countFilled s = countBy (linearTemplateAt s) (templateFilled s)
 
 unfoldable pub linearFilled : List ℕ → List ℕ → List ℕ
 linearFilled s table = cond (leb (length s) 262144) (countFilled s (field s 0 8) table) table

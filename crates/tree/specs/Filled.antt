@@ -1,15 +1,16 @@
 -- What the readers of a tree file leave in a run's table: each template whose entries are read fills slots of its row, the entries' first
 -- and slot 0 last, up to the first refusal.
-use Prim.Native.Nat.{ℕ, zero, suc, _+_, _*_}
-use mathlib.Core.Bool.{cond, _&&_}
+use Prim.Native.Nat.{ℕ, _+_, _*_}
+use mathlib.Core.Bool.{cond}
 use mathlib.Core.List.{List}
 use lib.ListN.{length, set, replicate}
 use lib.Seq.{sets}
 use lib.Dec.{leb}
 use Rattle.files.specs.Reading.{Got, got, refused}
 use Rattle.files.specs.Entries.{Entry, field, entriesAt}
-use Rattle.files.specs.Tree.{Template, templateAt}
+use Rattle.files.specs.Tree.{templateAt}
 use Rattle.files.specs.EntriesRead.{slotsAt}
+use Rattle.files.specs.Filled.{templatesBy, countBy}
 
 -- slot 0 of row own: where the list begins, past the entries
 unfoldable pub startFilled : ℕ → Got (List Entry) → List ℕ → List ℕ
@@ -24,20 +25,12 @@ rowFilled s own T (refused n p) table = table
 unfoldable pub templateFilled : List ℕ → ℕ → ℕ → ℕ → List ℕ → List ℕ
 templateFilled s own T p table = rowFilled s own T (field s p 8) table
 
--- on with the next template where this one was read
-unfoldable pub filledThen : Got Template → (ℕ → List ℕ → List ℕ) → List ℕ → List ℕ
-filledThen (got t q) f table = f q table
-filledThen (refused n p) f table = table
+-- by templates, and by what T is read as
+abbrev pub templatesFilled : List ℕ → ℕ → ℕ → ℕ → ℕ → List ℕ → List ℕ
+templatesFilled s = templatesBy (templateAt s) (templateFilled s)
 
--- by n templates from number own on
-unfoldable pub templatesFilled : List ℕ → ℕ → ℕ → ℕ → ℕ → List ℕ → List ℕ
-templatesFilled s T own zero p table = table
-templatesFilled s T own (suc n) p table = filledThen (templateAt s own T p) (templatesFilled s T (own + 1) n) (templateFilled s own T p table)
-
--- by what T is read as
-unfoldable pub countFilled : List ℕ → Got ℕ → List ℕ → List ℕ
-countFilled s (got T p) table = cond (leb 1 T && leb T 64) (templatesFilled s T 0 T p table) table
-countFilled s (refused n p) table = table
+abbrev pub countFilled : List ℕ → Got ℕ → List ℕ → List ℕ
+countFilled s = countBy (templateAt s) (templateFilled s)
 
 -- a table of zeros, filled from the tree file s
 unfoldable pub treeFilled : List ℕ → List ℕ

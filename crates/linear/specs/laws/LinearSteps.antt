@@ -16,14 +16,15 @@ use Rattle.files.specs.EntriesRead.{paddingTold, slotsAt}
 use Rattle.files.specs.laws.PaddingSteps.{zero-told, nothing-told}
 use Rattle.files.specs.laws.AllGot.{linears-read}
 use Rattle.files.specs.Linear.{Linear, codeAt, linearTemplateAt, linearTemplatesAt, linearRead}
+use Rattle.files.specs.Filled.{filledThen, templatesBy, countBy}
 use Rattle.linear.specs.declared.Part.{Part}
 use Rattle.linear.specs.declared.Part.the-variants.{Read, Refused}
 use Rattle.linear.specs.declared.LinearFile.{LinearFile}
 use Rattle.linear.specs.declared.LinearFile.the-variants.{Read as ReadFile, Refused as RefusedFile}
 use Rattle.linear.specs.declared.Checked.{Checked}
 use Rattle.linear.specs.declared.Checked.the-variants.{Accepted, Refused as RefusedChecked}
-use Rattle.linear.specs.Filled.{partTold, linearTold, checkedTold, paddedCode, codeFilled, entriesFilled, templateFilled, filledThen, templatesFilled}
-use Rattle.linear.specs.Filled.{countFilled, linearFilled}
+use Rattle.linear.specs.Filled.{partTold, linearTold, checkedTold, paddedCode, codeFilled, entriesFilled, templateFilled, templatesFilled}
+use Rattle.linear.specs.Filled.{linearFilled}
 
 -- ---- what was told was read
 module _ {A : Type 0} where
@@ -107,7 +108,7 @@ module _ (s : List ℕ) (T own p : ℕ) (table : List ℕ) where
   LinearsDone r t = (r ≡ partTold (linearTemplatesAt s T own (T - own) p)) × (t ≡ templatesFilled s T own (T - own) p table)
 
   pub linears-none : T ≤ own → LinearsDone (Read (record { 0 = p })) table
-  unfolding linearTemplatesAt templatesFilled partTold
+  unfolding linearTemplatesAt templatesBy partTold
   linears-none h = let k : T - own ≡ 0 = omega arith in rw k (refl, refl)
 
   module _ {r : Part} {t : List ℕ} (less : own < T) (done : TemplateDone s own T p table r t) where
@@ -115,7 +116,7 @@ module _ (s : List ℕ) (T own p : ℕ) (table : List ℕ) where
     one-left = omega arith
 
     pub linears-stop : {n : ℕ} {x : BitPlace} → r ≡ Refused n x → LinearsDone (Refused n x) t
-    unfolding linearTemplatesAt templatesFilled then filledThen partTold
+    unfolding linearTemplatesAt templatesBy then filledThen partTold
     linears-stop e = rw (one-left, part-refused (linearTemplateAt s own T p) (sym (done .0) ∙ e)) (refl, done .1)
 
     told-more : (a : Linear) (g : Got (List Linear)) → partTold (then g (λ ts q. got (a ∷ ts) q)) ≡ partTold g
@@ -126,7 +127,7 @@ module _ (s : List ℕ) (T own p : ℕ) (table : List ℕ) where
     pub linears-on : {q : BitPlace} → r ≡ Read q
         → (partTold (linearTemplatesAt s T own (T - own) p) ≡ partTold (linearTemplatesAt s T (own + 1) (T - (own + 1)) (q .0)))
         × (templatesFilled s T own (T - own) p table ≡ templatesFilled s T (own + 1) (T - (own + 1)) (q .0) t)
-    unfolding linearTemplatesAt templatesFilled then filledThen
+    unfolding linearTemplatesAt templatesBy then filledThen
     linears-on {q} e =
         let g = part-told (linearTemplateAt s own T p) (sym (done .0) ∙ e) in
         rw (one-left, g .is) (
@@ -146,22 +147,22 @@ module _ (s : List ℕ) (table : List ℕ) where
 
   module _ (short : length s ≤ 262144) where
     pub count-cut : field s 0 8 ≡ refused 2 0 → FileDone (RefusedFile 2 (record { 0 = 0 })) table
-    unfolding linearRead linearTold linearFilled countFilled then
+    unfolding linearRead linearTold linearFilled countBy then
     count-cut e = rw (le-leb (length s) 262144 short, e) (refl, refl)
 
     module _ {T p : ℕ} (count : field s 0 8 ≡ got T p) where
       pub count-low : T < 1 → FileDone (RefusedFile 3 (record { 0 = 0 })) table
-      unfolding linearRead linearTold linearFilled countFilled then
+      unfolding linearRead linearTold linearFilled countBy then
       count-low h = rw (le-leb (length s) 262144 short, count, lt-leb 1 T h) (refl, refl)
 
       module _ (some : 1 ≤ T) where
         pub count-high : 64 < T → FileDone (RefusedFile 3 (record { 0 = 0 })) table
-        unfolding linearRead linearTold linearFilled countFilled then
+        unfolding linearRead linearTold linearFilled countBy then
         count-high h = rw (le-leb (length s) 262144 short, count, le-leb 1 T some, lt-leb T 64 h) (refl, refl)
 
         module _ {r : Part} {t : List ℕ} (few : T ≤ 64) (done : (r ≡ partTold (linearTemplatesAt s T 0 T p)) × (t ≡ templatesFilled s T 0 T p table)) where
           filled : t ≡ linearFilled s table
-          unfolding linearFilled countFilled
+          unfolding linearFilled countBy
           filled = rw (le-leb (length s) 262144 short, count, le-leb 1 T some, le-leb T 64 few) (done .1)
 
           read : linearRead s ≡ then (linearTemplatesAt s T 0 T p) (λ ts q. nothingMore s q ts)

@@ -17,7 +17,8 @@ use Rattle.files.specs.Table.{slotOf, rowOf, linearTable}
 use Rattle.files.specs.laws.TableLaws.{Few, row-length, rowsOf, rows-length, linearStart, linearEntries, linear-rows}
 use Rattle.files.specs.laws.RowFilled.{row-filled}
 use Rattle.files.specs.laws.AllGot.{got-all, cond-all, zero-all, nothing-all, then-led, linears-read}
-use Rattle.linear.specs.Filled.{codeFilled, entriesFilled, templateFilled, filledThen, templatesFilled, countFilled, linearFilled}
+use Rattle.files.specs.Filled.{filledThen, templatesBy, countBy}
+use Rattle.linear.specs.Filled.{codeFilled, entriesFilled, templateFilled, templatesFilled, countFilled, linearFilled}
 
 -- ---- one template
 code-entries : (s : List ℕ) (es : List Entry) (k v : ℕ) {t : Linear} {q : ℕ} → codeAt s es k v ≡ got t q → t .entries ≡ es
@@ -68,7 +69,7 @@ module _ (s : List ℕ) (T : ℕ) where
       → templatesFilled s T (own + 1) n r ((pre ++ rowOf (linearStart t) (t .entries)) ++ replicate (256 * (n + k)) 0) ≡
       ((pre ++ rowOf (linearStart t) (t .entries)) ++ rowsOf linearStart linearEntries us) ++ replicate (256 * k) 0)
       → templatesFilled s T own (suc n) p (pre ++ replicate (256 * (suc n + k)) 0) ≡ (pre ++ rowsOf linearStart linearEntries ts) ++ replicate (256 * k) 0
-  unfolding templatesFilled filledThen rowsOf
+  unfolding templatesBy filledThen rowsOf
   rows-on n own p pre k ts t us r h few i e on =
       let f : Few linearEntries (t ∷ us) = rw i at few in
       let l : length (pre ++ rowOf (linearStart t) (t .entries)) ≡ 256 * (own + 1) = rw
@@ -79,7 +80,7 @@ module _ (s : List ℕ) (T : ℕ) where
   templates-filled : (n own p : ℕ) (pre : List ℕ) (k : ℕ) (ts : List Linear) {q : ℕ} → length pre ≡ 256 * own → Few linearEntries ts
       → linearTemplatesAt s T own n p ≡ got ts q
       → templatesFilled s T own n p (pre ++ replicate (256 * (n + k)) 0) ≡ (pre ++ rowsOf linearStart linearEntries ts) ++ replicate (256 * k) 0
-  unfolding templatesFilled linearTemplatesAt
+  unfolding templatesBy linearTemplatesAt
   templates-filled zero own p pre k ts {q} h few e = rows-done pre k ts (sym cc)
   templates-filled (suc n) own p pre k ts {q} h few e =
       then-led (linearTemplateAt s own T p) _ e
@@ -110,7 +111,7 @@ module _ (s : List ℕ) where
 
   -- THE LAW
   pub linear-table : {ts : List Linear} {q : ℕ} → linearRead s ≡ got ts q → linearFilled s (replicate 16384 0) ≡ linearTable ts
-  unfolding linearRead linearFilled countFilled
+  unfolding linearRead linearFilled countBy
   linear-table {ts} {q} e = go (leb (length s) 262144) e
     where
       go : (b : Bool)

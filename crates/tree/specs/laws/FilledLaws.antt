@@ -16,7 +16,8 @@ use Rattle.files.specs.laws.TableLaws.{row-length, rows-length, tree-rows, tree
 use Rattle.files.specs.laws.AllGot.{got-value, tree-read}
 use Rattle.files.specs.RowFilled.{Unfilled}
 use Rattle.files.specs.laws.RowFilled.{row-filled, row-table, row-unfilled}
-use Rattle.tree.specs.Filled.{startFilled, rowFilled, templateFilled, filledThen, templatesFilled, countFilled, treeFilled}
+use Rattle.files.specs.Filled.{filledThen, templatesBy, countBy}
+use Rattle.tree.specs.Filled.{startFilled, rowFilled, templateFilled, templatesFilled, treeFilled}
 use Rattle.tree.specs.laws.Parts.{template-parts, templates-parts, templates-count, tree-parts}
 
 -- ---- the row of a template
@@ -36,7 +37,7 @@ module _ (s : List ℕ) (own T p : ℕ) (few : T ≤ 64) {t : Template} {q : ℕ
 module _ (s : List ℕ) (T : ℕ) (few : T ≤ 64) where
   templates-rows : (n own p : ℕ) (front : List ℕ) {ts : List Template} {q : ℕ} → length front ≡ 256 * own → own + n ≤ 64 → templatesAt s T own n p ≡ got ts q
       → templatesFilled s T own n p (front ++ replicate (16384 - 256 * own) 0) ≡ front ++ (treeRows ts ++ replicate (16384 - 256 * (own + n)) 0)
-  unfolding templatesFilled templatesAt filledThen treeRows
+  unfolding templatesBy templatesAt filledThen treeRows
   templates-rows zero own p front f h e =
       let k : own + 0 ≡ own = omega arith in
       rw (← got-value e .0, k) refl
@@ -64,7 +65,7 @@ module _ (s : List ℕ) (T : ℕ) (few : T ≤ 64) where
       all ∙ ap (λ (us : List Template). front ++ (treeRows us ++ replicate (16384 - 256 * (own + suc n)) 0)) (sym (a .are))
 
 pub tree-table : (s : List ℕ) {ts : List Template} {q : ℕ} → treeRead s ≡ got ts q → treeFilled s ≡ treeTable ts
-unfolding treeFilled countFilled treeTable
+unfolding treeFilled countBy treeTable
 tree-table s {ts} {q} e =
     let a = tree-parts s e in
     let l : length (treeRows ts) ≡ 256 * a .count = ap length (tree-rows ts) ∙ rows-length treeStart treeEntries ts (tree-read s e .1 .1)

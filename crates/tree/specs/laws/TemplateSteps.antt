@@ -22,6 +22,7 @@ use Rattle.lists.specs.declared.Facts.{Facts}
 use Rattle.lists.specs.Facts.{factsOf}
 use Rattle.lists.specs.laws.PassLaws.{closed-class}
 use Rattle.lists.specs.laws.SlotLaws.{Row, slots-named, slots-close, row-among}
+use Rattle.files.specs.Filled.{filledThen, templatesBy}
 use Rattle.tree.specs.declared.Report.{Report}
 use Rattle.tree.specs.declared.TemplateRead.{TemplateRead}
 use Rattle.tree.specs.declared.TemplateRead.the-variants.{Done, Refused}
@@ -30,7 +31,7 @@ use Rattle.tree.specs.declared.TemplatesRead.{TemplatesRead}
 use Rattle.tree.specs.declared.TemplatesRead.the-variants.{Done as DoneTemplates, Refused as RefusedTemplates}
 use Rattle.tree.specs.Summary.{reportOf, reportBy, templateTold, templatesTold, summaryAfter, begun, summaryFrom, toldFrom}
 use Rattle.tree.specs.laws.SummaryLaws.{template-length, summary-all}
-use Rattle.tree.specs.Filled.{startFilled, rowFilled, templateFilled, filledThen, templatesFilled}
+use Rattle.tree.specs.Filled.{startFilled, rowFilled, templateFilled, templatesFilled}
 use Rattle.tree.specs.laws.Parts.{template-parts, templates-count}
 use Rattle.tree.specs.laws.FilledLaws.{template-unfilled}
 
@@ -126,7 +127,7 @@ module _ (s : List ℕ) (T own p : ℕ) (table : List ℕ) (m : Summary) where
   TemplatesDone r t = (r ≡ toldFrom own m (templatesAt s T own (T - own) p)) × (t ≡ templatesFilled s T own (T - own) p table)
 
   pub templates-none : T ≤ own → TemplatesDone (DoneTemplates (record { 0 = p }) m) table
-  unfolding templatesAt templatesFilled toldFrom summaryFrom
+  unfolding templatesAt templatesBy toldFrom summaryFrom
   templates-none h = let k : T - own ≡ 0 = omega arith in rw k (refl, refl)
 
   module _ {r : TemplateRead} {t : List ℕ} (less : own < T) (done : TemplateDone s own T p table r t) where
@@ -134,7 +135,7 @@ module _ (s : List ℕ) (T own p : ℕ) (table : List ℕ) (m : Summary) where
     one-left = omega arith
 
     pub templates-stop : {n : ℕ} {x : BitPlace} → r ≡ Refused n x → TemplatesDone (RefusedTemplates n x) t
-    unfolding templatesAt templatesFilled then filledThen toldFrom
+    unfolding templatesAt templatesBy then filledThen toldFrom
     templates-stop e = rw (one-left, template-refused (templateAt s own T p) (sym (done .0) ∙ e)) (refl, done .1)
 
     told-more : (a : Template) (g : Got (List Template))
@@ -146,7 +147,7 @@ module _ (s : List ℕ) (T own p : ℕ) (table : List ℕ) (m : Summary) where
     pub templates-on : {q : BitPlace} {o : Report} {m′ : Summary} → T ≤ 64 → r ≡ Done q o → m′ ≡ summaryAfter own o m
         → (toldFrom own m (templatesAt s T own (T - own) p) ≡ toldFrom (own + 1) m′ (templatesAt s T (own + 1) (T - (own + 1)) (q .0)))
         × (templatesFilled s T own (T - own) p table ≡ templatesFilled s T (own + 1) (T - (own + 1)) (q .0) t)
-    unfolding templatesAt templatesFilled then filledThen
+    unfolding templatesAt templatesBy then filledThen
     templates-on {q} {o} few is e =
         let a : ReadTemplate (templateAt s own T p) q o = this s own T p table few done is in
         let k : _ ≡ summaryAfter own (reportOf (a .template)) m = e ∙ ap (λ (x : Report). summaryAfter own x m) (sym (a .report)) in

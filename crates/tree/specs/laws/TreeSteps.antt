@@ -15,13 +15,14 @@ use Rattle.files.specs.laws.AllGot.{field-got}
 use Rattle.files.specs.EntriesRead.{paddingTold}
 use Rattle.files.specs.laws.PaddingSteps.{Padded, bad, zero-told, nothing-told}
 use Rattle.files.specs.Tree.{Template, templatesAt, paddedEnd, treeRead}
+use Rattle.files.specs.Filled.{countBy}
 use Rattle.tree.specs.declared.Summary.{Summary}
 use Rattle.tree.specs.declared.TemplatesRead.{TemplatesRead}
 use Rattle.tree.specs.declared.TemplatesRead.the-variants.{Done, Refused as RefusedTemplates}
 use Rattle.tree.specs.declared.TreeFile.{TreeFile}
 use Rattle.tree.specs.declared.TreeFile.the-variants.{Read, Refused}
 use Rattle.tree.specs.Summary.{summaryOf, templatesTold, treeTold}
-use Rattle.tree.specs.Filled.{templatesFilled, countFilled, treeFilled}
+use Rattle.tree.specs.Filled.{templatesFilled, treeFilled}
 use Rattle.tree.specs.laws.Parts.{templates-within}
 
 -- ---- the padding after the last list, which ends at p, and the end
@@ -71,22 +72,22 @@ module _ (s : List ℕ) where
 
   module _ (short : length s ≤ 65536) where
     pub count-cut : field s 0 8 ≡ refused 2 0 → TreeDone (Refused 2 (record { 0 = 0 })) (replicate 16384 0)
-    unfolding treeRead treeTold treeFilled then countFilled
+    unfolding treeRead treeTold treeFilled then countBy
     count-cut e = rw (le-leb (length s) 65536 short, e) (refl, refl)
 
     module _ {T p : ℕ} (counted : field s 0 8 ≡ got T p) where
       pub count-none : T < 1 → TreeDone (Refused 3 (record { 0 = 0 })) (replicate 16384 0)
-      unfolding treeRead treeTold treeFilled then countFilled
+      unfolding treeRead treeTold treeFilled then countBy
       count-none h = rw (le-leb (length s) 65536 short, counted, lt-leb 1 T h) (refl, refl)
 
       pub count-many : 64 < T → TreeDone (Refused 3 (record { 0 = 0 })) (replicate 16384 0)
-      unfolding treeRead treeTold treeFilled then countFilled
+      unfolding treeRead treeTold treeFilled then countBy
       count-many h = rw (le-leb (length s) 65536 short, counted, le-leb 1 T (omega arith), lt-leb T 64 h) (refl, refl)
 
       module _ (some : 1 ≤ T) (few : T ≤ 64) {r : TemplatesRead} {t : List ℕ} (told : r ≡ templatesTold (templatesAt s T 0 T p))
           (filled : t ≡ templatesFilled s T 0 T p (replicate 16384 0)) where
         table-filled : t ≡ treeFilled s
-        unfolding treeFilled countFilled
+        unfolding treeFilled countBy
         table-filled = rw (le-leb (length s) 65536 short, counted, le-leb 1 T some, le-leb T 64 few) filled
 
         file-on : treeRead s ≡ then (templatesAt s T 0 T p) (λ ts q. paddedEnd s ts q)
