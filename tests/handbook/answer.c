@@ -2,7 +2,9 @@
      flatten OUT HEX                 number, length or place, and the linear file in hex where it was accepted
      tree|linear BUDGET OWNER STORE FILL G CELL HEX
                                      a run with STORE store cells and all globals FILL, but for global G, which is CELL: the result's 8 slots, then
-                                     the cells used of stack, store and frames, and the globals that were changed, as G=CELL. Cells are in hex */
+                                     the cells used of stack, store and frames, and the globals that were changed, as G=CELL. Cells are in hex
+     pull BUDGET ROOM WORDS HEX      a list of ROOM bytes for the clips' WORDS, with a comma after each: number, length or place, and the list with _ for a
+                                     blank and a blank for a newline */
 #include "../../include/exporter.h"
 
 #include <inttypes.h>
@@ -62,14 +64,30 @@ static void answer_run(int tree, uint64_t budget, uint64_t owner, size_t cells, 
     printf("\n");
 }
 
+static void answer_pull(uint64_t budget, size_t room, const char *words, const char *hex)
+{
+    static int32_t clips[EXPORTER_CLIP_WORDS * (EXPORTER_CLIPS + 1)];
+    uint64_t result[2];
+    size_t count = 0;
+    for (char *next; *words != '\0' && strcmp(words, "-") != 0; words = next + 1)
+        clips[count++] = (int32_t)strtol(words, &next, 10);
+    exporter_pull_list(clips, count, file, read_hex(hex), budget, out, room, result, 2);
+    printf("%" PRIu64 " %" PRIu64 " ", result[0], result[1]);
+    for (size_t i = 0; result[0] == 0 && i < result[1]; i++)
+        putchar(out[i] == ' ' ? '_' : out[i] == '\n' ? ' ' : out[i]);
+    printf("\n");
+}
+
 int main(void)
 {
-    static char line[LINE], word[16], hex[LINE];
+    static char line[LINE], word[16], hex[LINE], words[LINE];
     while (fgets(line, LINE, stdin) != NULL) {
         uint64_t a, b, owner, fill, g, cell;
         sscanf(line, "%15s", word);
         if (strcmp(word, "flatten") == 0 && sscanf(line, "%*s %" SCNu64 " %s", &a, hex) == 2)
             answer_flatten(a, hex);
+        else if (strcmp(word, "pull") == 0 && sscanf(line, "%*s %" SCNu64 " %" SCNu64 " %s %s", &a, &b, words, hex) == 4)
+            answer_pull(a, b, words, hex);
         else if (sscanf(line, "%*s %" SCNu64 " %" SCNu64 " %" SCNu64 " %" SCNx64 " %" SCNu64 " %" SCNx64 " %s", &a, &owner, &b, &fill, &g, &cell, hex) == 7)
             answer_run(strcmp(word, "tree") == 0, a, owner, b, fill, (unsigned)g, cell, hex);
         else

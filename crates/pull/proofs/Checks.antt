@@ -25,7 +25,8 @@ use Rattle.cells.specs.declared.BitPlace.{BitPlace}
 use Rattle.text.specs.Put.{Put}
 use Rattle.pull.specs.declared.Pulled.{Pulled}
 use Rattle.pull.specs.declared.Pulled.the-variants.{Written, Refused as RefusedList}
-use Rattle.pull.specs.Pull.{clipCount, clipAt, word, wholeClips, lowestStill, speedsChecked, roomChecked, clipsChecked, fileChecked, andThen, pullChecked, pullList, answered, listed, pulled, pulledList, bytesOf}
+use Rattle.pull.specs.Pull.{clipCount, clipAt, word, wholeClips, lowestStill, speedsChecked, roomChecked, clipsChecked}
+use Rattle.pull.specs.Pull.{fileChecked, andThen, pullChecked, pullList, answered, listed, pulled, pulledList, bytesOf}
 use Rattle.pull.proofs.Words.{word-fits}
 use Rattle.pull.proofs.Clips.{clip-word}
 
@@ -78,7 +79,8 @@ module _ (cs : List ℤ) (b room : ℕ) where
     unfolding clipsChecked wholeClips clipCount
     whole = rw (le-leb (length cs / 8) 256 h, eq-eqb (length cs % 8) 0 k)
 
-    pub no-speed : (x : Checked) (n p : ℕ) → x ≡ speedsChecked (lowestStill cs 0 (clipCount cs)) Accepted → x ≡ Refused n p → Refused n p ≡ clipsChecked cs b room
+    pub no-speed : (x : Checked) (n p : ℕ) → x ≡ speedsChecked (lowestStill cs 0 (clipCount cs)) Accepted → x ≡ Refused n p
+        → Refused n p ≡ clipsChecked cs b room
     unfolding speedsChecked
     no-speed x n p e d = rw whole (by (lowestStill cs 0 (clipCount cs)) (sym d ∙ e))
       where
@@ -86,7 +88,8 @@ module _ (cs : List ℤ) (b room : ℕ) where
         by none e = clash (cc)
         by (some j) e = e
 
-    pub speeds : (x y : Checked) → x ≡ speedsChecked (lowestStill cs 0 (clipCount cs)) Accepted → x ≡ Accepted → y ≡ roomChecked (length cs / 8) b room → y ≡ clipsChecked cs b room
+    pub speeds : (x y : Checked) → x ≡ speedsChecked (lowestStill cs 0 (clipCount cs)) Accepted → x ≡ Accepted → y ≡ roomChecked (length cs / 8) b room
+        → y ≡ clipsChecked cs b room
     unfolding speedsChecked clipCount
     speeds x y e d r = rw whole (by (lowestStill cs 0 (clipCount cs)) (sym d ∙ e))
       where
@@ -146,6 +149,6 @@ module _ (cs : List ℤ) (file : List ℕ) (b : ℕ) (old : List ℕ) where
         checked : pullChecked cs file b (length old) ≡ Accepted
         checked = rw (h, e)
 
-        answer : pullChecked cs file b (length old) ≡ Accepted → r ≡ length (pullList cs file b) → new ≡ pullList cs file b ++ drop (length (pullList cs file b)) old
-            → r ≤ 44 * (length cs / 8) → Answer cs file b old new (Written r)
+        answer : pullChecked cs file b (length old) ≡ Accepted → r ≡ length (pullList cs file b)
+            → new ≡ pullList cs file b ++ drop (length (pullList cs file b)) old → r ≤ 44 * (length cs / 8) → Answer cs file b old new (Written r)
         answer d l k s = (rw d (ap Written l), (rw d k, s))

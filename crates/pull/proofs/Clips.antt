@@ -92,6 +92,7 @@ pub one-line-more : {x y z : List ℕ} {at r : ℕ} (cs : List ℤ) (file : List
 unfolding pullLines
 one-line-more cs file b k p q = rw (add-one k) (put-then p q)
 
-pub all-lines : {x y : List ℕ} {r : ℕ} (cs : List ℤ) (file : List ℕ) (b k : ℕ) → k ≡ clipCount cs → Put x 0 y r (pullLines cs file b k) → Put x 0 y r (pullList cs file b)
+pub all-lines : {x y : List ℕ} {r : ℕ} (cs : List ℤ) (file : List ℕ) (b k : ℕ) → k ≡ clipCount cs → Put x 0 y r (pullLines cs file b k)
+    → Put x 0 y r (pullList cs file b)
 unfolding pullList
 all-lines cs file b k e p = rw e at p

@@ -95,4 +95,5 @@ pub put-found : {a b c : List ℕ} {at l m : ℕ} (k : ℕ) (clip : List ℤ) (f
     → Put b l c m (line (endWords clip (f .end) (f .six) (f .seven))) → Put a at c m (foundLine k clip f)
 unfolding foundLine
 put-found k clip f p q =
-    rw (words-follow (decimal k) (endWords clip (f .end) (f .six) (f .seven)) (end-some clip (f .end) (f .six) (f .seven))) (simp append-assoc at (put-then p q))
+    let follow = words-follow (decimal k) (endWords clip (f .end) (f .six) (f .seven)) (end-some clip (f .end) (f .six) (f .seven)) in
+    rw follow (simp append-assoc at (put-then p q))

@@ -12,7 +12,9 @@ owner-of-requires : tie.Need-owner-of-requires
 owner-of-requires c κs = search needs
 
 run-read-requires : tie.Need-run-read-requires
-run-read-requires c κs = let start = c .before .before .before .before .before .before .before .before .before .before .before in (startable _ _ _ _ (start .pre .1), again-within _ _ (start .pre .0))
+run-read-requires c κs =
+    let p = c .before .before .before .before .before .before .before .before .before .before .before .pre in
+    (startable _ _ _ _ (p .1), again-within _ _ (p .0))
 
 same-length : tie.Need-same-length
 same-length c = search needs
@@ -29,10 +31,12 @@ same-length-4 c = search needs
 returns : tie.Need-returns
 unfolding linearRun
 returns c =
-    let known = c .before .before .before .before .before .before .before .before .before .before .before .before .before .before .before .before .before .before .before in
-    let run = again-ran _ _ (known .before .pre .0) _ _ _ _ (λ i. omega (arith, known .shared-slice-known .given i)) (c .before .before .before .before .before .before .before .before .run-read .ensures) in
-    file-owned _ (known .before .args .owner) _ _ _ _ (c .before .before .before .before .before .before .before .before .before .before .before .before .before .owner-of .ensures) run
-    ∙ sym (started-go _ _ _ _ _ (known .before .pre .1))
+    let run = c .before .before .before .before .before .before .before .before in
+    let known = run .before .before .before .before .before .before .before .before .before .before .before in
+    let p = known .before .pre in
+    let done = again-ran _ _ (p .0) _ _ _ _ (λ i. omega (arith, known .shared-slice-known .given i)) (run .run-read .ensures) in
+    file-owned _ (known .before .args .owner) _ _ _ _ (run .before .before .before .before .before .owner-of .ensures) done
+    ∙ sym (started-go _ _ _ _ _ (p .1))
 
 pub run-again-spec : {M : Type 1} → statement M
 run-again-spec =

@@ -23,10 +23,14 @@ enum-known-number : tie.Need-enum-known-number
 enum-known-number c = search needs
 
 returns-3 : tie.Need-returns-3
-returns-3 c = speeds _ _ _ (c .before .before .before .before .before .if1 .left) (c .before .before .before .before .if2 .left) _ _ (c .before .before .before .check-speeds .ensures) (c .before .enum-told .given .1) (c .check-room .ensures)
+returns-3 c =
+    let asked = c .before .before .before in
+    speeds _ _ _ (asked .before .before .if1 .left) (asked .before .if2 .left) _ _ (asked .check-speeds .ensures) (c .before .enum-told .given .1) (c .check-room .ensures)
 
 returns-4 : tie.Need-returns-4
-returns-4 c = no-speed _ _ _ (c .before .before .before .before .before .if1 .left) (c .before .before .before .before .if2 .left) _ _ _ (c .before .before .before .check-speeds .ensures) (c .before .number .given .1)
+returns-4 c =
+    let asked = c .before .before .before in
+    no-speed _ _ _ (asked .before .before .if1 .left) (asked .before .if2 .left) _ _ _ (asked .check-speeds .ensures) (c .before .number .given .1)
 
 pub check-clips-spec : {M : Type 1} → statement M
 check-clips-spec =

@@ -51,9 +51,10 @@ same-length-5 c = search needs
 
 returns : tie.Need-returns
 returns c =
-    let start = c .before .before .before .before .before .before .before .before .before .before .before .before .before .before .before .before .before .before .before .before .before .before .before .before .before in
+    let run = c .before .before .before .before .before .before .before .before .before .before .before .before in
+    let start = run .before .before .before .before .before .before .before .before .before .before .before .before .before in
     let is = clip-part (start .args .clips .now) (start .args .k) in
-    let found = rw is at (c .before .before .before .before .before .before .before .before .before .before .before .before .run-clip .ensures) in
+    let found = rw is at (run .run-clip .ensures) in
     (put-clip _ _ _ _ found (rw is at (c .before .before .put-line .ensures .0)), c .before .before .put-line .ensures .1)
 
 pub pull-clip-spec : {M : Type 1} → statement M

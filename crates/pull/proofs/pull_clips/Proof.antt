@@ -20,7 +20,9 @@ abbrev μ-loop : tie.MeasureT-loop
 μ-loop clips file table budget globals₀ stack₀ store₀ frames₀ list₀ count k₀ at₀ globals stack store frames list k at = count - k
 
 loop-holds : tie.Need-loop-holds Inv-loop μ-loop
-loop-holds c = let p = c .before .before .before .before .before .before .before .pre in (omega arith, search needs, p .1 .0, p .1 .1, p .1 .2, p .1 .3, search needs, omega arith, no-lines _ _ _ _)
+loop-holds c =
+    let p = c .before .before .before .before .before .before .before .pre in
+    (omega arith, search needs, p .1 .0, p .1 .1, p .1 .2, p .1 .3, search needs, omega arith, no-lines _ _ _ _)
 
 pull-clip-requires : tie.Need-pull-clip-requires Inv-loop μ-loop
 pull-clip-requires c κs =
@@ -33,13 +35,16 @@ add-k : tie.Need-add-k Inv-loop μ-loop
 add-k c = search needs
 
 loop-less : tie.Need-loop-less Inv-loop μ-loop
-loop-less c = omega (arith, c .before .before .before .before .before .before .before .before .before .before .before .before .before .before .before .before .loop-test, c .before .before .before .before .before .before .before .before .before .before .before .before .before .before .before .before .before .loop .inv)
+loop-less c =
+    let call = c .before .before .before .before .before .before .before .before .before .before in
+    omega (arith, call .before .before .before .before .before .before .loop-test, call .before .before .before .before .before .before .before .loop .inv)
 
 loop-again : tie.Need-loop-again Inv-loop μ-loop
 loop-again c =
-    let i = c .before .before .before .before .before .before .before .before .before .before .before .before .before .before .before .before .before .loop .inv in
-    let k = c .before .before .before .before .before .before .before .before .before .before .pull-clip in (
-      omega (arith, c .before .before .before .before .before .before .before .before .before .before .before .before .before .before .before .before .loop-test, i),
+    let call = c .before .before .before .before .before .before .before .before .before .before in
+    let i = call .before .before .before .before .before .before .before .loop .inv in
+    let k = call .pull-clip in (
+      omega (arith, call .before .before .before .before .before .before .loop-test, i),
       i .1,
       omega (arith, k .kept, i),
       omega (arith, k .kept, i),

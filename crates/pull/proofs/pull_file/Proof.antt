@@ -25,7 +25,8 @@ unfolding zeros
 pull-read-requires c κs =
     let read = c .before .before .before .before .before in
     let f = accepted-fit _ _ _ (read .before .before .before .before .pre) in
-    (f .few, f .room-for, record { count = _; read = sym (read .read-linear .ensures .0) ∙ c .before .before .enum-told .given .1; filled = read .read-linear .ensures .1 }, f .small)
+    let was = sym (read .read-linear .ensures .0) ∙ c .before .before .enum-told .given .1 in
+    (f .few, f .room-for, record { count = _; read = was; filled = read .read-linear .ensures .1 }, f .small)
 
 enum-known-number : tie.Need-enum-known-number
 enum-known-number c = search needs
@@ -39,12 +40,15 @@ same-length c = search needs
 returns : tie.Need-returns
 returns c =
     let read = c .before .before .before .before .before .before .before .before in
-    all-pulled _ _ _ _ (read .before .before .before .before .pre) _ _ _ (sym (read .read-linear .ensures .0) ∙ c .before .before .before .before .before .enum-told .given .1) (c .before .before .pull-read .ensures .0) (c .before .before .pull-read .ensures .1)
+    let was = sym (read .read-linear .ensures .0) ∙ c .before .before .before .before .before .enum-told .given .1 in
+    let done = c .before .before .pull-read .ensures in
+    all-pulled _ _ _ _ (read .before .before .before .before .pre) _ _ _ was (done .0) (done .1)
 
 returns-2 : tie.Need-returns-2
 returns-2 c =
     let read = c .before .before .before .before .before in
-    file-refused _ _ _ _ (read .before .before .before .before .pre) _ _ _ (sym (read .read-linear .ensures .0) ∙ c .before .before .number .given .1) (c .number2 .ensures)
+    let was = sym (read .read-linear .ensures .0) ∙ c .before .before .number .given .1 in
+    file-refused _ _ _ _ (read .before .before .before .before .pre) _ _ _ was (c .number2 .ensures)
 
 pub pull-file-spec : {M : Type 1} → statement M
 pull-file-spec =

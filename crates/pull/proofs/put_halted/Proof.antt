@@ -21,7 +21,9 @@ same-length c = search needs
 
 returns : tie.Need-returns
 unfolding line
-returns c = (rw (no-in _ _ _ (λ e. c .before .before .before .before .before .if1 .taken (c .before .before .before .before .before .before .tag-of .ensures ∙ e))) (c .before .before .put-bytes .ensures), omega arith)
+returns c =
+    let one = c .before .before .before .before .before in
+    (rw (no-in _ _ _ (λ e. one .if1 .taken (one .before .tag-of .ensures ∙ e))) (c .before .before .put-bytes .ensures), omega arith)
 
 tag-of-requires-2 : tie.Need-tag-of-requires-2
 tag-of-requires-2 c κs = search needs
@@ -37,7 +39,11 @@ same-length-2 c = search needs
 
 returns-2 : tie.Need-returns-2
 unfolding line
-returns-2 c = (rw (no-out _ _ _ (sym (c .before .before .before .before .before .before .before .before .tag-of .ensures) ∙ c .before .before .before .before .before .before .before .if1 .left) (λ e. c .before .before .before .before .before .if2 .taken (c .before .before .before .before .before .before .tag-of2 .ensures ∙ e))) (c .before .before .put-bytes2 .ensures), omega arith)
+returns-2 c =
+    let two = c .before .before .before .before .before in
+    let one = two .before .before in
+    let tag = sym (one .before .tag-of .ensures) ∙ one .if1 .left in
+    (rw (no-out _ _ _ tag (λ e. two .if2 .taken (two .before .tag-of2 .ensures ∙ e))) (c .before .before .put-bytes2 .ensures), omega arith)
 
 int-of-requires : tie.Need-int-of-requires
 int-of-requires c κs = search needs
@@ -53,8 +59,11 @@ same-length-3 c = search needs
 
 returns-3 : tie.Need-returns-3
 returns-3 c =
+    let two = c .before .before .before .before .before .before in
+    let one = two .before .before in
+    let tag = sym (one .before .tag-of .ensures) ∙ one .if1 .left in
     let range = rw (c .before .before .before .before .int-of .ensures, c .before .before .before .int-of2 .ensures) at (c .before .before .put-range .ensures .0) in
-    (rw (both _ _ _ (sym (c .before .before .before .before .before .before .before .before .before .tag-of .ensures) ∙ c .before .before .before .before .before .before .before .before .if1 .left) (sym (c .before .before .before .before .before .before .before .tag-of2 .ensures) ∙ c .before .before .before .before .before .before .if2 .left)) range, omega arith)
+    (rw (both _ _ _ tag (sym (two .before .tag-of2 .ensures) ∙ two .if2 .left)) range, omega arith)
 
 pub put-halted-spec : {M : Type 1} → statement M
 put-halted-spec =

@@ -22,7 +22,8 @@ returns : tie.Need-returns
 returns c =
     let number = c .before .before .before .before .before .before in
     let p = number .put-number .ensures .0 in
-    (put-found _ _ _ p (c .before .before .put-end .ensures .0), omega (arith, number-after _ (number .before .before .before .pre .0) p, c .before .before .put-end .ensures .1))
+    let rest = c .before .before .put-end .ensures in
+    (put-found _ _ _ p (rest .0), omega (arith, number-after _ (number .before .before .before .pre .0) p, rest .1))
 
 pub put-line-spec : {M : Type 1} → statement M
 put-line-spec = tie.close (tie.spec put-number-requires put-end-requires same-length returns)

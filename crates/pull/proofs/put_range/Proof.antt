@@ -24,7 +24,8 @@ same-length c = search needs
 returns : tie.Need-returns
 unfolding sourceWords
 returns c =
-    let word = rw (c .before .before .before .before .before .before .before .before .before .word-bits .ensures .1 .1, c .before .before .before .before .before .before .before .before .word-bits2 .ensures .1 .1) at (c .before .before .before .before .before .before .put-verdict .ensures .0) in
+    let words = c .before .before .before .before .before .before .before .before in
+    let word = rw (words .before .word-bits .ensures .1 .1, words .word-bits2 .ensures .1 .1) at (c .before .before .before .before .before .before .put-verdict .ensures .0) in
     (put-before _ _ _ word (c .before .before .put-source .ensures .0), omega arith)
 
 pub put-range-spec : {M : Type 1} → statement M

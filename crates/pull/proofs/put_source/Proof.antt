@@ -15,13 +15,19 @@ put-byte-requires c κs = search needs
 put-integer-requires-2 : tie.Need-put-integer-requires-2
 put-integer-requires-2 c κs =
     let one = c .before .before .before .before .before .before .before in
-    omega (arith, one .put-integer .ensures .0 .next, integer-short (one .before .before .before .args .i), put-length (one .put-integer .ensures .0), c .before .before .before .put-byte .ensures .next, put-length (c .before .before .before .put-byte .ensures))
+    let p = one .put-integer .ensures .0 in
+    let q = c .before .before .before .put-byte .ensures in
+    omega (arith, p .next, integer-short (one .before .before .before .args .i), put-length p, q .next, put-length q)
 
 put-byte-requires-2 : tie.Need-put-byte-requires-2
 put-byte-requires-2 c κs =
     let one = c .before .before .before .before .before .before .before .before .before .before .before in
-    let two = c .before .before .before in
-    omega (arith, one .put-integer .ensures .0 .next, integer-short (one .before .before .before .args .i), put-length (one .put-integer .ensures .0), c .before .before .before .before .before .before .before .put-byte .ensures .next, put-length (c .before .before .before .before .before .before .before .put-byte .ensures), two .put-integer2 .ensures .0 .next, integer-short (one .before .before .before .args .o), put-length (two .put-integer2 .ensures .0))
+    let p = one .put-integer .ensures .0 in
+    let q = c .before .before .before .before .before .before .before .put-byte .ensures in
+    let r = c .before .before .before .put-integer2 .ensures .0 in
+    let i = integer-short (one .before .before .before .args .i) in
+    let o = integer-short (one .before .before .before .args .o) in
+    omega (arith, p .next, i, put-length p, q .next, put-length q, r .next, o, put-length r)
 
 same-length : tie.Need-same-length
 same-length c = search needs
@@ -29,10 +35,13 @@ same-length c = search needs
 returns : tie.Need-returns
 returns c =
     let one = c .before .before .before .before .before .before .before .before .before .before .before .before .before .before in
-    let two = c .before .before .before .before .before .before in (
-      put-two _ _ (put-then (one .put-integer .ensures .0) (c .before .before .before .before .before .before .before .before .before .before .put-byte .ensures)) (put-then (two .put-integer2 .ensures .0) (c .before .before .put-byte2 .ensures)),
-      omega (arith, one .put-integer .ensures .0 .next, integer-short (one .before .before .before .args .i), c .before .before .before .before .before .before .before .before .before .before .put-byte .ensures .next, two .put-integer2 .ensures .0 .next, integer-short (one .before .before .before .args .o), c .before .before .put-byte2 .ensures .next),
-    )
+    let p = one .put-integer .ensures .0 in
+    let q = c .before .before .before .before .before .before .before .before .before .before .put-byte .ensures in
+    let r = c .before .before .before .before .before .before .put-integer2 .ensures .0 in
+    let s = c .before .before .put-byte2 .ensures in
+    let i = integer-short (one .before .before .before .args .i) in
+    let o = integer-short (one .before .before .before .args .o) in
+    (put-two _ _ (put-then p q) (put-then r s), omega (arith, p .next, i, q .next, r .next, o, s .next))
 
 pub put-source-spec : {M : Type 1} → statement M
 put-source-spec =

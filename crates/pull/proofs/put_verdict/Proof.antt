@@ -1,6 +1,7 @@
 -- `pull::put_verdict` meets its contract: by three comparisons, in their order. Assumes nothing.
 use native.Mathlib.Omega.{arith}
 use mathlib.Core.Path.{sym, _∙_}
+use Rattle.integers.specs.Integers.{signed}
 use Rattle.pull.proofs.Lines.{verdict-order, verdict-low, verdict-high, verdict-ok}
 use borrow.Author.Needs.{needs}
 use Rattle.pull.proofs.put_verdict.Statement.{statement}
@@ -19,7 +20,10 @@ same-length : tie.Need-same-length
 same-length c = search needs
 
 returns : tie.Need-returns
-returns c = (rw (verdict-order _ _ _ _ (sym (c .before .before .before .before .before .before .less .ensures) ∙ c .before .before .before .before .before .if1 .taken)) (c .before .before .put-word .ensures), omega arith)
+returns c =
+    let one = c .before .before .before .before .before in
+    let a = one .before .before .before .args in
+    (rw (verdict-order (signed (a .i)) (signed (a .o)) (signed (a .first)) (signed (a .last)) (sym (one .before .less .ensures) ∙ one .if1 .taken)) (c .before .before .put-word .ensures), omega arith)
 
 less-requires-2 : tie.Need-less-requires-2
 less-requires-2 c κs = search needs
@@ -34,7 +38,12 @@ same-length-2 : tie.Need-same-length-2
 same-length-2 c = search needs
 
 returns-2 : tie.Need-returns-2
-returns-2 c = (rw (verdict-low _ _ _ _ (sym (c .before .before .before .before .before .before .before .before .less .ensures) ∙ c .before .before .before .before .before .before .before .if1 .left) (sym (c .before .before .before .before .before .before .less2 .ensures) ∙ c .before .before .before .before .before .if2 .taken)) (c .before .before .put-word2 .ensures), omega arith)
+returns-2 c =
+    let two = c .before .before .before .before .before in
+    let one = two .before .before in
+    let a = one .before .before .before .args in
+    let known = verdict-low (signed (a .i)) (signed (a .o)) (signed (a .first)) (signed (a .last)) (sym (one .before .less .ensures) ∙ one .if1 .left) (sym (two .before .less2 .ensures) ∙ two .if2 .taken) in
+    (rw known (c .before .before .put-word2 .ensures), omega arith)
 
 less-requires-3 : tie.Need-less-requires-3
 less-requires-3 c κs = search needs
@@ -49,7 +58,14 @@ same-length-3 : tie.Need-same-length-3
 same-length-3 c = search needs
 
 returns-3 : tie.Need-returns-3
-returns-3 c = (rw (verdict-high _ _ _ _ (sym (c .before .before .before .before .before .before .before .before .before .before .less .ensures) ∙ c .before .before .before .before .before .before .before .before .before .if1 .left) (sym (c .before .before .before .before .before .before .before .before .less2 .ensures) ∙ c .before .before .before .before .before .before .before .if2 .left) (sym (c .before .before .before .before .before .before .less3 .ensures) ∙ c .before .before .before .before .before .if3 .taken)) (c .before .before .put-word3 .ensures), omega arith)
+returns-3 c =
+    let three = c .before .before .before .before .before in
+    let two = three .before .before in
+    let one = two .before .before in
+    let a = one .before .before .before .args in
+    let first = sym (one .before .less .ensures) ∙ one .if1 .left in
+    let second = sym (two .before .less2 .ensures) ∙ two .if2 .left in
+    (rw (verdict-high (signed (a .i)) (signed (a .o)) (signed (a .first)) (signed (a .last)) first second (sym (three .before .less3 .ensures) ∙ three .if3 .taken)) (c .before .before .put-word3 .ensures), omega arith)
 
 slice-aggregate-put-word-4 : tie.Need-slice-aggregate-put-word-4
 slice-aggregate-put-word-4 c = search needs
@@ -61,7 +77,14 @@ same-length-4 : tie.Need-same-length-4
 same-length-4 c = search needs
 
 returns-4 : tie.Need-returns-4
-returns-4 c = (rw (verdict-ok _ _ _ _ (sym (c .before .before .before .before .before .before .before .before .before .before .less .ensures) ∙ c .before .before .before .before .before .before .before .before .before .if1 .left) (sym (c .before .before .before .before .before .before .before .before .less2 .ensures) ∙ c .before .before .before .before .before .before .before .if2 .left) (sym (c .before .before .before .before .before .before .less3 .ensures) ∙ c .before .before .before .before .before .if3 .left)) (c .before .before .put-word4 .ensures), omega arith)
+returns-4 c =
+    let three = c .before .before .before .before .before in
+    let two = three .before .before in
+    let one = two .before .before in
+    let a = one .before .before .before .args in
+    let first = sym (one .before .less .ensures) ∙ one .if1 .left in
+    let second = sym (two .before .less2 .ensures) ∙ two .if2 .left in
+    (rw (verdict-ok (signed (a .i)) (signed (a .o)) (signed (a .first)) (signed (a .last)) first second (sym (three .before .less3 .ensures) ∙ three .if3 .left)) (c .before .before .put-word4 .ensures), omega arith)
 
 pub put-verdict-spec : {M : Type 1} → statement M
 put-verdict-spec =

@@ -36,7 +36,11 @@ same-length-4 c = search needs
 
 returns : tie.Need-returns
 unfolding foundOf
-returns c = run-found _ _ _ _ _ _ _ _ (c .before .before .before .before .before .before .before .before .before .before .before .before .before .before .before .before .before .set-globals .ensures .0) (c .before .before .before .before .before .before .before .before .before .before .before .before .before .before .before .before .before .before .before .before .before .before .before .before .before .pre .1 .1) (c .before .before .before .before .before .before .before .before .before .before .before .before .before .before .before .before .before .before .before .before .before .before .before .before .before .pre .1 .2) (c .before .before .before .before .before .before .before .before .before .before .before .before .before .before .before .before .before .before .before .before .before .before .before .before .before .pre .1 .3) (c .before .before .before .before .before .before .before .before .before .before .run-again .ensures)
+returns c =
+    let run = c .before .before .before .before .before .before .before .before .before .before in
+    let set = run .before .before .before .before .before .before .before in
+    let p = set .before .before .before .before .before .before .before .before .pre .1 in
+    run-found _ _ _ _ _ _ _ _ (set .set-globals .ensures .0) (p .1) (p .2) (p .3) (run .run-again .ensures)
 
 pub run-clip-spec : {M : Type 1} → statement M
 run-clip-spec =

@@ -19,34 +19,46 @@ word-cell-requires-2 : tie.Need-word-cell-requires-2
 word-cell-requires-2 c κs = search needs
 
 slice-write-globals-2 : tie.Need-slice-write-globals-2
-slice-write-globals-2 c = simp length-set (omega (arith, c .before .before .before .before .undefine .kept, c .before .before .before .before .before .before .before .pre))
+slice-write-globals-2 c =
+    let all = c .before .before .before .before in
+    simp length-set (omega (arith, all .undefine .kept, all .before .before .before .pre))
 
 word-cell-requires-3 : tie.Need-word-cell-requires-3
 word-cell-requires-3 c κs = search needs
 
 slice-write-globals-3 : tie.Need-slice-write-globals-3
-slice-write-globals-3 c = simp length-set (omega (arith, c .before .before .before .before .before .undefine .kept, c .before .before .before .before .before .before .before .before .pre))
+slice-write-globals-3 c =
+    let all = c .before .before .before .before .before in
+    simp length-set (omega (arith, all .undefine .kept, all .before .before .before .pre))
 
 word-cell-requires-4 : tie.Need-word-cell-requires-4
 word-cell-requires-4 c κs = search needs
 
 slice-write-globals-4 : tie.Need-slice-write-globals-4
-slice-write-globals-4 c = simp length-set (omega (arith, c .before .before .before .before .before .before .undefine .kept, c .before .before .before .before .before .before .before .before .before .pre))
+slice-write-globals-4 c =
+    let all = c .before .before .before .before .before .before in
+    simp length-set (omega (arith, all .undefine .kept, all .before .before .before .pre))
 
 word-cell-requires-5 : tie.Need-word-cell-requires-5
 word-cell-requires-5 c κs = search needs
 
 slice-write-globals-5 : tie.Need-slice-write-globals-5
-slice-write-globals-5 c = simp length-set (omega (arith, c .before .before .before .before .before .before .before .undefine .kept, c .before .before .before .before .before .before .before .before .before .before .pre))
+slice-write-globals-5 c =
+    let all = c .before .before .before .before .before .before .before in
+    simp length-set (omega (arith, all .undefine .kept, all .before .before .before .pre))
 
 word-cell-requires-6 : tie.Need-word-cell-requires-6
 word-cell-requires-6 c κs = search needs
 
 slice-write-globals-6 : tie.Need-slice-write-globals-6
-slice-write-globals-6 c = simp length-set (omega (arith, c .before .before .before .before .before .before .before .before .undefine .kept, c .before .before .before .before .before .before .before .before .before .before .before .pre))
+slice-write-globals-6 c =
+    let all = c .before .before .before .before .before .before .before .before in
+    simp length-set (omega (arith, all .undefine .kept, all .before .before .before .pre))
 
 same-length : tie.Need-same-length
-same-length c = simp length-set (omega (arith, c .before .before .before .before .before .before .before .before .undefine .kept, c .before .before .before .before .before .before .before .before .before .before .before .pre))
+same-length c =
+    let all = c .before .before .before .before .before .before .before .before in
+    simp length-set (omega (arith, all .undefine .kept, all .before .before .before .pre))
 
 returns : tie.Need-returns
 returns c =

@@ -11,7 +11,9 @@ use Rattle.pull.proofs.undefine.Statement.{statement}
 use Rattle.pull.proofs.undefine.Tie as tie
 
 abbrev Inv-loop : tie.InvT-loop
-Inv-loop globals₀ i₀ globals i = (i ≤ length globals) × (length globals ≡ length globals₀) × (sets globals i (replicate (256 - i) undefinedCell) ≡ sets globals₀ 0 (replicate 256 undefinedCell))
+Inv-loop globals₀ i₀ globals i =
+    (i ≤ length globals) × (length globals ≡ length globals₀)
+    × (sets globals i (replicate (256 - i) undefinedCell) ≡ sets globals₀ 0 (replicate 256 undefinedCell))
 
 abbrev μ-loop : tie.MeasureT-loop
 μ-loop globals₀ i₀ globals i = length globals - i
@@ -34,13 +36,18 @@ loop-less c = simp length-set (omega arith)
 loop-again : tie.Need-loop-again Inv-loop μ-loop
 loop-again c =
     let h = c .before .loop in
-    (simp length-set (omega arith), simp length-set (omega (arith, h .inv)), fill-on (h .globals) (h .i) 256 undefinedCell (omega (arith, h .inv, c .before .before .pre, c .loop-test)) ∙ h .inv .2)
+    let more = fill-on (h .globals) (h .i) 256 undefinedCell (omega (arith, h .inv, c .before .before .pre, c .loop-test)) in
+    (simp length-set (omega arith), simp length-set (omega (arith, h .inv)), more ∙ h .inv .2)
 
 same-length : tie.Need-same-length Inv-loop μ-loop
 same-length c = search needs
 
 returns : tie.Need-returns Inv-loop μ-loop
-returns c = sym (fill-done (c .before .loop .globals) (c .before .loop .i) 256 undefinedCell (omega (arith, c .before .loop .inv, c .before .before .pre, c .loop-test))) ∙ c .before .loop .inv .2 ∙ fill-all (c .before .before .args .globals .now) 256 undefinedCell (c .before .before .pre)
+returns c =
+    let h = c .before .loop in
+    let start = c .before .before in
+    let done = fill-done (h .globals) (h .i) 256 undefinedCell (omega (arith, h .inv, start .pre, c .loop-test)) in
+    sym done ∙ h .inv .2 ∙ fill-all (start .args .globals .now) 256 undefinedCell (start .pre)
 
 pub undefine-spec : {M : Type 1} → statement M
 undefine-spec =

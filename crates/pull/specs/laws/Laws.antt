@@ -30,8 +30,8 @@ ok-verdict : (i o first last : ℤ) → verdict i o first last ≡ okWord → Wi
 unfolding verdict
 ok-verdict i o first last = by (ltZ o i) (ltZ i first) (ltZ last o) refl refl refl
   where
-    by : (x y z : Bool) → ltZ o i ≡ x → ltZ i first ≡ y → ltZ last o ≡ z → cond x orderWord (cond y lowWord (cond z highWord okWord)) ≡ okWord
-        → Within i o first last
+    by : (x y z : Bool) → ltZ o i ≡ x → ltZ i first ≡ y → ltZ last o ≡ z
+        → cond x orderWord (cond y lowWord (cond z highWord okWord)) ≡ okWord → Within i o first last
     by true y z a b c e = absurd (let n : length orderWord ≡ length okWord = ap length e in omega arith)
     by false true z a b c e = absurd (let n : length lowWord ≡ length okWord = ap length e in omega arith)
     by false false true a b c e = absurd (let n : length highWord ≡ length okWord = ap length e in omega arith)

@@ -16,9 +16,8 @@ use Rattle.linear.specs.declared.Checked.the-variants.{Accepted}
 use Rattle.machines.specs.declared.End.{End}
 use Rattle.machines.specs.declared.End.the-variants.{Halted, Wrong, OutOfBudget, Refused}
 use Rattle.pull.specs.declared.Found.{Found}
-use Rattle.pull.specs.Pull.{clipCount, clipAt, word, okWord, orderWord, lowWord, highWord, noneWord, wrongWord, verdict, sourceWords, haltedWords}
-use Rattle.pull.specs.Pull.{endWords}
-use Rattle.pull.specs.Pull.{foundLine, clipRun, pullLine, pullLines, pullList, pullChecked, listed, pulledList}
+use Rattle.pull.specs.Pull.{clipCount, clipAt, word, okWord, orderWord, lowWord, highWord, noneWord, wrongWord, verdict, sourceWords}
+use Rattle.pull.specs.Pull.{haltedWords, endWords, foundLine, clipRun, pullLine, pullLines, pullList, pullChecked, listed, pulledList}
 
 -- ---- the lines of a text, each with its newline
 unfoldable pub firstLine : List ℕ → List ℕ
@@ -157,8 +156,8 @@ module _ (cs : List ℤ) (file : List ℕ) (b : ℕ) where
   unfolding afterLines pullLines
   all-after zero r = refl
   all-after (suc k) r =
-      ap (λ (s : List ℕ). afterLine (afterLines k s)) (append-assoc (pullLines cs file b k) (this k) r) ∙ ap afterLine (all-after k (this k ++ r))
-      ∙ after-is k r
+      ap (λ (s : List ℕ). afterLine (afterLines k s)) (append-assoc (pullLines cs file b k) (this k) r)
+      ∙ ap afterLine (all-after k (this k ++ r)) ∙ after-is k r
 
   -- in the lines of n clips, whatever follows them
   line-among : (n k : ℕ) (r : List ℕ) → k < n → lineAt k (pullLines cs file b n ++ r) ≡ this k
