@@ -22,28 +22,28 @@ pub struct Past {
     pub front: usize,
 }
 
-// The byte that the bits from p to `end` begin with; bits that are not there are zero.
-fn first_byte(s: &[u8], p: usize, end: usize) -> u8
-    requires { ⌜ (length (now s) ≤ 65536) × (p < end) × (end ≤ 8 * length (now s)) ⌝ }
-    ensures { λ r. ⌜ r ≡ byteOf (bitsFrom (now (s .entry)) p (end - p)) ⌝ }
+// The byte that the bits from a place to `end` begin with; bits that are not there are zero.
+fn first_byte(s: &[u8], at: BitPlace, end: BitPlace) -> u8
+    requires { ⌜ (length (now s) ≤ 65536) × (at .0 < end .0) × (end .0 ≤ 8 * length (now s)) ⌝ }
+    ensures { λ r. ⌜ r ≡ byteOf (bitsFrom (now (s .entry)) (at .0) (end .0 - at .0)) ⌝ }
 {
-    let n = end - p;
+    let n = end.since(at);
     if n < 8 {
-        return (fields::bits_at(s, BitPlace(p), n) << (8 - n)) as u8;
+        return (fields::bits_at(s, at, n) << (8 - n)) as u8;
     }
-    fields::bits_at(s, BitPlace(p), 8) as u8
+    fields::bits_at(s, at, 8) as u8
 }
 
-// The bits from p to `end` as bytes, with zero bits to the last byte.
-fn write_bits(s: &[u8], p: usize, end: usize, out: &mut [u8], front: usize)
-    requires { ⌜ (length (now s) ≤ 65536) × (end ≤ 8 * length (now s)) × (front + (end - p + 7) / 8 ≤ length (now out)) ⌝ }
-    ensures { λ _. ⌜ now (out .exit) ≡ sets (now (out .entry)) front (bytesOf (bitsFrom (now (s .entry)) p (end - p))) ⌝ }
+// The bits from a place to `end` as bytes, with zero bits to the last byte.
+fn write_bits(s: &[u8], at: BitPlace, end: BitPlace, out: &mut [u8], front: usize)
+    requires { ⌜ (length (now s) ≤ 65536) × (end .0 ≤ 8 * length (now s)) × (front + (end .0 - at .0 + 7) / 8 ≤ length (now out)) ⌝ }
+    ensures { λ _. ⌜ now (out .exit) ≡ sets (now (out .entry)) front (bytesOf (bitsFrom (now (s .entry)) (at .0) (end .0 - at .0))) ⌝ }
 {
-    let mut here = p;
+    let mut here = at;
     let mut f = front;
-    while here < end {
+    while here.before(end) {
         out[f] = first_byte(s, here, end);
-        here += 8;
+        here = here.past(8);
         f += 1;
     }
 }
@@ -72,17 +72,15 @@ fn write_template(
     ensures { λ r. ⌜ ((w : TemplateToWrite (now (s .entry)) (now (table .entry)) own (at .0) front (length (now (out .entry))))
         → TemplateDone w r (now (out .entry)) (now (out .exit))) ⌝ }
 {
-    let p = at.0;
-    let slot = 256 * own;
-    let start = table[slot] as usize;
-    let code = emit::measure(s, table, own, BitPlace(start), 15);
-    let size = code.size;
-    out[front] = fields::bits_at(s, BitPlace(p), 8) as u8;
-    write_bits(s, p + 8, start, out, front + 1);
-    let f = front + 1 + (start - (p + 8) + 7) / 8;
+    let start = BitPlace::from_slot(table[256 * own]);
+    let size = emit::measure(s, table, own, start, 15).size;
+    out[front] = fields::bits_at(s, at, 8) as u8;
+    let entries = at.past(8);
+    write_bits(s, entries, start, out, front + 1);
+    let f = front + 1 + (start.since(entries) + 7) / 8;
     put_length(out, f, size);
     let end = f + 3 + size;
-    let next = emit::write_list(s, table, own, BitPlace(start), 15, out, f + 3, end);
+    let next = emit::write_list(s, table, own, start, 15, out, f + 3, end);
     Past { next, front: end }
 }
 

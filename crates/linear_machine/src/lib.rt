@@ -61,7 +61,7 @@ fn run_file(
 {
     match linear::read_linear(file, table) {
         LinearFile::Read(_) => run_read(file, table, budget, owner, globals, stack, store, frames),
-        LinearFile::Refused(number, place) => machines::refused(number, place.0),
+        LinearFile::Refused(no, place) => machines::refused(no, place.number()),
     }
 }
 

@@ -27,9 +27,9 @@ pub enum Parts {
 pub fn link_at(links: &[u32], at: BitPlace) -> BitPlace
     ensures { λ r. ⌜ r .0 ≡ linkAt (now (links .entry)) (at .0) ⌝ }
 {
-    let i = at.0 / 5;
+    let i = at.link_index();
     if i < links.len() {
-        BitPlace(links[i] as usize)
+        BitPlace::from_link(links[i])
     } else {
         BitPlace(0)
     }
@@ -39,9 +39,9 @@ fn set_link(links: &mut [u32], at: BitPlace, to: BitPlace)
     requires { ⌜ to .0 ≤ 524288 ⌝ }
     ensures { λ _. ⌜ now (links .exit) ≡ link (now (links .entry)) (at .0) (to .0) ⌝ }
 {
-    let i = at.0 / 5;
+    let i = at.link_index();
     if i < links.len() {
-        links[i] = to.0 as u32;
+        links[i] = to.to_link();
     }
 }
 
@@ -52,9 +52,9 @@ fn simple_parts(s: &[u8], at: BitPlace, operands: usize) -> Parts
     requires { ⌜ (length (now s) ≤ 65536) × (at .0 ≤ 8 * length (now s)) × (operands ≤ 2) ⌝ }
     ensures { λ r. ⌜ ((p v k : ℕ) → k ≡ 1 + operands → r ≡ partsOf p (simpleAt (now (s .entry)) v (at .0) k)) ⌝ }
 {
-    let past = at.0 + 8 * operands;
-    if past <= 8 * s.len() {
-        Parts::Simple(BitPlace(past))
+    let bits = 8 * operands;
+    if at.within(bits, s.len()) {
+        Parts::Simple(at.past(bits))
     } else {
         Parts::Bad
     }
@@ -139,21 +139,12 @@ fn link_arms(
         table,
         own,
         links,
-        BitPlace(at.0 + 5),
-        BitPlace(second.0 - 5),
+        at.past(5),
+        second.back(5),
         past,
         levels,
     );
-    link_list(
-        s,
-        table,
-        own,
-        links,
-        second,
-        BitPlace(past.0 - 5),
-        past,
-        levels,
-    );
+    link_list(s, table, own, links, second, past.back(5), past, levels);
 }
 
 // The links of the saved list of the make-cont at a place: the place past it, in a list that ends at `end`.
@@ -172,16 +163,7 @@ fn link_saved(
     ensures { λ _. ⌜ now (links .exit) ≡ linkedSaved (now (links .entry)) (at .0) (end .0) (past .0) (listAt (now (s .entry)) levels (at .0 + 13)) ⌝ }
 {
     set_link(links, at, past);
-    link_list(
-        s,
-        table,
-        own,
-        links,
-        BitPlace(at.0 + 13),
-        BitPlace(past.0 - 5),
-        end,
-        levels,
-    );
+    link_list(s, table, own, links, at.past(13), past.back(5), end, levels);
 }
 
 // The links of the list at a place of template `own`, which ends at `end` and after which execution goes on at `follow`, with `levels`
@@ -232,7 +214,7 @@ pub fn link_tree(s: &[u8], table: &[u64], count: usize, links: &mut [u32])
 {
     let mut own: usize = 0;
     while own < count {
-        let start = BitPlace(table[256 * own] as usize);
+        let start = BitPlace::from_slot(table[256 * own]);
         link_list(s, table, own, links, start, BitPlace(0), BitPlace(0), 15);
         own = own + 1;
     }

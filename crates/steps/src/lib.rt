@@ -68,8 +68,7 @@ fn start_place(table: &[u64], template: u8, like: CodePlace) -> CodePlace
 {
     match like {
         CodePlace::Tree(_) => {
-            let start = machines::slot_at(table, template, 0) as usize;
-            CodePlace::Tree(BitPlace(start))
+            CodePlace::Tree(BitPlace::from_slot(machines::slot_at(table, template, 0)))
         }
         CodePlace::Linear(_) => CodePlace::Linear(BytePlace(0)),
     }

@@ -98,7 +98,7 @@ pub fn fetch(file: &[u8], links: &[u32], at: BitPlace) -> Instruction
     ensures { λ r. ⌜ ((table : List ℕ) (t : ℕ) → fetchedAs (slotAt table t) r ≡ fetchedAt (now (file .entry)) (now (links .entry)) table t (at .0))
         × Places treeForm r ⌝ }
 {
-    if at.0 == 0 {
+    if at.is_first() {
         return Instruction::Return;
     }
     let mut here = at;

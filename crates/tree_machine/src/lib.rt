@@ -33,8 +33,7 @@ fn run_linked(
         ≡ onTree owner budget (lent (globals .entry) (stack .entry) (store .entry) (frames .entry)) (treeAccepted (now (file .entry))) ⌝ }
 {
     links::link_tree(file, table, count, links);
-    let start = machines::slot_at(table, 0, 0) as usize;
-    let first = CodePlace::Tree(BitPlace(start));
+    let first = CodePlace::Tree(BitPlace::from_slot(machines::slot_at(table, 0, 0)));
     steps::run_code(
         file,
         links,

@@ -7,91 +7,211 @@ use borrow.Author.Needs.{needs}
 use Rattle.flatten.proofs.write_template.Statement.{statement}
 use Rattle.flatten.proofs.write_template.Tie as tie
 
-mul-slot : tie.Need-mul-slot
-mul-slot c = search needs
+mul-from-slot : tie.Need-mul-from-slot
+mul-from-slot c = search needs
 
-mul-start : tie.Need-mul-start
-mul-start c = search needs
+mul-from-slot-2 : tie.Need-mul-from-slot-2
+mul-from-slot-2 c = search needs
 
-shared-slice-read-start : tie.Need-shared-slice-read-start
-shared-slice-read-start c = search needs
+shared-slice-read-from-slot : tie.Need-shared-slice-read-from-slot
+shared-slice-read-from-slot c = search needs
+
+from-slot-requires : tie.Need-from-slot-requires
+from-slot-requires c κs = search needs
 
 measure-requires : tie.Need-measure-requires
 measure-requires c κs = search needs
 
 bits-at-requires : tie.Need-bits-at-requires
-bits-at-requires c κs = let p = c .before .before .before .before .before .pre in (omega (arith, p .0), (search needs, count-within (c .before .before .before .before .before .pre .3) _ (c .measure .ensures)))
+bits-at-requires c κs =
+    let k = c in
+    let s = k .before .before .before .before .before .before in
+    let w = s .pre in
+    let m = k .before .from-slot .ensures in
+    (omega (arith, w .0), (search needs, count-within (w .3) m _ (k .measure .ensures)))
 
 cast-out : tie.Need-cast-out
 cast-out c = search needs
 
 slice-write-out : tie.Need-slice-write-out
-slice-write-out c = omega (arith, room-enough (c .before .before .before .before .before .before .pre .3) _ (c .before .measure .ensures), places (c .before .before .before .before .before .before .pre .3) _ (c .before .measure .ensures), c .before .before .before .before .before .before .pre .0)
+slice-write-out c =
+    let k = c .before in
+    let s = k .before .before .before .before .before .before in
+    let w = s .pre in
+    let m = k .before .from-slot .ensures in
+    let r = room-enough (w .3) m _ (k .measure .ensures) in
+    let p = places (w .3) m _ (k .measure .ensures) in
+    omega (arith, r, p, m, w .0, s .good)
+
+past-requires : tie.Need-past-requires
+past-requires c κs =
+    let k = c .before in
+    let s = k .before .before .before .before .before .before in
+    let w = s .pre in
+    let m = k .before .from-slot .ensures in
+    let r = room-enough (w .3) m _ (k .measure .ensures) in
+    let p = places (w .3) m _ (k .measure .ensures) in
+    omega (arith, r, p, m, w .0, s .good)
 
 add-write-bits : tie.Need-add-write-bits
-add-write-bits c = omega (arith, room-enough (c .before .before .before .before .before .before .pre .3) _ (c .before .measure .ensures), places (c .before .before .before .before .before .before .pre .3) _ (c .before .measure .ensures), c .before .before .before .before .before .before .pre .0)
-
-add-write-bits-2 : tie.Need-add-write-bits-2
-add-write-bits-2 c = search needs
+add-write-bits c =
+    let k = c .before .before .before in
+    let s = k .before .before .before .before .before .before in
+    let w = s .pre in
+    let m = k .before .from-slot .ensures in
+    let r = room-enough (w .3) m _ (k .measure .ensures) in
+    let p = places (w .3) m _ (k .measure .ensures) in
+    omega (arith, r, p, m, w .0, s .good)
 
 write-bits-requires : tie.Need-write-bits-requires
-write-bits-requires c κs = (c .before .before .before .before .before .before .before .pre .0, places (c .before .before .before .before .before .before .before .pre .3) _ (c .before .before .measure .ensures) .1, simp length-set (omega (arith, room-enough (c .before .before .before .before .before .before .before .pre .3) _ (c .before .before .measure .ensures), places (c .before .before .before .before .before .before .before .pre .3) _ (c .before .before .measure .ensures), c .before .before .before .before .before .before .before .pre .0)))
+write-bits-requires c κs =
+    let k = c .before .before .before in
+    let s = k .before .before .before .before .before .before in
+    let w = s .pre in
+    let m = k .before .from-slot .ensures in
+    let r = room-enough (w .3) m _ (k .measure .ensures) in
+    let p = places (w .3) m _ (k .measure .ensures) in
+    (w .0, p .1, simp length-set (omega (arith, r, p, m, w .0, s .good, c .before .past .ensures)))
 
 add-f : tie.Need-add-f
-add-f c = search needs
+add-f c =
+    let k = c .before .before .before .before .before .before in
+    let s = k .before .before .before .before .before .before in
+    let w = s .pre in
+    let m = k .before .from-slot .ensures in
+    let r = room-enough (w .3) m _ (k .measure .ensures) in
+    let p = places (w .3) m _ (k .measure .ensures) in
+    omega (arith, r, p, m, w .0, s .good)
+
+since-requires : tie.Need-since-requires
+since-requires c κs =
+    let k = c .before .before .before .before .before .before in
+    let s = k .before .before .before .before .before .before in
+    let w = s .pre in
+    let m = k .before .from-slot .ensures in
+    let r = room-enough (w .3) m _ (k .measure .ensures) in
+    let p = places (w .3) m _ (k .measure .ensures) in
+    omega (arith, r, p, m, w .0, s .good, c .before .before .before .before .past .ensures)
 
 add-f-2 : tie.Need-add-f-2
-add-f-2 c = omega (arith, room-enough (c .before .before .before .before .before .before .before .before .before .before .pre .3) _ (c .before .before .before .before .before .measure .ensures), places (c .before .before .before .before .before .before .before .before .before .before .pre .3) _ (c .before .before .before .before .before .measure .ensures), c .before .before .before .before .before .before .before .before .before .before .pre .0)
-
-sub-f : tie.Need-sub-f
-sub-f c = omega (arith, room-enough (c .before .before .before .before .before .before .before .before .before .before .pre .3) _ (c .before .before .before .before .before .measure .ensures), places (c .before .before .before .before .before .before .before .before .before .before .pre .3) _ (c .before .before .before .before .before .measure .ensures), c .before .before .before .before .before .before .before .before .before .before .pre .0)
+add-f-2 c =
+    let k = c .before .before .before .before .before .before .before in
+    let s = k .before .before .before .before .before .before in
+    let w = s .pre in
+    let m = k .before .from-slot .ensures in
+    let r = room-enough (w .3) m _ (k .measure .ensures) in
+    let p = places (w .3) m _ (k .measure .ensures) in
+    omega (arith, r, p, m, w .0, s .good, c .before .before .before .before .before .past .ensures, c .since .ensures)
 
 add-f-3 : tie.Need-add-f-3
-add-f-3 c = omega (arith, room-enough (c .before .before .before .before .before .before .before .before .before .before .pre .3) _ (c .before .before .before .before .before .measure .ensures), places (c .before .before .before .before .before .before .before .before .before .before .pre .3) _ (c .before .before .before .before .before .measure .ensures), c .before .before .before .before .before .before .before .before .before .before .pre .0)
-
-add-f-4 : tie.Need-add-f-4
-add-f-4 c = omega (arith, room-enough (c .before .before .before .before .before .before .before .before .before .before .pre .3) _ (c .before .before .before .before .before .measure .ensures), places (c .before .before .before .before .before .before .before .before .before .before .pre .3) _ (c .before .before .before .before .before .measure .ensures), c .before .before .before .before .before .before .before .before .before .before .pre .0, c .before .before .before .before .before .before .before .before .before .before .good)
+add-f-3 c =
+    let k = c .before .before .before .before .before .before .before in
+    let s = k .before .before .before .before .before .before in
+    let w = s .pre in
+    let m = k .before .from-slot .ensures in
+    let r = room-enough (w .3) m _ (k .measure .ensures) in
+    let p = places (w .3) m _ (k .measure .ensures) in
+    omega (arith, r, p, m, w .0, s .good, c .before .before .before .before .before .past .ensures, c .since .ensures)
 
 put-length-requires : tie.Need-put-length-requires
-put-length-requires c κs = (omega (arith, room-enough (c .before .before .before .before .before .before .before .before .before .before .before .pre .3) _ (c .before .before .before .before .before .before .measure .ensures), places (c .before .before .before .before .before .before .before .before .before .before .before .pre .3) _ (c .before .before .before .before .before .before .measure .ensures), c .before .before .before .before .before .before .before .before .before .before .before .pre .0, simp length-set at (c .before .before .before .write-bits .kept .1 .1 .1 .0)), size-small (c .before .before .before .before .before .before .before .before .before .before .before .pre .3) _ (c .before .before .before .before .before .before .measure .ensures) (c .before .before .before .before .before .before .before .before .before .before .before .pre .0))
+put-length-requires c κs =
+    let k = c .before .before .before .before .before .before .before .before in
+    let s = k .before .before .before .before .before .before in
+    let w = s .pre in
+    let m = k .before .from-slot .ensures in
+    let r = room-enough (w .3) m _ (k .measure .ensures) in
+    let p = places (w .3) m _ (k .measure .ensures) in
+    let a = c .before .before .before .before .before .before .past .ensures in
+    let b = c .before .since .ensures in
+    let o = simp length-set at (c .before .before .before .before .write-bits .kept .1 .1 .1 .0) in
+    (omega (arith, r, p, m, w .0, s .good), size-small (w .3) m _ (k .measure .ensures) (w .0))
 
 add-end : tie.Need-add-end
-add-end c = omega (arith, room-enough (c .before .before .before .before .before .before .before .before .before .before .before .before .before .before .pre .3) _ (c .before .before .before .before .before .before .before .before .before .measure .ensures), places (c .before .before .before .before .before .before .before .before .before .before .before .before .before .before .pre .3) _ (c .before .before .before .before .before .before .before .before .before .measure .ensures), c .before .before .before .before .before .before .before .before .before .before .before .before .before .before .pre .0, c .before .before .before .before .before .before .before .before .before .before .before .before .before .before .good)
+add-end c =
+    let k = c .before .before .before .before .before .before .before .before .before .before .before in
+    let s = k .before .before .before .before .before .before in
+    let w = s .pre in
+    let m = k .before .from-slot .ensures in
+    let r = room-enough (w .3) m _ (k .measure .ensures) in
+    let p = places (w .3) m _ (k .measure .ensures) in
+    let a = c .before .before .before .before .before .before .before .before .before .past .ensures in
+    let b = c .before .before .before .before .since .ensures in
+    omega (arith, r, p, m, w .0, s .good)
 
 add-end-2 : tie.Need-add-end-2
-add-end-2 c = omega (arith, room-enough (c .before .before .before .before .before .before .before .before .before .before .before .before .before .before .pre .3) _ (c .before .before .before .before .before .before .before .before .before .measure .ensures), places (c .before .before .before .before .before .before .before .before .before .before .before .before .before .before .pre .3) _ (c .before .before .before .before .before .before .before .before .before .measure .ensures), c .before .before .before .before .before .before .before .before .before .before .before .before .before .before .pre .0, c .before .before .before .before .before .before .before .before .before .before .before .before .before .before .good)
+add-end-2 c =
+    let k = c .before .before .before .before .before .before .before .before .before .before .before in
+    let s = k .before .before .before .before .before .before in
+    let w = s .pre in
+    let m = k .before .from-slot .ensures in
+    let r = room-enough (w .3) m _ (k .measure .ensures) in
+    let p = places (w .3) m _ (k .measure .ensures) in
+    let a = c .before .before .before .before .before .before .before .before .before .past .ensures in
+    let b = c .before .before .before .before .since .ensures in
+    omega (arith, r, p, m, w .0, s .good)
 
 add-write-list : tie.Need-add-write-list
-add-write-list c = omega (arith, room-enough (c .before .before .before .before .before .before .before .before .before .before .before .before .before .before .before .pre .3) _ (c .before .before .before .before .before .before .before .before .before .before .measure .ensures), places (c .before .before .before .before .before .before .before .before .before .before .before .before .before .before .before .pre .3) _ (c .before .before .before .before .before .before .before .before .before .before .measure .ensures), c .before .before .before .before .before .before .before .before .before .before .before .before .before .before .before .pre .0, c .before .before .before .before .before .before .before .before .before .before .before .before .before .before .before .good)
+add-write-list c =
+    let k = c .before .before .before .before .before .before .before .before .before .before .before .before in
+    let s = k .before .before .before .before .before .before in
+    let w = s .pre in
+    let m = k .before .from-slot .ensures in
+    let r = room-enough (w .3) m _ (k .measure .ensures) in
+    let p = places (w .3) m _ (k .measure .ensures) in
+    let a = c .before .before .before .before .before .before .before .before .before .before .past .ensures in
+    let b = c .before .before .before .before .before .since .ensures in
+    omega (arith, r, p, m, w .0, s .good)
 
 write-list-requires : tie.Need-write-list-requires
-write-list-requires c κs = let p = c .before .before .before .before .before .before .before .before .before .before .before .before .before .before .before .pre in (p .0, p .1, p .2, omega (arith, room-enough (c .before .before .before .before .before .before .before .before .before .before .before .before .before .before .before .pre .3) _ (c .before .before .before .before .before .before .before .before .before .before .measure .ensures), places (c .before .before .before .before .before .before .before .before .before .before .before .before .before .before .before .pre .3) _ (c .before .before .before .before .before .before .before .before .before .before .measure .ensures), c .before .before .before .before .before .before .before .before .before .before .before .before .before .before .before .pre .0, c .before .before .before .put-length .kept .0, simp length-set at (c .before .before .before .before .before .before .before .write-bits .kept .1 .1 .1 .0)), listToWrite (c .before .before .before .before .before .before .before .before .before .before .before .before .before .before .before .pre .3) _ (c .before .before .before .before .before .before .before .before .before .before .measure .ensures))
+write-list-requires c κs =
+    let k = c .before .before .before .before .before .before .before .before .before .before .before .before in
+    let s = k .before .before .before .before .before .before in
+    let w = s .pre in
+    let m = k .before .from-slot .ensures in
+    let r = room-enough (w .3) m _ (k .measure .ensures) in
+    let p = places (w .3) m _ (k .measure .ensures) in
+    let a = c .before .before .before .before .before .before .before .before .before .before .past .ensures in
+    let b = c .before .before .before .before .before .since .ensures in
+    let o = simp length-set at (c .before .before .before .before .before .before .before .before .write-bits .kept .1 .1 .1 .0) in
+    (w .0, w .1, w .2, omega (arith, r, p, m, w .0, s .good, c .before .before .before .put-length .kept .0), listToWrite (w .3) m _ (k .measure .ensures) _)
 
 same-length : tie.Need-same-length
-same-length c = c .before .before .write-list .kept .1 .1 .1 .1 .1 .0 ∙ c .before .before .before .before .before .before .put-length .kept .0 ∙ (simp length-set at (c .before .before .before .before .before .before .before .before .before .before .write-bits .kept .1 .1 .1 .0))
+same-length c =
+    c .before .before .write-list .kept .1 .1 .1 .1 .1 .0 ∙ c .before .before .before .before .before .before .put-length .kept .0
+    ∙ (simp length-set at (c .before .before .before .before .before .before .before .before .before .before .before .write-bits .kept .1 .1 .1 .0))
 
 returns : tie.Need-returns
-returns c = λ w. template-done (w) _ (c .before .before .before .before .before .before .before .before .before .before .before .before .before .measure .ensures) _ (c .before .before .before .before .before .before .before .before .before .before .before .before .bits-at .ensures .0) (c .before .before .before .before .before .before .before .before .before .before .write-bits .ensures) (c .before .before .before .before .before .before .put-length .ensures) (c .before .before .write-list .ensures (listToWrite (w) _ (c .before .before .before .before .before .before .before .before .before .before .before .before .before .measure .ensures)))
+returns c =
+    λ w.
+    let k = c .before .before .before .before .before .before .before .before .before .before .before .before .before .before .before in
+    let m = k .before .from-slot .ensures in
+    let first = c .before .before .before .before .before .before .before .before .before .before .before .before .before .past .ensures in
+    let gap = c .before .before .before .before .before .before .before .before .since .ensures in
+    let count = c .before .before .before .before .before .before .before .before .before .before .before .before .before .before .bits-at .ensures .0 in
+    let entries = c .before .before .before .before .before .before .before .before .before .before .before .write-bits .ensures in
+    let size = c .before .before .before .before .before .before .put-length .ensures in
+    let list = c .before .before .write-list .ensures (listToWrite w m _ (k .measure .ensures) _) in
+    template-done w m _ (k .measure .ensures) first gap _ count entries size list
 
 pub write-template-spec : {M : Type 1} → statement M
 write-template-spec =
     tie.close
     (tie.spec
-    mul-slot
-    mul-start
-    shared-slice-read-start
+    mul-from-slot
+    mul-from-slot-2
+    shared-slice-read-from-slot
+    from-slot-requires
     measure-requires
     bits-at-requires
     cast-out
     slice-write-out
+    past-requires
     add-write-bits
-    add-write-bits-2
     write-bits-requires
     add-f
+    since-requires
     add-f-2
-    sub-f
     add-f-3
-    add-f-4
     put-length-requires
     add-end
     add-end-2

@@ -25,21 +25,21 @@ use Rattle.emit.specs.ToWrite.{ToWrite}
 use Rattle.emit.specs.laws.Stores.{sets-four}
 use Rattle.flatten.specs.ToFlatten.{TemplateToWrite, TemplateDone}
 
--- m is what was measured of its list
-module _ {s table : List ℕ} {own p front room : ℕ} (w : TemplateToWrite s table own p front room) (m : Measured)
-    (measured : (c : Code) (q : ℕ) → listAt s 15 (getD table (256 * own) 0) ≡ got c q → m ≡ measuredOf c q) where
-  -- where its list begins, and where the length of its code goes
-  abbrev pub listStart : ℕ
-  listStart = getD table (256 * own) 0
+-- listStart is where its list begins, and m what was measured of it
+module _ {s table : List ℕ} {own p front room : ℕ} (w : TemplateToWrite s table own p front room) {listStart : ℕ} (slot : listStart ≡ getD table (256 * own) 0)
+    (m : Measured) (measured : (c : Code) (q : ℕ) → listAt s 15 listStart ≡ got c q → m ≡ measuredOf c q) where
+  start-at : listStart ≡ w .template .start
+  start-at = slot ∙ w .start
 
-  abbrev pub lengthFront : ℕ
+  -- where the length of its code goes
+  abbrev lengthFront : ℕ
   lengthFront = front + 1 + (listStart - (p + 8) + 7) / 8
 
   parts : TemplateParts s own (w .count) p (w .template) (w .past)
   parts = template-parts s own (w .count) p (w .read)
 
   pub list-read : listAt s 15 listStart ≡ got (w .template .code) (w .past)
-  list-read = ap (listAt s 15) (w .start) ∙ parts .list
+  list-read = ap (listAt s 15) start-at ∙ parts .list
 
   counted : (parts .count ≡ fieldAt s p 8) × (parts .first ≡ p + 8) × (parts .first ≤ 8 * length s)
   counted = field-got s p 8 (parts .counted)
@@ -50,10 +50,10 @@ module _ {s table : List ℕ} {own p front room : ℕ} (w : TemplateToWrite s ta
       (omega (arith, k .past), sym (entries-copied s own (w .count) (parts .count) (parts .first) (counted .2) (parts .entries)))
 
   bits-are : entriesBits (w .template .entries) ≡ bitsFrom s (p + 8) (listStart - (p + 8))
-  bits-are = copied .1 ∙ rw (counted .1, w .start) refl
+  bits-are = copied .1 ∙ rw (counted .1, start-at) refl
 
   pub places : (p + 8 ≤ listStart) × (listStart ≤ 8 * length s)
-  places = omega (arith, counted, copied .0, w .start, list-bits s 15 listStart (w .template .code) (w .past) list-read)
+  places = omega (arith, counted, copied .0, start-at, list-bits s 15 listStart (w .template .code) (w .past) list-read)
 
   pub count-within : p + 8 ≤ 8 * length s
   count-within = omega (arith, counted)
@@ -79,18 +79,22 @@ module _ {s table : List ℕ} {own p front room : ℕ} (w : TemplateToWrite s ta
   pub size-small : length s ≤ 65536 → m .size < 16777216
   size-small h = omega (arith, size-is, flat-bits (w .template .code), list-bits s 15 listStart (w .template .code) (w .past) list-read)
 
-  abbrev pub listToWrite : ToWrite s 15 listStart (lengthFront + 3) (lengthFront + 3 + m .size)
-  listToWrite = record { code = w .template .code; past = w .past; read = list-read; fits = w .fits; room = rw size-is refl }
+  abbrev pub listToWrite : (f : ℕ) → ToWrite s 15 listStart f (f + m .size)
+  listToWrite f = record { code = w .template .code; past = w .past; read = list-read; fits = w .fits; room = rw size-is refl }
 
-  pub template-done : {x : ℕ} (o : List ℕ) {o₂ o₃ o₄ : List ℕ} {q : BitPlace} → x ≡ fieldAt s p 8
-      → o₂ ≡ sets (set o front x) (front + 1) (bytesOf (bitsFrom s (p + 8) (listStart - (p + 8))))
-      → o₃ ≡ sets o₂ lengthFront (threeBytes (m .size)) → (q .0 ≡ w .past) × (o₄ ≡ sets o₃ (lengthFront + 3) (flat (w .template .code)))
-      → TemplateDone w (record { next = q; front = lengthFront + 3 + m .size }) o o₄
+  -- the entries' bits begin at `first`, and there are n of them
+  pub template-done : {first n x : ℕ} → first ≡ p + 8 → n ≡ listStart - first → (o : List ℕ) {o₂ o₃ o₄ : List ℕ} {q : BitPlace} → x ≡ fieldAt s p 8
+      → o₂ ≡ sets (set o front x) (front + 1) (bytesOf (bitsFrom s first (listStart - first)))
+      → o₃ ≡ sets o₂ (front + 1 + (n + 7) / 8) (threeBytes (m .size))
+      → (q .0 ≡ w .past) × (o₄ ≡ sets o₃ (front + 1 + (n + 7) / 8 + 3) (flat (w .template .code)))
+      → TemplateDone w (record { next = q; front = front + 1 + (n + 7) / 8 + 3 + m .size }) o o₄
   unfolding templateBytes
-  template-done o {q = q} e₁ e₂ e₃ e₄ = (
-    (λ i. record { next = record { 0 = e₄ .0 i }; front = all-bytes i }),
-    e₄ .1 ∙ rw (e₃, e₂, e₁, size-is, count-is, bits-are)
-        (sym (rw bits-bytes at
-        (sets-four (length (w .template .entries) ∷ []) (bytesOf (bitsFrom s (p + 8) (listStart - (p + 8)))) (threeBytes (length (flat (w .template .code))))
-        (flat (w .template .code)) o front))),
-  )
+  template-done {first = first} {n = n} first-is n-is o e₁ e₂ e₃ e₄ =
+      let all : front + 1 + (n + 7) / 8 + 3 + m .size ≡ front + length (templateBytes (w .template)) = omega (arith, all-bytes, first-is, n-is) in
+      let n-at : n ≡ listStart - (p + 8) = n-is ∙ ap (λ (f : ℕ). listStart - f) first-is in (
+        (λ i. record { next = record { 0 = e₄ .0 i }; front = all i }),
+        e₄ .1 ∙ rw (e₃, e₂, e₁, n-at, first-is, size-is, count-is, bits-are)
+            (sym (rw bits-bytes at
+            (sets-four (length (w .template .entries) ∷ []) (bytesOf (bitsFrom s (p + 8) (listStart - (p + 8))))
+            (threeBytes (length (flat (w .template .code)))) (flat (w .template .code)) o front))),
+      )

@@ -14,8 +14,11 @@ enum-told c = search needs
 run-read-requires : tie.Need-run-read-requires
 run-read-requires c κs = (c .before .before .before .before .before .before .before .before .before .before .before .before .before .before .before .before .before .pre .0, file-within _ _ _ _ (c .before .before .before .before .before .before .before .before .before .read-linear .ensures .0) (c .before .before .before .before .before .before .before .before .before .before .before .before .before .before .before .before .before .pre .1) (c .before .before .before .before .before .before .before .before .before .read-linear .ensures .1) _ (c .before .before .before .before .before .enum-told .given .1))
 
-enum-known-number : tie.Need-enum-known-number
-enum-known-number c = search needs
+enum-known-no : tie.Need-enum-known-no
+enum-known-no c = search needs
+
+number-requires : tie.Need-number-requires
+number-requires c κs = search needs
 
 refused-requires : tie.Need-refused-requires
 refused-requires c κs = search needs
@@ -42,7 +45,7 @@ same-length-6 : tie.Need-same-length-6
 same-length-6 c = search needs
 
 returns-2 : tie.Need-returns-2
-returns-2 c = file-refused _ _ _ _ _ _ _ _ (c .before .before .before .before .before .before .read-linear .ensures .0) (c .before .before .number .given .1) (c .refused .ensures)
+returns-2 c = file-refused _ _ _ _ _ _ _ _ (c .before .before .before .before .before .before .before .read-linear .ensures .0) (c .before .before .before .no .given .1) (rw (c .before .number .ensures) at (c .refused .ensures))
 
 pub run-file-spec : {M : Type 1} → statement M
 run-file-spec =
@@ -51,7 +54,8 @@ run-file-spec =
     read-linear-requires
     enum-told
     run-read-requires
-    enum-known-number
+    enum-known-no
+    number-requires
     refused-requires
     same-length
     same-length-2

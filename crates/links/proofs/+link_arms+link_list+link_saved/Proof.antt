@@ -23,6 +23,8 @@ use Rattle.links.proofs.link_saved.Kinds as link-saved-kinds
 use Rattle.links.proofs.+link_arms+link_list+link_saved.Lts-link_saved as link-saved-lts
 use Rattle.links.proofs.parts_at.Reads as parts-at-reads
 use Rattle.links.proofs.set_link.Reads as set-link-reads
+use Rattle.cells.proofs.BitPlace.past.Reads as past-reads
+use Rattle.cells.proofs.BitPlace.back.Reads as back-reads
 use Rattle.links.proofs.+link_arms+link_list+link_saved.{statement}
 use Rattle.links.proofs.+link_arms+link_list+link_saved.Tie.{close}
 
@@ -59,7 +61,7 @@ link-saved-below t =
 
 -- what the functions of the cycle call
 abbrev inner : ℕ → link-arms-lts.Claims
-inner t = (set-link-reads.Asked, set-link-reads.Learnt, link-list-below t, link-list.Post)
+inner t = (set-link-reads.Asked, set-link-reads.Learnt, past-reads.Asked, past-reads.Learnt, back-reads.Asked, back-reads.Learnt, link-list-below t, link-list.Post)
 
 abbrev outer : ℕ → link-list-lts.Claims
 outer t = (parts-at-reads.Asked, parts-at-reads.Learnt, set-link-reads.Asked, set-link-reads.Learnt, link-arms-below t, link-arms.Post, link-saved-below t, link-saved.Post)
@@ -67,26 +69,32 @@ outer t = (parts-at-reads.Asked, parts-at-reads.Learnt, set-link-reads.Asked, se
 link-arms-set-link-requires : (t : ℕ) → link-arms-lts.Need-set-link-requires (inner t) (link-arms-at t) link-arms.Post
 link-arms-set-link-requires t c κs = search needs
 
-link-arms-add-t14 : (t : ℕ) → link-arms-lts.Need-add-t14 (inner t) (link-arms-at t) link-arms.Post
-link-arms-add-t14 t c = search needs
+link-arms-past-requires : (t : ℕ) → link-arms-lts.Need-past-requires (inner t) (link-arms-at t) link-arms.Post
+link-arms-past-requires t c κs = search needs
 
-link-arms-sub-t16 : (t : ℕ) → link-arms-lts.Need-sub-t16 (inner t) (link-arms-at t) link-arms.Post
-link-arms-sub-t16 t c = search needs
+link-arms-back-requires : (t : ℕ) → link-arms-lts.Need-back-requires (inner t) (link-arms-at t) link-arms.Post
+link-arms-back-requires t c κs = search needs
 
 link-arms-link-list-requires : (t : ℕ) → link-arms-lts.Need-link-list-requires (inner t) (link-arms-at t) link-arms.Post
-link-arms-link-list-requires t c κs = (omega arith, (c .before .before .before .before .before .before .before .before .before .before .pre .1 .0, c .before .before .before .before .before .before .before .before .before .before .pre .1 .1, c .before .before .before .before .before .before .before .before .before .before .pre .1 .2, omega arith, c .before .before .before .before .before .before .before .before .before .before .pre .1 .5, c .before .before .before .before .before .before .before .before .before .before .pre .1 .6))
+link-arms-link-list-requires t c κs =
+    let k = c .before .before .before .before .before .before .before .before .before .before .pre .1 in
+    (omega arith, (k .0, k .1, k .2, omega (arith, c .back .ensures), k .5, rw (c .before .past .ensures) (k .6)))
 
-link-arms-sub-t14 : (t : ℕ) → link-arms-lts.Need-sub-t14 (inner t) (link-arms-at t) link-arms.Post
-link-arms-sub-t14 t c = search needs
+link-arms-back-requires-2 : (t : ℕ) → link-arms-lts.Need-back-requires-2 (inner t) (link-arms-at t) link-arms.Post
+link-arms-back-requires-2 t c κs = search needs
 
 link-arms-link-list-requires-2 : (t : ℕ) → link-arms-lts.Need-link-list-requires-2 (inner t) (link-arms-at t) link-arms.Post
-link-arms-link-list-requires-2 t c κs = (omega arith, (c .before .before .before .before .before .before .before .before .before .before .before .before .before .before .before .pre .1 .0, c .before .before .before .before .before .before .before .before .before .before .before .before .before .before .before .pre .1 .1, c .before .before .before .before .before .before .before .before .before .before .before .before .before .before .before .pre .1 .2, omega arith, c .before .before .before .before .before .before .before .before .before .before .before .before .before .before .before .pre .1 .5, c .before .before .before .before .before .before .before .before .before .before .before .before .before .before .before .pre .1 .7))
+link-arms-link-list-requires-2 t c κs =
+    let k = c .before .before .before .before .before .before .before .before .before .before .before .before .before .before .before .pre .1 in
+    (omega arith, (k .0, k .1, k .2, omega (arith, c .back2 .ensures), k .5, k .7))
 
 link-arms-same-length : (t : ℕ) → link-arms-lts.Need-same-length (inner t) (link-arms-at t) link-arms.Post
 link-arms-same-length t c = search needs
 
 link-arms-returns : (t : ℕ) → link-arms-lts.Need-returns (inner t) (link-arms-at t) link-arms.Post
-link-arms-returns t c = arms-linked _ _ _ _ (c .before .before .before .before .before .before .before .before .before .before .before .before .before .before .before .before .before .before .args .at .0) (c .before .before .before .before .before .before .before .before .before .before .before .before .before .before .before .before .before .before .args .second .0) (c .before .before .before .before .before .before .before .before .before .before .before .before .before .before .before .before .before .before .args .past .0) _ _ (c .before .before .before .before .before .before .before .before .before .before .before .before .before .set-link .ensures) (c .before .before .before .before .before .before .before .link-list .ensures) (c .before .before .link-list2 .ensures)
+link-arms-returns t c =
+    let a = c .before .before .before .before .before .before .before .before .before .before .before .before .before .before .before .before .before .before .args in
+    arms-linked _ _ _ _ _ _ (a .at .0) (a .second .0) (a .past .0) (c .before .before .before .before .before .before .before .before .before .past .ensures) (c .before .before .before .before .before .before .before .before .back .ensures) (c .before .before .before .back2 .ensures) (c .before .before .before .before .before .before .before .before .before .before .before .before .before .set-link .ensures) (c .before .before .before .before .before .before .before .link-list .ensures) (c .before .before .link-list2 .ensures)
 
 abbrev link-list-Inv-loop : link-list-lts.InvT-loop
 link-list-Inv-loop s table own links₀ end follow levels here₀ links here =
@@ -171,20 +179,24 @@ link-list-returns-2 t c = absurd (at-turn t (c .before .before) _ (c .enum-told2
 link-saved-set-link-requires : (t : ℕ) → link-saved-lts.Need-set-link-requires (inner t) (link-saved-at t) link-saved.Post
 link-saved-set-link-requires t c κs = search needs
 
-link-saved-add-t14 : (t : ℕ) → link-saved-lts.Need-add-t14 (inner t) (link-saved-at t) link-saved.Post
-link-saved-add-t14 t c = search needs
+link-saved-past-requires : (t : ℕ) → link-saved-lts.Need-past-requires (inner t) (link-saved-at t) link-saved.Post
+link-saved-past-requires t c κs = search needs
 
-link-saved-sub-t16 : (t : ℕ) → link-saved-lts.Need-sub-t16 (inner t) (link-saved-at t) link-saved.Post
-link-saved-sub-t16 t c = search needs
+link-saved-back-requires : (t : ℕ) → link-saved-lts.Need-back-requires (inner t) (link-saved-at t) link-saved.Post
+link-saved-back-requires t c κs = search needs
 
 link-saved-link-list-requires : (t : ℕ) → link-saved-lts.Need-link-list-requires (inner t) (link-saved-at t) link-saved.Post
-link-saved-link-list-requires t c κs = (omega arith, (c .before .before .before .before .before .before .before .before .before .before .pre .1 .0, c .before .before .before .before .before .before .before .before .before .before .pre .1 .1, c .before .before .before .before .before .before .before .before .before .before .pre .1 .2, omega arith, c .before .before .before .before .before .before .before .before .before .before .pre .1 .5, c .before .before .before .before .before .before .before .before .before .before .pre .1 .6))
+link-saved-link-list-requires t c κs =
+    let k = c .before .before .before .before .before .before .before .before .before .before .pre .1 in
+    (omega arith, (k .0, k .1, k .2, omega (arith, c .back .ensures), k .5, rw (c .before .past .ensures) (k .6)))
 
 link-saved-same-length : (t : ℕ) → link-saved-lts.Need-same-length (inner t) (link-saved-at t) link-saved.Post
 link-saved-same-length t c = search needs
 
 link-saved-returns : (t : ℕ) → link-saved-lts.Need-returns (inner t) (link-saved-at t) link-saved.Post
-link-saved-returns t c = saved-linked _ _ _ (c .before .before .before .before .before .before .before .before .before .before .before .before .before .args .at .0) _ (c .before .before .before .before .before .before .before .before .before .before .before .before .before .args .past .0) _ (c .before .before .before .before .before .before .before .before .set-link .ensures) (c .before .before .link-list .ensures)
+link-saved-returns t c =
+    let a = c .before .before .before .before .before .before .before .before .before .before .before .before .before .args in
+    saved-linked _ _ _ _ _ (a .at .0) _ (a .past .0) (c .before .before .before .before .past .ensures) (c .before .before .before .back .ensures) (c .before .before .before .before .before .before .before .before .set-link .ensures) (c .before .before .link-list .ensures)
 
 pub +link-arms+link-list+link-saved-spec : {M : Type 1} → statement M
 +link-arms+link-list+link-saved-spec =
@@ -192,10 +204,10 @@ pub +link-arms+link-list+link-saved-spec : {M : Type 1} → statement M
     (link-arms-at t)
     link-arms.Post
     (link-arms-set-link-requires t)
-    (link-arms-add-t14 t)
-    (link-arms-sub-t16 t)
+    (link-arms-past-requires t)
+    (link-arms-back-requires t)
     (link-arms-link-list-requires t)
-    (link-arms-sub-t14 t)
+    (link-arms-back-requires-2 t)
     (link-arms-link-list-requires-2 t)
     (link-arms-same-length t)
     (link-arms-returns t))
@@ -231,8 +243,8 @@ pub +link-arms+link-list+link-saved-spec : {M : Type 1} → statement M
     (link-saved-at t)
     link-saved.Post
     (link-saved-set-link-requires t)
-    (link-saved-add-t14 t)
-    (link-saved-sub-t16 t)
+    (link-saved-past-requires t)
+    (link-saved-back-requires t)
     (link-saved-link-list-requires t)
     (link-saved-same-length t)
     (link-saved-returns t)

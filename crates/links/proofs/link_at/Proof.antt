@@ -1,26 +1,36 @@
 -- `links::link_at` meets its contract. Assumes nothing.
-use Prim.Native.Nat.{_/_}
-use native.Mathlib.Omega.{arith}
-use mathlib.Core.Path.{sym}
-use lib.ListN.{List·getD-eq-default}
+use Prim.Native.Nat.{ℕ}
+use mathlib.Core.Path.{sym, ap, _∙_}
+use lib.ListN.{getD, List·getD-eq-default}
 use borrow.Author.Needs.{needs}
 use Rattle.links.proofs.link_at.Statement.{statement}
 use Rattle.links.proofs.link_at.Tie as tie
 
-mul-t7 : tie.Need-mul-t7
-mul-t7 c = search needs
+link-index-requires : tie.Need-link-index-requires
+link-index-requires c κs = search needs
 
-shared-slice-read-t9 : tie.Need-shared-slice-read-t9
-shared-slice-read-t9 c = search needs
+mul-from-link : tie.Need-mul-from-link
+mul-from-link c = search needs
 
-cast-t10 : tie.Need-cast-t10
-cast-t10 c = omega (arith, c .shared-slice-known .given (c .before .before .before .args .at .0 / 5))
+shared-slice-read-from-link : tie.Need-shared-slice-read-from-link
+shared-slice-read-from-link c = search needs
+
+from-link-requires : tie.Need-from-link-requires
+from-link-requires c κs = search needs
 
 returns : tie.Need-returns
-returns c = search needs
+returns c = let L = c .before .before .before .before .before .args .links .now in c .from-link .ensures ∙ ap (λ (i : ℕ). getD L i 0) (c .before .before .before .link-index .ensures)
 
 returns-2 : tie.Need-returns-2
-returns-2 c = sym (List·getD-eq-default (c .before .before .args .links .now) 0 (c .if1 .left))
+returns-2 c = let L = c .before .before .before .args .links .now in sym (List·getD-eq-default L 0 (c .if1 .left)) ∙ ap (λ (i : ℕ). getD L i 0) (c .before .link-index .ensures)
 
 pub link-at-spec : {M : Type 1} → statement M
-link-at-spec = tie.close (tie.spec mul-t7 shared-slice-read-t9 cast-t10 returns returns-2)
+link-at-spec =
+    tie.close
+    (tie.spec
+    link-index-requires
+    mul-from-link
+    shared-slice-read-from-link
+    from-link-requires
+    returns
+    returns-2)

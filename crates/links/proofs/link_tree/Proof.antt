@@ -21,17 +21,20 @@ abbrev μ-loop : tie.MeasureT-loop
 loop-holds : tie.Need-loop-holds Inv-loop μ-loop
 loop-holds c = search needs
 
-mul-t8 : tie.Need-mul-t8 Inv-loop μ-loop
-mul-t8 c = omega (arith, at-most-64 (c .before .before .before .before .before .pre .0))
+mul-from-slot : tie.Need-mul-from-slot Inv-loop μ-loop
+mul-from-slot c = omega (arith, at-most-64 (c .before .before .before .before .before .pre .0))
 
-mul-t9 : tie.Need-mul-t9 Inv-loop μ-loop
-mul-t9 c = omega (arith, at-most-64 (c .before .before .before .before .before .pre .0))
+mul-from-slot-2 : tie.Need-mul-from-slot-2 Inv-loop μ-loop
+mul-from-slot-2 c = omega (arith, at-most-64 (c .before .before .before .before .before .pre .0))
 
-shared-slice-read-t11 : tie.Need-shared-slice-read-t11 Inv-loop μ-loop
-shared-slice-read-t11 c = omega (arith, at-most-64 (c .before .before .before .before .before .before .pre .0), c .before .before .before .before .before .before .pre .1)
+shared-slice-read-from-slot : tie.Need-shared-slice-read-from-slot Inv-loop μ-loop
+shared-slice-read-from-slot c = omega (arith, at-most-64 (c .before .before .before .before .before .before .pre .0), c .before .before .before .before .before .before .pre .1)
+
+from-slot-requires : tie.Need-from-slot-requires Inv-loop μ-loop
+from-slot-requires c κs = search needs
 
 link-list-requires : tie.Need-link-list-requires Inv-loop μ-loop
-link-list-requires c κs = let r = c .before .before .before .before .before .before .before .pre .0 in (ready-short r, c .before .before .before .before .before .before .before .pre .1, omega (arith, at-most-64 r), omega arith, omega arith, list-whole r (c .before .before .before .loop .own) (c .before .before .loop-test .taken))
+link-list-requires c κs = let r = c .before .before .before .before .before .before .before .before .pre .0 in (ready-short r, c .before .before .before .before .before .before .before .before .pre .1, omega (arith, at-most-64 r), omega arith, omega arith, rw (c .before .from-slot .ensures) (list-whole r (c .before .before .before .before .loop .own) (c .before .before .before .loop-test .taken)))
 
 add-own : tie.Need-add-own Inv-loop μ-loop
 add-own c = search needs
@@ -40,7 +43,7 @@ loop-less : tie.Need-loop-less Inv-loop μ-loop
 loop-less c = search needs
 
 loop-again : tie.Need-loop-again Inv-loop μ-loop
-loop-again c = (linked-on _ _ (c .before .before .before .before .before .before .loop .inv .0 ∙ template-linked (c .before .before .before .before .before .before .before .before .before .before .pre .0) _ (c .before .before .before .before .before .loop-test .taken) _) (c .before .before .link-list .ensures), omega arith, c .before .before .link-list .kept .1 .1 .1 .0 ∙ c .before .before .before .before .before .before .loop .inv .2)
+loop-again c = (linked-on _ _ (c .before .before .before .before .before .before .before .loop .inv .0 ∙ template-linked (c .before .before .before .before .before .before .before .before .before .before .before .pre .0) _ (c .before .before .before .before .before .before .loop-test .taken) _) (rw (c .before .before .before .before .from-slot .ensures) at (c .before .before .link-list .ensures)), omega arith, c .before .before .link-list .kept .1 .1 .1 .0 ∙ c .before .before .before .before .before .before .before .loop .inv .2)
 
 same-length : tie.Need-same-length Inv-loop μ-loop
 same-length c = search needs
@@ -55,9 +58,10 @@ link-tree-spec =
     Inv-loop
     μ-loop
     loop-holds
-    mul-t8
-    mul-t9
-    shared-slice-read-t11
+    mul-from-slot
+    mul-from-slot-2
+    shared-slice-read-from-slot
+    from-slot-requires
     link-list-requires
     add-own
     loop-less

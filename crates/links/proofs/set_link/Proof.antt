@@ -1,12 +1,15 @@
 -- `links::set_link` meets its contract. Assumes nothing.
-use mathlib.Core.Path.{sym}
+use mathlib.Core.Path.{refl, sym}
 use lib.Seq.{set-out}
 use borrow.Author.Needs.{needs}
 use Rattle.links.proofs.set_link.Statement.{statement}
 use Rattle.links.proofs.set_link.Tie as tie
 
-cast-links : tie.Need-cast-links
-cast-links c = search needs
+link-index-requires : tie.Need-link-index-requires
+link-index-requires c κs = search needs
+
+to-link-requires : tie.Need-to-link-requires
+to-link-requires c κs = search needs
 
 mul-links : tie.Need-mul-links
 mul-links c = search needs
@@ -18,11 +21,19 @@ same-length : tie.Need-same-length
 same-length c = search needs
 
 returns : tie.Need-returns
-returns c = search needs
+returns c = rw (c .to-link .ensures, c .before .before .link-index .ensures) refl
 
 returns-2 : tie.Need-returns-2
-returns-2 c = sym (set-out _ _ _ (c .if1 .left))
+returns-2 c = rw (← c .before .link-index .ensures) (sym (set-out _ _ _ (c .if1 .left)))
 
 pub set-link-spec : {M : Type 1} → statement M
 set-link-spec =
-    tie.close (tie.spec cast-links mul-links slice-write-links same-length returns returns-2)
+    tie.close
+    (tie.spec
+    link-index-requires
+    to-link-requires
+    mul-links
+    slice-write-links
+    same-length
+    returns
+    returns-2)

@@ -202,15 +202,17 @@ module _ (s : List ℕ) (l p : ℕ) where
         by (item k q) i = item-outcome k q (turn k q i) L e f
         by (bad n z) i = rw (list-step s l p, i) at whole
 
--- ---- what the stores of an instruction's links come to
-pub arms-linked : (L L₁ L₂ L₃ : List ℕ) (p m q : ℕ) (x y : Got Code) → L₁ ≡ link L p m → L₂ ≡ linkedGot L₁ (p + 5) (m - 5) q x → L₃ ≡ linkedGot L₂ m (q - 5) q y
-    → L₃ ≡ linkedArms L p m q x y
+-- ---- what the stores of an instruction's links come to, where its lists begin at a and end at b and d
+pub arms-linked : (s : List ℕ) (l : ℕ) (L L₁ L₂ L₃ : List ℕ) (p m q : ℕ) {a b d : ℕ} → a ≡ p + 5 → b ≡ m - 5 → d ≡ q - 5
+    → L₁ ≡ link L p m → L₂ ≡ linkedGot L₁ a b q (listAt s l a) → L₃ ≡ linkedGot L₂ m d q (listAt s l m)
+    → L₃ ≡ linkedArms L p m q (listAt s l (p + 5)) (listAt s l m)
 unfolding linkedArms
-arms-linked L L₁ L₂ L₃ p m q x y e₁ e₂ e₃ = rw (e₃, e₂, e₁) refl
+arms-linked s l L L₁ L₂ L₃ p m q z₁ z₂ z₃ e₁ e₂ e₃ = rw (e₃, e₂, e₁, z₁, z₂, z₃) refl
 
-pub saved-linked : (L L₁ L₂ : List ℕ) (p e q : ℕ) (x : Got Code) → L₁ ≡ link L p q → L₂ ≡ linkedGot L₁ (p + 13) (q - 5) e x → L₂ ≡ linkedSaved L p e q x
+pub saved-linked : (s : List ℕ) (l : ℕ) (L L₁ L₂ : List ℕ) (p e q : ℕ) {a b : ℕ} → a ≡ p + 13 → b ≡ q - 5
+    → L₁ ≡ link L p q → L₂ ≡ linkedGot L₁ a b e (listAt s l a) → L₂ ≡ linkedSaved L p e q (listAt s l (p + 13))
 unfolding linkedSaved
-saved-linked L L₁ L₂ p e q x e₁ e₂ = rw (e₂, e₁) refl
+saved-linked s l L L₁ L₂ p e q z₁ z₂ e₁ e₂ = rw (e₂, e₁, z₁, z₂) refl
 
 pub linked-on : {goal A L : List ℕ} (q e f : ℕ) (x : Got Code) → goal ≡ linkedGot A q e f x → L ≡ A → goal ≡ linkedGot L q e f x
 linked-on q e f x h k = rw k h

@@ -1,5 +1,5 @@
 -- `steps::start_place` meets its contract. Assumes nothing.
-use mathlib.Core.Path.{refl, sym}
+use mathlib.Core.Path.{refl, sym, _∙_}
 use Rattle.machines.specs.Instruction.{number, formOf}
 use Rattle.steps.specs.Step.{startAt}
 use Rattle.steps.proofs.StepLaws.{in-tree, in-linear}
@@ -13,16 +13,19 @@ enum-told c = search needs
 slot-at-requires : tie.Need-slot-at-requires
 slot-at-requires c κs = search needs
 
+from-slot-requires : tie.Need-from-slot-requires
+from-slot-requires c κs = search needs
+
 enum-told-2 : tie.Need-enum-told-2
 enum-told-2 c = search needs
 
 returns : tie.Need-returns
 unfolding number formOf startAt
-returns c = let e = in-tree _ _ (c .before .enum-told .given .1) in (rw e (c .slot-at .ensures), sym e)
+returns c = let e = in-tree _ _ (c .before .before .enum-told .given .1) in (rw e (c .from-slot .ensures ∙ c .before .slot-at .ensures), sym e)
 
 returns-2 : tie.Need-returns-2
 unfolding number formOf startAt
 returns-2 c = let e = in-linear _ _ (c .enum-told2 .given .1) in (rw e refl, sym e)
 
 pub start-place-spec : {M : Type 1} → statement M
-start-place-spec = tie.close (tie.spec enum-told slot-at-requires enum-told-2 returns returns-2)
+start-place-spec = tie.close (tie.spec enum-told slot-at-requires from-slot-requires enum-told-2 returns returns-2)

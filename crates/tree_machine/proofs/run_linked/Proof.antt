@@ -1,4 +1,5 @@
 -- `tree_machine::run_linked` meets its contract. Assumes nothing.
+use mathlib.Core.Path.{_∙_}
 use Rattle.links.specs.laws.TreeSteps.{ready-short}
 use Rattle.machines.specs.Instruction.{number, formOf}
 use Rattle.steps.specs.Step.{codeProgram, CodeReady}
@@ -13,9 +14,12 @@ link-tree-requires c κs = search needs
 slot-at-requires : tie.Need-slot-at-requires
 slot-at-requires c κs = search needs
 
+from-slot-requires : tie.Need-from-slot-requires
+from-slot-requires c κs = search needs
+
 run-code-requires : tie.Need-run-code-requires
 unfolding formOf CodeReady
-run-code-requires c κs = let p = c .before .before .before .before .before .before .before .before .before .before .before .before .before .before .before .before .before .pre in (ready-short (p .1), search needs, search needs, search needs, search needs)
+run-code-requires c κs = let p = c .before .before .before .before .before .before .before .before .before .before .before .before .before .before .before .before .before .before .pre in (ready-short (p .1), search needs, search needs, search needs, search needs)
 
 same-length : tie.Need-same-length
 same-length c = search needs
@@ -35,8 +39,8 @@ same-length-5 c = search needs
 returns : tie.Need-returns
 unfolding formOf number codeProgram
 returns c =
-    let p = c .before .before .before .before .before .before .before .before .before .before .before .before .before .before .before .before .before .before .before .before .before .before .before .before .before .before .pre in
-    linked-ran _ _ _ _ _ _ _ _ _ _ (p .1) (p .3) (p .4) (c .before .before .before .before .before .before .before .before .before .before .before .before .before .before .before .before .before .link-tree .ensures) (c .before .before .before .before .before .before .before .before .before .before .before .before .before .before .slot-at .ensures) (c .before .before .before .before .before .before .before .before .run-code .ensures)
+    let p = c .before .before .before .before .before .before .before .before .before .before .before .before .before .before .before .before .before .before .before .before .before .before .before .before .before .before .before .pre in
+    linked-ran _ _ _ _ _ _ _ _ _ _ (p .1) (p .3) (p .4) (c .before .before .before .before .before .before .before .before .before .before .before .before .before .before .before .before .before .before .link-tree .ensures) (c .before .before .before .before .before .before .before .before .before .before .before .before .before .before .from-slot .ensures ∙ c .before .before .before .before .before .before .before .before .before .before .before .before .before .before .before .slot-at .ensures) (c .before .before .before .before .before .before .before .before .run-code .ensures)
 
 pub run-linked-spec : {M : Type 1} → statement M
 run-linked-spec =
@@ -44,6 +48,7 @@ run-linked-spec =
     (tie.spec
     link-tree-requires
     slot-at-requires
+    from-slot-requires
     run-code-requires
     same-length
     same-length-2
