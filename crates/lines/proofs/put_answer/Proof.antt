@@ -44,9 +44,6 @@ put-bytes-requires-4 c κs = search needs
 enum-known-v : tie.Need-enum-known-v
 enum-known-v c = search needs
 
-cast-put-integer : tie.Need-cast-put-integer
-cast-put-integer c = search needs
-
 put-integer-requires : tie.Need-put-integer-requires
 put-integer-requires c κs = search needs
 
@@ -150,7 +147,6 @@ put-answer-spec =
     slice-aggregate-put-bytes-4
     put-bytes-requires-4
     enum-known-v
-    cast-put-integer
     put-integer-requires
     enum-told-5
     slice-aggregate-put-bytes-5

@@ -1,0 +1,2 @@
+-- The specs of the crate promises.
+pub mod laws
