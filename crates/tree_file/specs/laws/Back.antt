@@ -31,7 +31,7 @@ use Rattle.tree_file.specs.laws.Standing.{code-end}
 
 -- ---- neutral codes
 -- what is known of a neutral code
-record Neutral (op n : ℕ) : Type 0 where
+pub record Neutral (op n : ℕ) : Type 0 where
   pub past-five : 6 ≤ op
   pub fits : op < 32
   pub shape : shapeOf op ≡ suc n
@@ -49,7 +49,7 @@ no-end : (v k : ℕ) → 6 ≤ v → shapeOf v ≡ k → 1 ≤ k
 no-end v zero h e = let z : v ≡ 0 = code-end v e in absurd (omega arith)
 no-end v (suc k) h e = omega arith
 
-neutral-shape : (op n : ℕ) → isNeutral op ≡ true → operands op ≡ n → Neutral op n
+pub neutral-shape : (op n : ℕ) → isNeutral op ≡ true → operands op ≡ n → Neutral op n
 unfolding isNeutral operands
 neutral-shape op n e f =
     let a = and-eq-true-iff (leb 6 op) (leb (shapeOf op) 3) .0 e in

@@ -57,7 +57,7 @@ unfolding templateBits
 template-length t = simp (length-append, length-bits, list-length (t .code)) (omega arith)
 
 -- ---- bits are 0 or 1
-operands-are : (ns : List ℕ) → AreBits (operandsBits ns)
+pub operands-are : (ns : List ℕ) → AreBits (operandsBits ns)
 unfolding operandsBits
 operands-are [] = none-are
 operands-are (n ∷ ns) = append-are (bits-are 8 n) (operands-are ns)

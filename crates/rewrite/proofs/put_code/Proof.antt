@@ -1,0 +1,94 @@
+-- `rewrite::put_code` meets its contract: a code and none, one or two operand bytes, one after the other. Assumes nothing.
+use native.Mathlib.Omega.{arith}
+use mathlib.Core.Path.{_∙_, ap}
+use lib.ListN.{length}
+use Rattle.fields.specs.laws.Laws.{field-small}
+use Rattle.bit_writer.specs.laws.Laws.{put-length}
+use Rattle.rewrite.specs.laws.Steps.{put-none, put-one, put-two}
+use borrow.Author.Needs.{needs}
+use Rattle.rewrite.proofs.put_code.Statement.{statement}
+use Rattle.rewrite.proofs.put_code.Tie as tie
+
+put-field-requires : tie.Need-put-field-requires
+put-field-requires c κs = search needs
+
+same-length : tie.Need-same-length
+same-length c = search needs
+
+returns : tie.Need-returns
+returns c =
+    let e = c .before .before .before .put-field .ensures in
+    let z = c .if1 .taken in
+    (omega (arith, e .0), put-none _ _ _ _ _ _ _ _ (e .1) (e .0) _ z)
+
+past-requires : tie.Need-past-requires
+past-requires c κs = search needs
+
+bits-at-requires : tie.Need-bits-at-requires
+bits-at-requires c κs = search needs
+
+new-operand-requires : tie.Need-new-operand-requires
+new-operand-requires c κs = search needs
+
+put-field-requires-2 : tie.Need-put-field-requires-2
+put-field-requires-2 c κs = search needs
+
+same-length-2 : tie.Need-same-length-2
+same-length-2 c = search needs
+
+returns-2 : tie.Need-returns-2
+returns-2 c =
+    let e = c .before .before .before .before .before .before .before .before .before .before .before .put-field .ensures in
+    let g = c .before .before .before .put-field2 .ensures in
+    let x = c .before .before .before .before .new-operand .ensures .0 in
+    let p = c .before .before .before .before .before .before .before .before .before .before .before .before .before .before .before .before .pre in
+    let z = c .if2 .taken in
+    (omega (arith, e .0, g .0), put-one _ _ _ _ _ _ _ _ (e .1) (e .0) _ _ (g .1) (rw (c .before .before .before .before .before .before .bits-at .ensures .0, c .before .before .before .before .before .before .before .past .ensures) at x) _ z (omega (arith, p .1 .1)))
+
+past-requires-2 : tie.Need-past-requires-2
+past-requires-2 c κs = search needs
+
+bits-at-requires-2 : tie.Need-bits-at-requires-2
+bits-at-requires-2 c κs = search needs
+
+put-field-requires-3 : tie.Need-put-field-requires-3
+put-field-requires-3 c κs =
+    let e = c .before .before .before .before .before .before .before .before .before .before .before .before .before .before .put-field .ensures in
+    let g = c .before .before .before .before .before .before .put-field2 .ensures in
+    let p = c .before .before .before .before .before .before .before .before .before .before .before .before .before .before .before .before .before .before .before .pre in
+    let m₁ = ap length (e .1) ∙ put-length _ _ _ in
+    let m₂ = ap length (g .1) ∙ put-length _ _ _ in
+    (omega (arith, m₁, m₂, p .0 .1), omega arith, rw (c .bits-at2 .ensures .0) (field-small _ _ _), omega (arith, m₁, m₂, e .0, g .0, p .1 .1, c .before .before .before .before .before .before .before .before .before .before .before .if1 .left, c .before .before .before .if2 .left))
+
+same-length-3 : tie.Need-same-length-3
+same-length-3 c = search needs
+
+returns-3 : tie.Need-returns-3
+returns-3 c =
+    let e = c .before .before .before .before .before .before .before .before .before .before .before .before .before .before .before .before .before .put-field .ensures in
+    let g = c .before .before .before .before .before .before .before .before .before .put-field2 .ensures in
+    let k = c .before .before .put-field3 .ensures in
+    let x = c .before .before .before .before .before .before .before .before .before .before .new-operand .ensures .0 in
+    let p = c .before .before .before .before .before .before .before .before .before .before .before .before .before .before .before .before .before .before .before .before .before .before .pre in
+    let n = c .before .before .before .before .before .before .before .before .before .before .before .before .before .before .if1 .left in
+    let m = c .before .before .before .before .before .before .if2 .left in
+    (omega (arith, e .0, g .0, k .0, p .0 .4), put-two _ _ _ _ _ _ _ _ (e .1) (e .0) _ _ (g .1) (rw (c .before .before .before .before .before .before .before .before .before .before .before .before .bits-at .ensures .0, c .before .before .before .before .before .before .before .before .before .before .before .before .before .past .ensures) at x) _ _ _ (k .1) (g .0) (rw (c .before .before .before .before .past2 .ensures) at (c .before .before .before .bits-at2 .ensures .0)) _ (omega (arith, p .0 .4)) (omega (arith, p .1 .1, p .0 .4)))
+
+pub put-code-spec : {M : Type 1} → statement M
+put-code-spec =
+    tie.close
+    (tie.spec
+    put-field-requires
+    same-length
+    returns
+    past-requires
+    bits-at-requires
+    new-operand-requires
+    put-field-requires-2
+    same-length-2
+    returns-2
+    past-requires-2
+    bits-at-requires-2
+    put-field-requires-3
+    same-length-3
+    returns-3)

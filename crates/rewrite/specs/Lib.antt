@@ -1,0 +1,4 @@
+-- The specs of the crate rewrite.
+pub mod Reindex
+pub mod Tokens
+pub mod laws

@@ -1,0 +1,3 @@
+-- The laws of the crate rewrite.
+pub mod TokensLaws
+pub mod Steps
