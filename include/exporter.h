@@ -64,6 +64,17 @@ void exporter_flatten(const uint8_t *file, size_t file_len,
                       uint8_t *out, size_t out_len,
                       uint64_t *result, size_t result_len);
 
+/* The other way: from a linear file back to the one tree file that flattens to it (request 4's orphans left aside). The tree file is never longer than
+   the linear file, nor than EXPORTER_TREE_FILE bytes.
+   result[0]: 0 accepted, else the refusal's number: 1, 2, 3 or 5 as exporter_run_linear gives them; 32: no accepted tree file flattens to these bytes; 9.
+   result[1]: accepted: the tree file's length in bytes; refused: the place; of 32 the lowest template whose code or entries stand in the way, or 0 where
+   only the tree's length does; of 9 the bytes needed.
+   Accepted: the first result[1] bytes of out are the tree file, the others are as they were. Refused: all of out is.
+   result_len is 2 or more; slots after the first 2 stay. Where it is less, nothing at all is done. */
+void exporter_back(const uint8_t *file, size_t file_len,
+                   uint8_t *out, size_t out_len,
+                   uint64_t *result, size_t result_len);
+
 /* Runs a tree file.
    owner: EXPORTER_HOUSE or EXPORTER_VENDOR.
    globals: read at the start (tags 1 to 6 only, all bits below their fields zero) and left as the run leaves them. stack, store, frames: what they held does

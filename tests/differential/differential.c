@@ -30,7 +30,8 @@ typedef struct {
 static const Lengths right_lengths = { GLOBALS, STACK, STORE, FRAMES, RESULT };
 
 static uint64_t seed, differences;
-static uint64_t flatten_tally[32], tree_tally[4][32], linear_tally[4][32];
+static uint64_t flatten_tally[33], back_tally[33], tree_tally[4][32], linear_tally[4][32];
+static uint64_t came_back, changed_back; /* sheets that came back from their linear file, and files with a byte changed that still go back */
 static uint64_t ends_of[2], barred[2]; /* by owner: ends that are no refusals, and those that are 25 */
 
 /* What was lent: how often, by kind of length. */
@@ -135,8 +136,18 @@ static void check_file(const File *file)
 
 static uint8_t library_out[4 * FILE_ROOM], plain_out[4 * FILE_ROOM];
 
-/* Answers the linear file's length, or 0 where it was refused. The linear file is then at the front of library_out. */
-static size_t flatten_both(Random *random, const File *file, size_t out_len, size_t result_len, uint64_t plain_result[4])
+/* From one file to another: flattening, and the way back */
+typedef struct {
+    const char *name;
+    Flatten *library, *plain;
+    uint64_t *tally;
+} Way;
+
+static const Way flattening = { "flatten", exporter_flatten, plain_flatten, flatten_tally };
+static const Way way_back = { "back", exporter_back, plain_back, back_tally };
+
+/* Answers the length of the file that is written, or 0 where it was refused. It is then at the front of library_out. */
+static size_t convert_both(const Way *way, Random *random, const File *file, size_t out_len, size_t result_len, uint64_t plain_result[4])
 {
     uint64_t library_result[4];
     bool at_end = next_end(), inside;
@@ -148,23 +159,23 @@ static size_t flatten_both(Random *random, const File *file, size_t out_len, siz
     empty_results += result_len == 0;
     short_results += result_len == 1;
     longer_results += result_len > 2;
-    calling = "flatten";
-    exporter_flatten(lend_file(file, at_end), file->len, lend(&lent.out, library_out, out_len, at_end), out_len,
-                     lend(&lent.result, library_result, result_len * sizeof(uint64_t), at_end), result_len);
+    calling = way->name;
+    way->library(lend_file(file, at_end), file->len, lend(&lent.out, library_out, out_len, at_end), out_len,
+                 lend(&lent.result, library_result, result_len * sizeof(uint64_t), at_end), result_len);
     check_file(file);
     inside = take_back(&lent.out, library_out);
     inside = take_back(&lent.result, library_result) && inside;
-    plain_flatten(file->bytes, file->len, plain_out, out_len, plain_result, result_len);
+    way->plain(file->bytes, file->len, plain_out, out_len, plain_result, result_len);
     if ((!inside || memcmp(library_result, plain_result, sizeof library_result) != 0 || memcmp(library_out, plain_out, out_len) != 0)
-        && differs("flatten")) {
+        && differs(way->name)) {
         printf("  out_len %zu, result_len %zu%s\n", out_len, result_len, inside ? "" : ", written beside what was lent");
         tell_results("library", library_result, 4);
         tell_results("plain  ", plain_result, 4);
-        dump("sheet", file->bytes, file->len);
+        dump("file", file->bytes, file->len);
     }
     if (result_len < 2)
         return 0;
-    flatten_tally[plain_result[0]]++;
+    way->tally[plain_result[0]]++;
     longer_outputs += plain_result[0] == 0 && plain_result[1] < out_len;
     return plain_result[0] == 0 ? plain_result[1] : 0;
 }
@@ -178,18 +189,45 @@ static size_t ample(const File *file)
 static void compare_flattening(Random *random, const File *file, File *linear)
 {
     uint64_t result[4];
-    size_t needed = flatten_both(random, file, ample(file), 2, result);
+    size_t needed = convert_both(&flattening, random, file, ample(file), 2, result);
     linear->len = needed;
     memcpy(linear->bytes, library_out, needed);
     if (needed > 0) {
-        flatten_both(random, file, needed, 4, result);
-        flatten_both(random, file, needed - 1, 2, result);
-        flatten_both(random, file, draw(random) % needed, 2, result);
+        convert_both(&flattening, random, file, needed, 4, result);
+        convert_both(&flattening, random, file, needed - 1, 2, result);
+        convert_both(&flattening, random, file, draw(random) % needed, 2, result);
     }
     if (result[0] == 8 || chance(random, 5))
-        flatten_both(random, file, 0, 2 + below(random, 3), result);
+        convert_both(&flattening, random, file, 0, 2 + below(random, 3), result);
     if (chance(random, 5))
-        flatten_both(random, file, ample(file), below(random, 2), result);
+        convert_both(&flattening, random, file, ample(file), below(random, 2), result);
+}
+
+/* The way back from a linear file. Where it gives a tree file, flattening that gives the linear file again, unless the tree file has an orphan. sheet: what
+   the linear file was flattened from, if it was. */
+static size_t compare_back(Random *random, const File *linear, const File *sheet)
+{
+    static File tree;
+    uint64_t result[4];
+    size_t ample = linear->len + 64, needed = convert_both(&way_back, random, linear, ample, 2, result);
+    tree.len = needed;
+    memcpy(tree.bytes, library_out, needed);
+    if (sheet && (needed != sheet->len || memcmp(tree.bytes, sheet->bytes, needed) != 0) && differs("a sheet does not come back from its linear file")) {
+        dump("sheet", sheet->bytes, sheet->len);
+        dump("back", tree.bytes, tree.len);
+    }
+    if (needed == 0)
+        return 0;
+    convert_both(&way_back, random, linear, needed, 4, result);
+    convert_both(&way_back, random, linear, draw(random) % needed, 2, result);
+    if (chance(random, 5))
+        convert_both(&way_back, random, linear, ample, below(random, 2), result);
+    size_t again = convert_both(&flattening, random, &tree, linear->len, 2, result);
+    if (result[0] != 24 && (again != linear->len || memcmp(library_out, linear->bytes, again) != 0) && differs("what a file goes back to does not flatten to it")) {
+        dump("linear", linear->bytes, linear->len);
+        dump("back", tree.bytes, tree.len);
+    }
+    return needed;
 }
 
 /* Runs */
@@ -460,11 +498,20 @@ static void compare_sheet(Random *random)
     generate_globals(random, globals);
     compare_flattening(random, &sheet, &flat);
     compare_machines(random, &sheet, &flat, globals, (Given){ generate_budget(random, TREE_BUDGET), owner });
+    if (flat.len > 0) {
+        came_back += compare_back(random, &flat, &sheet) > 0;
+        size_t place = draw(random) % flat.len;
+        uint8_t byte = flat.bytes[place];
+        flat.bytes[place] = (uint8_t)(byte + 1 + below(random, 255));
+        changed_back += compare_back(random, &flat, NULL) > 0;
+        flat.bytes[place] = byte;
+    }
     if (chance(random, 20))
         compare_bad_start(random, &sheet, globals, true);
     if (flat.len > 0 && chance(random, 60)) {
         damage(random, &flat);
         compare_linear(random, &flat, globals, owner);
+        compare_back(random, &flat, NULL);
     }
 }
 
@@ -475,8 +522,9 @@ static void compare_own_linear(Random *random)
     generate_linear(random, &linear);
     generate_globals(random, globals);
     compare_linear(random, &linear, globals, owner);
+    compare_back(random, &linear, NULL);
     if (chance(random, 5))
-        flatten_both(random, &linear, ample(&linear), 2, result);
+        convert_both(&flattening, random, &linear, ample(&linear), 2, result);
 }
 
 static void print_tally(const char *machine, uint64_t tally[4][32])
@@ -491,13 +539,20 @@ static void print_tally(const char *machine, uint64_t tally[4][32])
     }
 }
 
+static void print_way(const Way *way)
+{
+    printf("%s:", way->name);
+    for (unsigned n = 0; n < 33; n++)
+        if (way->tally[n] > 0)
+            printf(" %u x%" PRIu64, n, way->tally[n]);
+    printf("\n");
+}
+
 static void print_tallies(void)
 {
-    printf("flatten:");
-    for (unsigned n = 0; n < 32; n++)
-        if (flatten_tally[n] > 0)
-            printf(" %u x%" PRIu64, n, flatten_tally[n]);
-    printf("\n");
+    print_way(&flattening);
+    print_way(&way_back);
+    printf("back: sheets x%" PRIu64 ", with a byte changed x%" PRIu64 "\n", came_back, changed_back);
     print_tally("tree", tree_tally);
     print_tally("linear", linear_tally);
     printf("house: ended x%" PRIu64 ", 25 x%" PRIu64 "; vendor: ended x%" PRIu64 ", 25 x%" PRIu64 "\n", ends_of[HOUSE], barred[HOUSE], ends_of[VENDOR],
@@ -526,7 +581,10 @@ static bool all_came_up(void)
         && short_results && longer_results && barred[HOUSE] && barred[VENDOR] && ends_of[VENDOR] > 4 * barred[VENDOR];
     for (unsigned n = 0; n < 10; n++)
         all = all && flatten_tally[n] > 0;
-    all = all && flatten_tally[24] > 0;
+    all = all && flatten_tally[24] > 0 && came_back && changed_back;
+    static const uint8_t backs[] = { 0, 1, 2, 3, 5, 9, 32 };
+    for (unsigned i = 0; i < sizeof backs; i++)
+        all = all && back_tally[backs[i]] > 0;
     return all && all_ends_came_up(tree_tally, true) && all_ends_came_up(linear_tally, false);
 }
 

@@ -547,6 +547,7 @@ typedef struct {
     uint32_t length;
     const uint8_t *kinds;
     const Cell *held;
+    uint64_t entries, entries_end; /* the bits of E and the entries */
 } Linear;
 
 static Linear linears[TEMPLATES];
@@ -569,9 +570,14 @@ static bool read_linear(const uint8_t *file, size_t len)
 {
     if (!open_file(file, len, LINEAR_LIMIT) || !read_count_of_templates())
         return false;
-    for (unsigned t = 0; t < templates; t++)
-        if (!read_entries(t) || !padding() || !read_code(t))
+    for (unsigned t = 0; t < templates; t++) {
+        linears[t].entries = at;
+        if (!read_entries(t))
             return false;
+        linears[t].entries_end = at;
+        if (!padding() || !read_code(t))
+            return false;
+    }
     return nothing_more();
 }
 
@@ -1199,4 +1205,125 @@ void plain_pull_list(const int32_t *clips, size_t clips_len, const uint8_t *file
         to = pull_clip(to, k, clips + CLIP_WORDS * k, budget);
     result[0] = 0;
     result[1] = (uint64_t)(to - (char *)list);
+}
+
+/* The way back (request 13). The offsets cut the code into regions from outside in. A list is closed, or it is open or empty. Its tree is written while it is
+   read, and thrown away where there is none. */
+
+static uint8_t tree_back[LINEAR_LIMIT];
+static uint64_t tree_bits;
+
+static void put_bits(uint64_t value, unsigned width)
+{
+    for (; width > 0; width--, tree_bits++)
+        if (value >> (width - 1) & 1)
+            tree_back[tree_bits / 8] |= (uint8_t)(0x80 >> tree_bits % 8);
+}
+
+static uint32_t offset_at(const uint8_t *code, uint32_t place)
+{
+    return 256u * code[place] + code[place + 1];
+}
+
+static bool whole_instruction(const uint8_t *code, uint32_t from, uint32_t to)
+{
+    return code[from] <= LAST_CODE && linear_size[code[from]] != 0 && linear_size[code[from]] <= to - from;
+}
+
+static bool ends_in_jump(const uint8_t *code, uint32_t from, uint32_t to)
+{
+    uint8_t last = END;
+    for (; from < to; from += linear_size[last]) {
+        if (!whole_instruction(code, from, to))
+            return false;
+        last = code[from];
+    }
+    return last == JUMP;
+}
+
+static bool back_list(const Linear *in, uint32_t from, uint32_t to, bool closed, unsigned level);
+
+/* The arms of the conditional at `from`; where the rest of its list begins, and whether its arms are closed. */
+static bool back_arms(const Linear *in, uint32_t from, uint32_t to, bool closed, unsigned level, uint32_t *rest, bool *shut)
+{
+    uint32_t first = from + 3, length = offset_at(in->code, from + 1);
+    if (length > to - first)
+        return false;
+    uint32_t turn = first + length;
+    *shut = !ends_in_jump(in->code, first, turn);
+    if (*shut) {
+        *rest = to;
+        return closed && back_list(in, first, turn, true, level + 1) && back_list(in, turn, to, true, level + 1);
+    }
+    uint32_t over = offset_at(in->code, turn - 2);
+    if (length < 4 || over < 1 || over > to - turn)
+        return false;
+    *rest = turn + over;
+    return back_list(in, first, turn - 3, false, level + 1) && back_list(in, turn, *rest, false, level + 1);
+}
+
+static bool back_list(const Linear *in, uint32_t from, uint32_t to, bool closed, unsigned level)
+{
+    if (level > LAST_LEVEL)
+        return false;
+    while (from < to) {
+        const uint8_t *code = in->code + from;
+        if (!whole_instruction(in->code, from, to) || *code == JUMP)
+            return false;
+        put_bits(*code, 5);
+        if (*code == CONDITIONAL) {
+            bool shut;
+            if (!back_arms(in, from, to, closed, level, &from, &shut))
+                return false;
+            closed = closed && !shut;
+        } else if (*code == MAKE_CONT) {
+            uint32_t rest = from + 4, length = offset_at(in->code, from + 1);
+            put_bits(code[3], 8);
+            if (length > to - rest || !back_list(in, rest + length, to, closed, level + 1))
+                return false;
+            from = rest;
+            to = rest + length;
+            closed = true;
+        } else {
+            unsigned size = linear_size[*code];
+            if (named_kind[*code] != NO_KIND && in->kinds[code[1]] != named_kind[*code])
+                return false;
+            if (*code < LITERAL && (!closed || size != to - from))
+                return false;
+            closed = closed && *code >= LITERAL;
+            for (unsigned n = 1; n < size; n++)
+                put_bits(code[n], 8);
+            from += size;
+        }
+    }
+    put_bits(END, 5);
+    return !closed;
+}
+
+static bool back_templates(void)
+{
+    memset(tree_back, 0, sizeof tree_back);
+    tree_bits = 0;
+    put_bits(templates, 8);
+    for (unsigned t = 0; t < templates; t++) {
+        for (uint64_t place = linears[t].entries; place < linears[t].entries_end; place++)
+            put_bits(bits_at(place, 1), 1);
+        if (!back_list(&linears[t], 0, linears[t].length, true, 1))
+            return refuse(32, t);
+    }
+    return tree_bits <= 8 * TREE_LIMIT || refuse(32, 0);
+}
+
+void plain_back(const uint8_t *file, size_t file_len, uint8_t *out, size_t out_len, uint64_t *result, size_t result_len)
+{
+    if (result_len < 2)
+        return;
+    if (!read_linear(file, file_len) || !back_templates() || !((tree_bits + 7) / 8 <= out_len || refuse(9, (tree_bits + 7) / 8))) {
+        result[0] = refusal;
+        result[1] = refusal_place;
+        return;
+    }
+    memcpy(out, tree_back, (tree_bits + 7) / 8);
+    result[0] = 0;
+    result[1] = (tree_bits + 7) / 8;
 }

@@ -14,6 +14,11 @@ void plain_flatten(const uint8_t *file, size_t file_len,
                    uint8_t *out, size_t out_len,
                    uint64_t *result, size_t result_len);
 
+/* The other way: writes the tree file of a linear file. Of the same shape. */
+void plain_back(const uint8_t *file, size_t file_len,
+                uint8_t *out, size_t out_len,
+                uint64_t *result, size_t result_len);
+
 /* Runs a tree file. owner 0 is the house, 1 a vendor. globals 256 cells, stack 256, store 2,048, frames 2,048.
    result[0]: how it ended: 0 halted, 1 wrong, 2 out of budget, 3 refused.
    result[1]: 0, the wrong number, 19, or the refusal's number.

@@ -7,6 +7,11 @@ void exporter_flatten(const uint8_t *file, size_t file_len, uint8_t *out, size_t
     plain_flatten(file, file_len, out, out_len, result, result_len);
 }
 
+void exporter_back(const uint8_t *file, size_t file_len, uint8_t *out, size_t out_len, uint64_t *result, size_t result_len)
+{
+    plain_back(file, file_len, out, out_len, result, result_len);
+}
+
 void exporter_run_tree(const uint8_t *file, size_t file_len, uint64_t budget, uint64_t owner, uint64_t *globals, size_t globals_len,
                        uint64_t *stack, size_t stack_len, uint64_t *store, size_t store_len,
                        uint64_t *frames, size_t frames_len, uint64_t *result, size_t result_len)

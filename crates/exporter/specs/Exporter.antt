@@ -10,6 +10,9 @@ use Rattle.flatten.specs.Flatten.{answered, written}
 use Rattle.flatten.specs.declared.Flattened.{Flattened}
 use Rattle.flatten.specs.declared.Flattened.the-variants.{Written}
 use Rattle.flatten.specs.declared.Flattened.the-variants.{Refused as FlatRefused}
+use Rattle.unflatten.specs.Back.{answered as backAnswered, written as backWritten}
+use Rattle.unflatten.specs.declared.TreeBack.{TreeBack}
+use Rattle.unflatten.specs.declared.TreeBack.the-variants.{Written as BackWritten, Refused as BackRefused}
 use Rattle.machines.specs.Runs.{Memory, Ran, ran, numberOf, answerCell}
 use Rattle.machines.specs.declared.End.{End}
 use Rattle.machines.specs.declared.End.the-variants.{Halted, Wrong, OutOfBudget, Refused}
@@ -40,6 +43,17 @@ pullResult r old = cond (leb 2 (length old)) (sets old 0 (pullSlots r)) old
 
 unfoldable pub pullOutput : List ℕ → List ℕ → List ℕ → List ℕ
 pullOutput lines list old = cond (leb 2 (length old)) lines list
+
+-- ---- back to the tree: the same slots
+unfoldable pub backSlots : TreeBack → List ℕ
+backSlots (BackWritten n) = 0 ∷ n ∷ []
+backSlots (BackRefused n p) = n ∷ p ∷ []
+
+unfoldable pub backResult : Got (List ℕ) → List ℕ → List ℕ
+backResult g old = cond (leb 2 (length old)) (sets old 0 (backSlots (backAnswered g))) old
+
+unfoldable pub backOutput : Got (List ℕ) → List ℕ → List ℕ → List ℕ
+backOutput g out old = cond (leb 2 (length old)) (backWritten out g) out
 
 -- ---- runs
 -- how a run ended: 0 halted, 1 wrong, 2 out of budget, 3 refused

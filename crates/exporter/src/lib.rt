@@ -8,6 +8,8 @@ ghost use Rattle.cells.specs.Cells.{cellOf};
 ghost use Rattle.flatten.specs.Flatten.{flattened};
 ghost use Rattle.machines.specs.Runs.{lent, treeRun, linearRun};
 ghost use Rattle.pull.specs.Pull.{pulled, pulledList};
+ghost use Rattle.unflatten.specs.Back.{backed};
+ghost use Rattle.exporter.specs.Exporter.{backSlots, backOutput, backResult};
 ghost use Rattle.exporter.specs.Exporter.{endSlots, runSlots, flattenSlots, flattenOutput, flattenResult, exported, runExported};
 ghost use Rattle.exporter.specs.Exporter.{pullSlots, pullOutput, pullResult};
 ghost use Rattle.exporter.specs.Answers.{FieldsFit, AnswerFits};
@@ -16,6 +18,7 @@ use flatten::Flattened;
 use machines::End;
 use machines::Run;
 use pull::Pulled;
+use unflatten::TreeBack;
 
 // The cell of an answer.
 fn answer_cell(v: Value) -> u64
@@ -63,6 +66,16 @@ fn put_pulled(result: &mut [u64], answer: Pulled)
     match answer {
         Pulled::Written(n) => put_two(result, 0, n as u64),
         Pulled::Refused(n, p) => put_two(result, n as u64, p as u64),
+    }
+}
+
+fn put_back(result: &mut [u64], answer: TreeBack)
+    requires { ⌜ 2 ≤ length (now result) ⌝ }
+    ensures { λ _. ⌜ now (result .exit) ≡ sets (now (result .entry)) 0 (backSlots answer) ⌝ }
+{
+    match answer {
+        TreeBack::Written(n) => put_two(result, 0, n as u64),
+        TreeBack::Refused(n, p) => put_two(result, n as u64, p as u64),
     }
 }
 
@@ -114,6 +127,18 @@ pub extern "C" fn exporter_flatten(file: &[u8], out: &mut [u8], result: &mut [u6
     }
     let answer = flatten::flatten(file, out);
     put_flattened(result, answer);
+}
+
+#[no_mangle]
+pub extern "C" fn exporter_back(file: &[u8], out: &mut [u8], result: &mut [u64])
+    ensures { λ _. ⌜ now (out .exit) ≡ backOutput (backed (now (file .entry)) (length (now (out .entry)))) (now (out .entry)) (now (result .entry)) ⌝ }
+    ensures { λ _. ⌜ now (result .exit) ≡ backResult (backed (now (file .entry)) (length (now (out .entry)))) (now (result .entry)) ⌝ }
+{
+    if result.len() < 2 {
+        return;
+    }
+    let answer = unflatten::back(file, out);
+    put_back(result, answer);
 }
 
 #[no_mangle]

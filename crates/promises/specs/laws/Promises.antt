@@ -30,6 +30,11 @@ use Rattle.pull.proofs.pull_list.Kinds as pull-list
 use Rattle.pull.proofs.pull_list.Reads as pull-list-reads
 use Rattle.exporter.proofs.exporter_pull_list.Kinds as exporter-pull-list
 use Rattle.exporter.proofs.exporter_pull_list.Reads as exporter-pull-list-reads
+use Rattle.unflatten.specs.declared.TreeBack.{TreeBack}
+use Rattle.unflatten.proofs.back.Kinds as back
+use Rattle.unflatten.proofs.back.Reads as back-reads
+use Rattle.exporter.proofs.exporter_back.Kinds as exporter-back
+use Rattle.exporter.proofs.exporter_back.Reads as exporter-back-reads
 use Rattle.exporter.proofs.exporter_flatten.Kinds as exporter-flatten
 use Rattle.exporter.proofs.exporter_flatten.Reads as exporter-flatten-reads
 use Rattle.exporter.proofs.exporter_run_tree.Kinds as exporter-run-tree
@@ -104,3 +109,13 @@ pull-list-only κs a x y e f p q = (λ i. (fixed (p .0) (q .0) i, fixed (p .1 .0
 pub exporter-pull-list-only : Only 4 exporter-pull-list.ps exporter-pull-list.r exporter-pull-list-reads.Learnt {B = List ℕ × List ℕ}
     (λ κs x e. (now (e .1 .1 .1 .0), now (e .1 .1 .1 .1 .0)))
 exporter-pull-list-only κs a x y e f p q = (λ i. (fixed (p .0) (q .0) i, fixed (p .1) (q .1) i))
+
+-- unflatten::back(s, out): its answer, and out
+pub back-only : Only 2 back.ps back.r back-reads.Learnt {B = TreeBack × List ℕ}
+    (λ κs x e. (x, now (e .1 .0)))
+back-only κs a x y e f p q = (λ i. (fixed (p .0) (q .0) i, fixed (p .1) (q .1) i))
+
+-- exporter::exporter_back(file, out, result): out and result
+pub exporter-back-only : Only 3 exporter-back.ps exporter-back.r exporter-back-reads.Learnt {B = List ℕ × List ℕ}
+    (λ κs x e. (now (e .1 .0), now (e .1 .1 .0)))
+exporter-back-only κs a x y e f p q = (λ i. (fixed (p .0) (q .0) i, fixed (p .1) (q .1) i))

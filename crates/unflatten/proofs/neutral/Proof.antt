@@ -1,0 +1,51 @@
+-- `unflatten::neutral` meets its contract. Assumes nothing.
+use Rattle.unflatten.specs.laws.HeadLaws.{shape-low, head-no-code, head-cut, head-neutral}
+use native.Mathlib.Omega.{arith}
+use mathlib.Core.Path.{refl, sym, ap, _∙_}
+use borrow.Author.Needs.{needs}
+use Rattle.unflatten.proofs.neutral.Statement.{statement}
+use Rattle.unflatten.proofs.neutral.Tie as tie
+use Rattle.unflatten.proofs.neutral.Reads as reads
+use Rattle.unflatten.proofs.neutral.Lts as lts
+use Rattle.unflatten.proofs.shape.Reads as shape-reads
+
+shared-slice-read-shape : tie.Need-shared-slice-read-shape
+shared-slice-read-shape c = search needs
+
+shape-requires : tie.Need-shape-requires
+shape-requires c κs = search needs
+
+returns : tie.Need-returns
+returns c = let h = c .before .before .before .before .pre in head-no-code _ _ _ _ _ (h .1) (h .2) _ refl (h .3) (omega (arith, c .if1 .taken, c .before .shape .ensures))
+
+sub-n : tie.Need-sub-n
+sub-n c = let h = c .before .before .before .before .pre in let s = shape-low _ _ (c .before .shape .ensures) (omega (arith, h .3)) in omega arith
+
+cast-n : tie.Need-cast-n
+cast-n c = search needs
+
+sub-if2 : tie.Need-sub-if2
+sub-if2 c = search needs
+
+add-if2 : tie.Need-add-if2
+add-if2 c = search needs
+
+returns-2 : tie.Need-returns-2
+returns-2 c = let h = c .before .before .before .before .before .pre in head-cut _ _ _ _ _ (h .1) (h .2) _ refl (h .3) _ (omega (arith, c .before .if1 .left, c .before .before .shape .ensures)) (omega (arith, c .before .before .shape .ensures)) (c .if2 .taken)
+
+returns-3 : tie.Need-returns-3
+returns-3 c = let h = c .before .before .before .before .before .pre in head-neutral _ _ _ _ _ (h .1) (h .2) _ refl (h .3) _ (omega (arith, c .before .if1 .left, c .before .before .shape .ensures)) (omega (arith, c .before .before .shape .ensures)) (c .if2 .left)
+
+pub neutral-spec : {M : Type 1} → statement M
+neutral-spec =
+    tie.close
+    (tie.spec
+    shared-slice-read-shape
+    shape-requires
+    returns
+    sub-n
+    cast-n
+    sub-if2
+    add-if2
+    returns-2
+    returns-3)

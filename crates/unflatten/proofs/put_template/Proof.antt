@@ -1,0 +1,90 @@
+-- `unflatten::put_template` meets its contract: E, the entries and the code stand where the file was read. Assumes nothing.
+use Prim.Native.Nat.{_+_, _*_, _-_, _/_}
+use native.Mathlib.Omega.{arith}
+use mathlib.Core.Path.{refl, sym, ap, _∙_}
+use Rattle.unflatten.specs.laws.GrowLaws.{parts, ends-at, not-refused, code-in, template-put, slots-same}
+use borrow.Author.Needs.{needs}
+use Rattle.unflatten.proofs.put_template.Statement.{statement}
+use Rattle.unflatten.proofs.put_template.Tie as tie
+use Rattle.unflatten.proofs.put_template.Reads as reads
+use Rattle.unflatten.proofs.put_template.Lts as lts
+use Rattle.bit_writer.proofs.copy_bits.Reads as copy-bits-reads
+use Rattle.cells.proofs.BitPlace.byte.Reads as byte-reads
+use Rattle.cells.proofs.BitPlace.past.Reads as past-reads
+use Rattle.cells.proofs.BitPlace.since.Reads as since-reads
+use Rattle.fields.proofs.bits_at.Reads as bits-at-reads
+use Rattle.files.proofs.read_entries.Reads as read-entries-reads
+use Rattle.unflatten.proofs.put_code.Reads as put-code-reads
+
+mul-read-entries : tie.Need-mul-read-entries
+mul-read-entries c = let h = c .before .before .before .pre in let a = c .before .before .before .args in let p = parts (a .s .now) (a .table .now) (a .out .now) (a .own) (a .count) (a .byte) (a .at .0) (h .1) (h .2) (h .3) (h .5) in omega (arith, h .0, p .inside, p .end-is)
+
+bits-at-requires : tie.Need-bits-at-requires
+bits-at-requires c κs = let h = c .before .before .before .pre in let a = c .before .before .before .args in let p = parts (a .s .now) (a .table .now) (a .out .now) (a .own) (a .count) (a .byte) (a .at .0) (h .1) (h .2) (h .3) (h .5) in (h .0, (omega arith, omega (arith, p .inside, p .end-is)))
+
+cast-read-entries : tie.Need-cast-read-entries
+cast-read-entries c = search needs
+
+past-requires : tie.Need-past-requires
+past-requires c κs = let h = c .before .before .before .before .before .pre in let a = c .before .before .before .before .before .args in let p = parts (a .s .now) (a .table .now) (a .out .now) (a .own) (a .count) (a .byte) (a .at .0) (h .1) (h .2) (h .3) (h .5) in omega (arith, h .0, p .inside, p .end-is)
+
+read-entries-requires : tie.Need-read-entries-requires
+read-entries-requires c κs = let h = c .before .before .before .before .before .before .pre in (h .0, (h .1, (h .2, (h .3, c .before .before .bits-at .ensures .1))))
+
+enum-known-past : tie.Need-enum-known-past
+enum-known-past c = search needs
+
+since-requires : tie.Need-since-requires
+since-requires c κs = let h = c .before .before .before .before .before .before .before .before .before .before .before .before .pre in let a = c .before .before .before .before .before .before .before .before .before .before .before .before .args in let p = parts (a .s .now) (a .table .now) (a .out .now) (a .own) (a .count) (a .byte) (a .at .0) (h .1) (h .2) (h .3) (h .5) in let e = ends-at (a .s .now) (a .table .now) (a .out .now) (a .own) (a .count) (a .byte) (a .at .0) (h .1) (h .2) (h .3) (h .5) (c .before .before .before .before .before .before .before .before .bits-at .ensures .0) (c .before .before .before .before .before .before .past .ensures) (c .before .before .before .before .before .read-entries .ensures .0) (c .before .past2 .given .1) in omega (arith, e, p .end-is)
+
+copy-bits-requires : tie.Need-copy-bits-requires
+copy-bits-requires c κs = let h = c .before .before .before .before .before .before .before .before .before .before .before .before .before .before .pre in let a = c .before .before .before .before .before .before .before .before .before .before .before .before .before .before .args in let p = parts (a .s .now) (a .table .now) (a .out .now) (a .own) (a .count) (a .byte) (a .at .0) (h .1) (h .2) (h .3) (h .5) in let e = ends-at (a .s .now) (a .table .now) (a .out .now) (a .own) (a .count) (a .byte) (a .at .0) (h .1) (h .2) (h .3) (h .5) (c .before .before .before .before .before .before .before .before .before .before .bits-at .ensures .0) (c .before .before .before .before .before .before .before .before .past .ensures) (c .before .before .before .before .before .before .before .read-entries .ensures .0) (c .before .before .before .past2 .given .1) in (h .0, h .4, omega (arith, e, p .inside, p .end-is, c .before .since .ensures), omega (arith, e, p .end-is, p .past-is, h .5 .room, c .before .since .ensures))
+
+past-requires-2 : tie.Need-past-requires-2
+past-requires-2 c κs = let h = c .before .before .before .before .before .before .before .before .before .before .before .before .before .before .before .before .before .before .pre in let a = c .before .before .before .before .before .before .before .before .before .before .before .before .before .before .before .before .before .before .args in let p = parts (a .s .now) (a .table .now) (a .out .now) (a .own) (a .count) (a .byte) (a .at .0) (h .1) (h .2) (h .3) (h .5) in let e = ends-at (a .s .now) (a .table .now) (a .out .now) (a .own) (a .count) (a .byte) (a .at .0) (h .1) (h .2) (h .3) (h .5) (c .before .before .before .before .before .before .before .before .before .before .before .before .before .before .bits-at .ensures .0) (c .before .before .before .before .before .before .before .before .before .before .before .before .past .ensures) (c .before .before .before .before .before .before .before .before .before .before .before .read-entries .ensures .0) (c .before .before .before .before .before .before .before .past2 .given .1) in omega (arith, e, h .0, p .inside)
+
+byte-requires : tie.Need-byte-requires
+byte-requires c κs = search needs
+
+put-code-requires : tie.Need-put-code-requires
+put-code-requires c κs = let h = c .before .before .before .before .before .before .before .before .before .before .before .before .before .before .before .before .before .before .before .before .before .pre in let a = c .before .before .before .before .before .before .before .before .before .before .before .before .before .before .before .before .before .before .before .before .before .args in let p = parts (a .s .now) (a .table .now) (a .out .now) (a .own) (a .count) (a .byte) (a .at .0) (h .1) (h .2) (h .3) (h .5) in let k = c .before .before .before .before .before .before .copy-bits .kept .1 .1 .1 .0 in (h .0, c .before .before .before .before .before .before .before .before .before .before .before .before .before .before .read-entries .kept .1 .0 ∙ h .1, h .2, omega (arith, h .4, k), code-in (a .s .now) (a .table .now) (a .out .now) (a .own) (a .count) (a .byte) (a .at .0) (h .1) (h .2) (h .3) (h .5) (c .before .before .before .before .before .before .before .before .before .before .before .before .before .before .before .before .before .bits-at .ensures .0) (c .before .before .before .before .before .before .before .before .before .before .before .before .before .before .before .past .ensures) (c .before .before .before .before .before .before .before .before .before .before .before .before .before .before .read-entries .ensures .0) (c .before .before .before .before .before .before .before .before .before .before .past2 .given .1) _ _ (c .before .byte .ensures ∙ ap (λ x. x / 8) (c .before .before .past3 .ensures)) k (c .before .before .before .before .before .before .copy-bits .ensures .0 ∙ ap (λ x. a .at .0 + x) (c .before .before .before .before .before .before .before .before .since .ensures)))
+
+enum-told : tie.Need-enum-told
+enum-told c = search needs
+
+same-length : tie.Need-same-length
+same-length c = search needs
+
+same-length-2 : tie.Need-same-length-2
+same-length-2 c = search needs
+
+returns : tie.Need-returns
+returns c = let h = c .before .before .before .before .before .before .before .before .before .before .before .before .before .before .before .before .before .before .before .before .before .before .before .before .pre in let a = c .before .before .before .before .before .before .before .before .before .before .before .before .before .before .before .before .before .before .before .before .before .before .before .before .args in (λ w. template-put (a .s .now) (a .table .now) (a .out .now) (a .own) (a .count) (a .byte) (a .at .0) (h .1) (h .2) (h .3) w (c .before .before .before .before .before .before .before .before .before .before .before .before .before .before .before .before .before .before .before .before .bits-at .ensures .0) (c .before .before .before .before .before .before .before .before .before .before .before .before .before .before .before .before .before .before .past .ensures) (c .before .before .before .before .before .before .before .before .before .before .before .before .before .before .before .before .before .read-entries .ensures .0) (c .before .before .before .before .before .before .before .before .before .before .before .before .before .past2 .given .1) (c .before .before .before .before .before .before .before .before .before .before .before .before .before .before .before .before .before .read-entries .ensures .1) (c .before .before .before .before .before .before .before .before .before .before .before .since .ensures) (c .before .before .before .before .before .before .before .before .before .copy-bits .ensures .1) (c .before .before .before .before .before .before .before .before .before .copy-bits .ensures .0) (c .before .before .before .before .byte .ensures ∙ ap (λ x. x / 8) (c .before .before .before .before .before .past3 .ensures)) (c .before .before .put-code .ensures), slots-same (a .s .now) (a .own) (a .count) (a .byte) _ _ (a .table .now) _ (c .before .before .before .before .before .before .before .before .before .before .before .before .before .before .before .before .before .before .before .before .bits-at .ensures .0) (c .before .before .before .before .before .before .before .before .before .before .before .before .before .before .before .before .before .before .past .ensures) (c .before .before .before .before .before .before .before .before .before .before .before .before .before .before .before .before .before .read-entries .ensures .1))
+
+same-length-3 : tie.Need-same-length-3
+same-length-3 c = search needs
+
+returns-2 : tie.Need-returns-2
+returns-2 c = let h = c .before .before .before .before .before .before .before .before .before .before .before .pre in let a = c .before .before .before .before .before .before .before .before .before .before .before .args in (λ w. absurd (not-refused (a .s .now) (a .table .now) (a .out .now) (a .own) (a .count) (a .byte) (a .at .0) (h .1) (h .2) (h .3) w (c .before .before .before .before .before .before .before .bits-at .ensures .0) (c .before .before .before .before .before .past .ensures) (c .before .before .before .before .read-entries .ensures .0) (c .enum-told .given .1)), slots-same (a .s .now) (a .own) (a .count) (a .byte) _ _ (a .table .now) _ (c .before .before .before .before .before .before .before .bits-at .ensures .0) (c .before .before .before .before .before .past .ensures) (c .before .before .before .before .read-entries .ensures .1))
+
+pub put-template-spec : {M : Type 1} → statement M
+put-template-spec =
+    tie.close
+    (tie.spec
+    mul-read-entries
+    bits-at-requires
+    cast-read-entries
+    past-requires
+    read-entries-requires
+    enum-known-past
+    since-requires
+    copy-bits-requires
+    past-requires-2
+    byte-requires
+    put-code-requires
+    enum-told
+    same-length
+    same-length-2
+    returns
+    same-length-3
+    returns-2)
