@@ -75,6 +75,15 @@ void exporter_back(const uint8_t *file, size_t file_len,
                    uint8_t *out, size_t out_len,
                    uint64_t *result, size_t result_len);
 
+/* Joins a prologue and a tree file: a prologue has one template and an open list, and so may the file.
+   result[0]: 0 accepted, else the refusal's number, 1 to 7, 9 or 30.
+   result[1]: accepted: the joined file's length in bytes; refused: the place.
+   out, and a result that is too short: as with exporter_flatten. */
+void exporter_join(const uint8_t *prologue, size_t prologue_len,
+                   const uint8_t *file, size_t file_len,
+                   uint8_t *out, size_t out_len,
+                   uint64_t *result, size_t result_len);
+
 /* Runs a tree file.
    owner: EXPORTER_HOUSE or EXPORTER_VENDOR.
    globals: read at the start (tags 1 to 6 only, all bits below their fields zero) and left as the run leaves them. stack, store, frames: what they held does

@@ -30,7 +30,7 @@ typedef struct {
 static const Lengths right_lengths = { GLOBALS, STACK, STORE, FRAMES, RESULT };
 
 static uint64_t seed, differences;
-static uint64_t flatten_tally[33], back_tally[33], tree_tally[4][32], linear_tally[4][32];
+static uint64_t flatten_tally[33], back_tally[33], join_tally[33], grouped[2], tree_tally[4][32], linear_tally[4][32];
 static uint64_t came_back, changed_back; /* sheets that came back from their linear file, and files with a byte changed that still go back */
 static uint64_t ends_of[2], barred[2]; /* by owner: ends that are no refusals, and those that are 25 */
 
@@ -87,7 +87,7 @@ static void tell_memories(const Memory *library, const Memory *plain)
 /* Lending, to the library alone */
 
 static struct {
-    Guarded file, out, globals, stack, store, frames, result;
+    Guarded file, second, out, globals, stack, store, frames, result;
 } lent;
 
 static const char *calling; /* for the report of a fault */
@@ -96,6 +96,7 @@ static uint64_t calls;      /* of this file */
 static void make_buffers(void)
 {
     make_guarded(&lent.file, FILE_ROOM);
+    make_guarded(&lent.second, FILE_ROOM);
     make_guarded(&lent.out, 4 * FILE_ROOM);
     make_guarded(&lent.globals, sizeof(uint64_t) * (GLOBALS + MARGIN));
     make_guarded(&lent.stack, sizeof(uint64_t) * (STACK + MARGIN));
@@ -228,6 +229,81 @@ static size_t compare_back(Random *random, const File *linear, const File *sheet
         dump("back", tree.bytes, tree.len);
     }
     return needed;
+}
+
+/* Joining (request 10) */
+
+/* Answers whether it was accepted. The joined file is then in joined. */
+static bool join_both(Random *random, const File *prologue, const File *file, size_t out_len, size_t result_len, File *joined, uint64_t plain_result[4])
+{
+    static uint8_t after[FILE_ROOM];
+    uint64_t library_result[4];
+    bool at_end = next_end(), inside;
+    memset(library_out, (int)below(random, 256), out_len);
+    memcpy(plain_out, library_out, out_len);
+    for (unsigned i = 0; i < 4; i++)
+        library_result[i] = plain_result[i] = draw(random);
+    calling = "join";
+    exporter_join(lend_file(prologue, at_end), prologue->len, lend(&lent.second, file->bytes, file->len, at_end), file->len,
+                  lend(&lent.out, library_out, out_len, at_end), out_len, lend(&lent.result, library_result, result_len * sizeof(uint64_t), at_end),
+                  result_len);
+    check_file(prologue);
+    inside = take_back(&lent.second, after) && memcmp(after, file->bytes, file->len) == 0;
+    inside = take_back(&lent.out, library_out) && inside;
+    inside = take_back(&lent.result, library_result) && inside;
+    plain_join(prologue->bytes, prologue->len, file->bytes, file->len, plain_out, out_len, plain_result, result_len);
+    if ((!inside || memcmp(library_result, plain_result, sizeof library_result) != 0 || memcmp(library_out, plain_out, out_len) != 0)
+        && differs("join")) {
+        printf("  out_len %zu, result_len %zu%s\n", out_len, result_len, inside ? "" : ", written beside what was lent");
+        tell_results("library", library_result, 4);
+        tell_results("plain  ", plain_result, 4);
+        dump("prologue", prologue->bytes, prologue->len);
+        dump("file", file->bytes, file->len);
+    }
+    if (result_len < 2)
+        return false;
+    join_tally[plain_result[0]]++;
+    joined->len = plain_result[0] == 0 ? plain_result[1] : 0;
+    memcpy(joined->bytes, library_out, joined->len);
+    return plain_result[0] == 0;
+}
+
+/* Request 11: both groupings of three files are accepted or neither is, and the files are equal. */
+static void compare_groupings(Random *random, const File *a, const File *b, const File *c)
+{
+    static File inner, left, right;
+    uint64_t result[4];
+    bool l = join_both(random, a, b, 65536, 2, &inner, result) && join_both(random, &inner, c, 65536, 2, &left, result);
+    bool r = join_both(random, b, c, 65536, 2, &inner, result) && join_both(random, a, &inner, 65536, 2, &right, result);
+    grouped[l && r]++;
+    if ((l != r || (l && (left.len != right.len || memcmp(left.bytes, right.bytes, left.len) != 0))) && differs("request 11: the groupings")) {
+        dump("a", a->bytes, a->len);
+        dump("b", b->bytes, b->len);
+        dump("c", c->bytes, c->len);
+    }
+}
+
+static void compare_joining(Random *random, const File *file)
+{
+    static File prologue, second, joined;
+    uint64_t result[4];
+    generate_prologue(random, &prologue);
+    const File *with = file;
+    if (chance(random, 25)) {
+        generate_prologue(random, &second);
+        with = &second;
+    }
+    if (join_both(random, &prologue, with, 65536, 2, &joined, result)) {
+        join_both(random, &prologue, with, joined.len, 4, &joined, result);
+        join_both(random, &prologue, with, joined.len - 1, 2, &joined, result);
+        join_both(random, &prologue, with, chance(random, 50) ? 0 : 300000, 2, &joined, result);
+    }
+    if (chance(random, 5))
+        join_both(random, &prologue, with, 65536, below(random, 2), &joined, result);
+    if (chance(random, 30)) {
+        generate_prologue(random, &second);
+        compare_groupings(random, &prologue, &second, file);
+    }
 }
 
 /* Runs */
@@ -508,6 +584,8 @@ static void compare_sheet(Random *random)
     }
     if (chance(random, 20))
         compare_bad_start(random, &sheet, globals, true);
+    if (chance(random, 20))
+        compare_joining(random, &sheet);
     if (flat.len > 0 && chance(random, 60)) {
         damage(random, &flat);
         compare_linear(random, &flat, globals, owner);
@@ -553,6 +631,11 @@ static void print_tallies(void)
     print_way(&flattening);
     print_way(&way_back);
     printf("back: sheets x%" PRIu64 ", with a byte changed x%" PRIu64 "\n", came_back, changed_back);
+    printf("join:");
+    for (unsigned n = 0; n < 33; n++)
+        if (join_tally[n] > 0)
+            printf(" %u x%" PRIu64, n, join_tally[n]);
+    printf("; groupings refused x%" PRIu64 ", accepted x%" PRIu64 "\n", grouped[0], grouped[1]);
     print_tally("tree", tree_tally);
     print_tally("linear", linear_tally);
     printf("house: ended x%" PRIu64 ", 25 x%" PRIu64 "; vendor: ended x%" PRIu64 ", 25 x%" PRIu64 "\n", ends_of[HOUSE], barred[HOUSE], ends_of[VENDOR],
@@ -585,6 +668,9 @@ static bool all_came_up(void)
     static const uint8_t backs[] = { 0, 1, 2, 3, 5, 9, 32 };
     for (unsigned i = 0; i < sizeof backs; i++)
         all = all && back_tally[backs[i]] > 0;
+    for (unsigned n = 0; n < 10; n++)
+        all = all && (join_tally[n] > 0 || n == 8);
+    all = all && join_tally[30] > 0 && grouped[0] > 0 && grouped[1] > 0;
     return all && all_ends_came_up(tree_tally, true) && all_ends_came_up(linear_tally, false);
 }
 

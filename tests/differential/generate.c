@@ -1022,6 +1022,73 @@ void generate_tree(Random *random, File *file)
         damage(random, file);
 }
 
+/* Prologues (request 10): one template and an open list */
+
+static void write_sensible_prologue(Writer *w)
+{
+    Path p = { 0 };
+    w->templates = 1;
+    w->careless = chance(w->random, 80) ? 0 : 1 + below(w->random, 8);
+    w->confused = chance(w->random, 95) ? 0 : 4;
+    w->size = 4 + below(w->random, 40);
+    p.level = 1;
+    sheet_begin(&w->sheet, 1);
+    write_entries(w, 0);
+    write_open_list(w, &p);
+}
+
+/* Saved lists in saved lists down to a level: neutrals there, or nothing. */
+static void write_deep_prologue(Random *random, Sheet *s)
+{
+    unsigned last = 2 + below(random, 15);
+    sheet_begin(s, 1);
+    put_field(s, 8, 0);
+    for (unsigned level = 1; level < last; level++) {
+        put_many(s, UNSPECIFIED, below(random, 3));
+        put1(s, MAKE_CONT, 0);
+    }
+    put_many(s, UNSPECIFIED, below(random, 3));
+    put0(s, END);
+    for (unsigned level = 1; level < last; level++) {
+        put_many(s, PUSH, below(random, 2));
+        put_end(s);
+    }
+}
+
+/* Many bytes, or many entries. */
+static void write_large_prologue(Random *random, Sheet *s)
+{
+    unsigned entries = chance(random, 50) ? 0 : 255 - below(random, 12);
+    sheet_begin(s, 1);
+    put_field(s, 8, entries);
+    for (unsigned n = 0; n < entries; n++)
+        put_number(s, GLOBAL_ENTRY, below(random, 256));
+    put_many(s, UNSPECIFIED, entries > 0 ? 1 + below(random, 9) : 40000 + below(random, 60000));
+    put0(s, END);
+}
+
+void generate_prologue(Random *random, File *file)
+{
+    static Writer writer;
+    static Sheet sheet;
+    unsigned choice = below(random, 100);
+    if (choice < 25) {
+        write_deep_prologue(random, &sheet);
+    } else if (choice < 32) {
+        write_large_prologue(random, &sheet);
+    } else if (choice < 36) {
+        write_sheet(random, &sheet);
+    } else {
+        memset(&writer, 0, sizeof writer);
+        writer.random = random;
+        write_sensible_prologue(&writer);
+        sheet = writer.sheet;
+    }
+    take_sheet(&sheet, file);
+    if (chance(random, 10))
+        damage(random, file);
+}
+
 /* Damage */
 
 static void append(Random *random, File *file)

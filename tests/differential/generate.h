@@ -25,6 +25,7 @@ unsigned below(Random *random, unsigned limit); /* 0 to limit - 1 */
 bool chance(Random *random, unsigned percent);
 
 void generate_tree(Random *random, File *file);   /* most are valid, some are damaged, some are not even meant to be */
+void generate_prologue(Random *random, File *file); /* one template and an open list, most of them */
 void generate_linear(Random *random, File *file); /* code that no sheet flattens to */
 void damage(Random *random, File *file);
 

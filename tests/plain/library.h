@@ -6,6 +6,7 @@
 #include "plain.h"
 
 typedef void Flatten(const uint8_t *, size_t, uint8_t *, size_t, uint64_t *, size_t);
+typedef void Join(const uint8_t *, size_t, const uint8_t *, size_t, uint8_t *, size_t, uint64_t *, size_t);
 typedef void Run(const uint8_t *, size_t, uint64_t, uint64_t, uint64_t *, size_t, uint64_t *, size_t, uint64_t *, size_t,
                  uint64_t *, size_t, uint64_t *, size_t);
 

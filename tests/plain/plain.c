@@ -233,6 +233,7 @@ typedef enum { EMPTY_LIST, OPEN_LIST, CLOSED_LIST, NO_LIST } Category; /* NO_LIS
 typedef struct Node {
     uint8_t code, n1, n2;
     bool open_arms;
+    Category saved;                      /* of a make-cont's saved list */
     uint32_t saved_place;                /* first bit of the saved list */
     uint32_t first_length, second_length; /* flat lengths of the lists inside */
     Cell held;                           /* of the entry that n1 names */
@@ -253,7 +254,7 @@ typedef struct {
 } Tree;
 
 static Tree trees[TEMPLATES];
-static Node nodes[TREE_LIMIT * 8 / 5 + 1];
+static Node nodes[2 * (TREE_LIMIT * 8 / 5 + 1)]; /* of a file, or of two that are joined */
 static size_t node_count;
 
 static bool is_tree_code(uint32_t code)
@@ -356,6 +357,7 @@ static bool read_inner_lists(Node *node, unsigned t, unsigned level, Progress *p
     node->first_length = first.length;
     node->second_length = second.length;
     node->open_arms = second.category == OPEN_LIST;
+    node->saved = first.category;
     add_instruction(p, node, first.category, second.category);
     return true;
 }
@@ -412,23 +414,37 @@ static bool no_orphan(void)
     return true;
 }
 
-static bool read_tree(const uint8_t *file, size_t len)
+/* 1 to 5. */
+static bool read_templates(const uint8_t *file, size_t len)
 {
-    node_count = 0;
     if (!open_file(file, len, TREE_LIMIT) || !read_count_of_templates())
         return false;
     for (unsigned t = 0; t < templates; t++)
         if (!read_template(t))
             return false;
-    if (!padding() || !nothing_more())
-        return false;
+    return padding() && nothing_more();
+}
+
+static bool all_closed(void)
+{
     for (unsigned t = 0; t < templates; t++)
         if (trees[t].code.category != CLOSED_LIST)
             return refuse(6, t);
+    return true;
+}
+
+static bool all_indices_fit(void)
+{
     for (unsigned t = 0; t < templates; t++)
         if (!trees[t].entries_fit)
             return refuse(7, t);
-    return no_orphan();
+    return true;
+}
+
+static bool read_tree(const uint8_t *file, size_t len)
+{
+    node_count = 0;
+    return read_templates(file, len) && all_closed() && all_indices_fit() && no_orphan();
 }
 
 /* Flattening, into a buffer of our own: a refusal must leave the caller's as it was. */
@@ -536,6 +552,132 @@ void plain_flatten(const uint8_t *file, size_t file_len, uint8_t *out, size_t ou
         return;
     }
     memcpy(out, linear_file, length);
+    result[0] = 0;
+    result[1] = length;
+}
+
+/* Joining (request 10): the templates of both operands are read, the prologue's list gets the file's as document 000 says, and the whole is written. */
+
+static uint8_t joined_file[2 * TREE_LIMIT + 1];
+static uint64_t joined_bits;
+
+static void put_bits(uint64_t value, unsigned width)
+{
+    for (; width > 0; width--, joined_bits++)
+        if (value >> (width - 1) & 1)
+            joined_file[joined_bits / 8] |= (uint8_t)(128 >> joined_bits % 8);
+}
+
+static void copy_file_bits(const uint8_t *file, uint64_t from, uint64_t to)
+{
+    for (; from < to; from++)
+        put_bits(file[from / 8] >> (7 - from % 8) & 1, 1);
+}
+
+static void move_indices(Node *node, unsigned by)
+{
+    for (; node != NULL; node = node->next) {
+        if (named_kind[node->code] != NO_KIND)
+            node->n1 = (uint8_t)(node->n1 + by);
+        move_indices(node->first, by);
+        move_indices(node->second, by);
+    }
+}
+
+/* y and then w, y open or a saved list that is empty. */
+static void open_adjoin(Node **y, Node *w)
+{
+    while (*y != NULL) {
+        Node *node = *y;
+        bool inwards = node->code == MAKE_CONT && (node->saved == OPEN_LIST || node->saved == EMPTY_LIST);
+        y = inwards ? &node->first : &node->next;
+    }
+    *y = w;
+}
+
+static unsigned levels_of(const Node *node)
+{
+    unsigned most = 0;
+    for (; node != NULL; node = node->next) {
+        if (node->code != CONDITIONAL && node->code != MAKE_CONT)
+            continue;
+        unsigned first = levels_of(node->first), second = levels_of(node->second);
+        most = first > most ? first : most;
+        most = second > most ? second : most;
+    }
+    return most + 1;
+}
+
+static void put_list(const Node *node)
+{
+    for (; node != NULL; node = node->next) {
+        unsigned operands = tree_operands(node->code);
+        put_bits(node->code, 5);
+        if (operands > 0)
+            put_bits(node->n1, 8);
+        if (operands > 1)
+            put_bits(node->n2, 8);
+        if (node->code == CONDITIONAL || node->code == MAKE_CONT)
+            put_list(node->first);
+        if (node->code == CONDITIONAL)
+            put_list(node->second);
+    }
+    put_bits(END, 5);
+}
+
+static bool is_prologue(void)
+{
+    return templates == 1 && trees[0].code.category == OPEN_LIST;
+}
+
+static bool read_operands_of_join(const uint8_t *prologue, size_t prologue_len, const uint8_t *file, size_t file_len, Tree *house)
+{
+    node_count = 0;
+    if (!read_templates(prologue, prologue_len) || !(is_prologue() || refuse(6, 0)) || !all_indices_fit())
+        return false;
+    *house = trees[0];
+    return read_templates(file, file_len) && (is_prologue() || all_closed()) && all_indices_fit();
+}
+
+static bool join_files(const uint8_t *prologue, size_t prologue_len, const uint8_t *file, size_t file_len, size_t *length)
+{
+    Tree house;
+    if (!read_operands_of_join(prologue, prologue_len, file, file_len, &house))
+        return false;
+    unsigned ours = prologue[1], theirs = file[1];
+    if (ours + theirs > 255)
+        return refuse(30, 0);
+    move_indices(trees[0].code.head, ours);
+    open_adjoin(&house.code.head, trees[0].code.head);
+    if (levels_of(house.code.head) > LAST_LEVEL)
+        return refuse(4, 0);
+    memset(joined_file, 0, sizeof joined_file);
+    joined_bits = 0;
+    put_bits(templates, 8);
+    put_bits(ours + theirs, 8);
+    copy_file_bits(prologue, house.entries_from, house.entries_to);
+    copy_file_bits(file, trees[0].entries_from, trees[0].entries_to);
+    put_list(house.code.head);
+    for (unsigned t = 1; t < templates; t++) {
+        copy_file_bits(file, trees[t].entries_from - 8, trees[t].entries_to);
+        put_list(trees[t].code.head);
+    }
+    *length = (size_t)((joined_bits + 7) / 8);
+    return *length <= TREE_LIMIT || refuse(1, 0);
+}
+
+void plain_join(const uint8_t *prologue, size_t prologue_len, const uint8_t *file, size_t file_len, uint8_t *out, size_t out_len,
+                uint64_t *result, size_t result_len)
+{
+    size_t length = 0;
+    if (result_len < 2)
+        return;
+    if (!join_files(prologue, prologue_len, file, file_len, &length) || !(length <= out_len || refuse(9, length))) {
+        result[0] = refusal;
+        result[1] = refusal_place;
+        return;
+    }
+    memcpy(out, joined_file, length);
     result[0] = 0;
     result[1] = length;
 }
@@ -1213,7 +1355,7 @@ void plain_pull_list(const int32_t *clips, size_t clips_len, const uint8_t *file
 static uint8_t tree_back[LINEAR_LIMIT];
 static uint64_t tree_bits;
 
-static void put_bits(uint64_t value, unsigned width)
+static void put_back_bits(uint64_t value, unsigned width)
 {
     for (; width > 0; width--, tree_bits++)
         if (value >> (width - 1) & 1)
@@ -1270,7 +1412,7 @@ static bool back_list(const Linear *in, uint32_t from, uint32_t to, bool closed,
         const uint8_t *code = in->code + from;
         if (!whole_instruction(in->code, from, to) || *code == JUMP)
             return false;
-        put_bits(*code, 5);
+        put_back_bits(*code, 5);
         if (*code == CONDITIONAL) {
             bool shut;
             if (!back_arms(in, from, to, closed, level, &from, &shut))
@@ -1278,7 +1420,7 @@ static bool back_list(const Linear *in, uint32_t from, uint32_t to, bool closed,
             closed = closed && !shut;
         } else if (*code == MAKE_CONT) {
             uint32_t rest = from + 4, length = offset_at(in->code, from + 1);
-            put_bits(code[3], 8);
+            put_back_bits(code[3], 8);
             if (length > to - rest || !back_list(in, rest + length, to, closed, level + 1))
                 return false;
             from = rest;
@@ -1292,11 +1434,11 @@ static bool back_list(const Linear *in, uint32_t from, uint32_t to, bool closed,
                 return false;
             closed = closed && *code >= LITERAL;
             for (unsigned n = 1; n < size; n++)
-                put_bits(code[n], 8);
+                put_back_bits(code[n], 8);
             from += size;
         }
     }
-    put_bits(END, 5);
+    put_back_bits(END, 5);
     return !closed;
 }
 
@@ -1304,10 +1446,10 @@ static bool back_templates(void)
 {
     memset(tree_back, 0, sizeof tree_back);
     tree_bits = 0;
-    put_bits(templates, 8);
+    put_back_bits(templates, 8);
     for (unsigned t = 0; t < templates; t++) {
         for (uint64_t place = linears[t].entries; place < linears[t].entries_end; place++)
-            put_bits(bits_at(place, 1), 1);
+            put_back_bits(bits_at(place, 1), 1);
         if (!back_list(&linears[t], 0, linears[t].length, true, 1))
             return refuse(32, t);
     }

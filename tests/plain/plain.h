@@ -19,6 +19,12 @@ void plain_back(const uint8_t *file, size_t file_len,
                 uint8_t *out, size_t out_len,
                 uint64_t *result, size_t result_len);
 
+/* Writes the joined file of a prologue and a tree file to the first bytes of out; result, out and result_len as above. */
+void plain_join(const uint8_t *prologue, size_t prologue_len,
+                const uint8_t *file, size_t file_len,
+                uint8_t *out, size_t out_len,
+                uint64_t *result, size_t result_len);
+
 /* Runs a tree file. owner 0 is the house, 1 a vendor. globals 256 cells, stack 256, store 2,048, frames 2,048.
    result[0]: how it ended: 0 halted, 1 wrong, 2 out of budget, 3 refused.
    result[1]: 0, the wrong number, 19, or the refusal's number.

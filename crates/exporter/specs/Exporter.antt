@@ -13,6 +13,8 @@ use Rattle.flatten.specs.declared.Flattened.the-variants.{Refused as FlatRefuse
 use Rattle.unflatten.specs.Back.{answered as backAnswered, written as backWritten}
 use Rattle.unflatten.specs.declared.TreeBack.{TreeBack}
 use Rattle.unflatten.specs.declared.TreeBack.the-variants.{Written as BackWritten, Refused as BackRefused}
+use Rattle.join.specs.declared.Joined.{Joined}
+use Rattle.join.specs.declared.Joined.the-variants.{Written as JoinWritten, Refused as JoinRefused}
 use Rattle.machines.specs.Runs.{Memory, Ran, ran, numberOf, answerCell}
 use Rattle.machines.specs.declared.End.{End}
 use Rattle.machines.specs.declared.End.the-variants.{Halted, Wrong, OutOfBudget, Refused}
@@ -54,6 +56,12 @@ backResult g old = cond (leb 2 (length old)) (sets old 0 (backSlots (backAnswere
 
 unfoldable pub backOutput : Got (List ℕ) → List ℕ → List ℕ → List ℕ
 backOutput g out old = cond (leb 2 (length old)) (backWritten out g) out
+
+-- ---- joining
+-- the same two slots; a file that is joined goes into the output as one that is flattened
+unfoldable pub joinSlots : Joined → List ℕ
+joinSlots (JoinWritten n) = 0 ∷ n ∷ []
+joinSlots (JoinRefused n p) = n ∷ p ∷ []
 
 -- ---- runs
 -- how a run ended: 0 halted, 1 wrong, 2 out of budget, 3 refused

@@ -1,2 +1,3 @@
 -- The laws of the crate exporter.
 pub mod Answers
+pub mod Joins

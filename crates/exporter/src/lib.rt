@@ -6,15 +6,17 @@ ghost use lib.ListN.{length};
 ghost use lib.Seq.{sets};
 ghost use Rattle.cells.specs.Cells.{cellOf};
 ghost use Rattle.flatten.specs.Flatten.{flattened};
+ghost use Rattle.join.specs.Join.{joinedFile};
 ghost use Rattle.machines.specs.Runs.{lent, treeRun, linearRun};
 ghost use Rattle.pull.specs.Pull.{pulled, pulledList};
 ghost use Rattle.unflatten.specs.Back.{backed};
 ghost use Rattle.exporter.specs.Exporter.{backSlots, backOutput, backResult};
-ghost use Rattle.exporter.specs.Exporter.{endSlots, runSlots, flattenSlots, flattenOutput, flattenResult, exported, runExported};
+ghost use Rattle.exporter.specs.Exporter.{endSlots, runSlots, flattenSlots, joinSlots, flattenOutput, flattenResult, exported, runExported};
 ghost use Rattle.exporter.specs.Exporter.{pullSlots, pullOutput, pullResult};
 ghost use Rattle.exporter.specs.Answers.{FieldsFit, AnswerFits};
 use cells::Value;
 use flatten::Flattened;
+use join::Joined;
 use machines::End;
 use machines::Run;
 use pull::Pulled;
@@ -79,6 +81,16 @@ fn put_back(result: &mut [u64], answer: TreeBack)
     }
 }
 
+fn put_joined(result: &mut [u64], answer: Joined)
+    requires { ⌜ 2 ≤ length (now result) ⌝ }
+    ensures { λ _. ⌜ now (result .exit) ≡ sets (now (result .entry)) 0 (joinSlots answer) ⌝ }
+{
+    match answer {
+        Joined::Written(n) => put_two(result, 0, n as u64),
+        Joined::Refused(n, p) => put_two(result, n as u64, p as u64),
+    }
+}
+
 fn put_four(result: &mut [u64], end: u64, number: u64, place: u64, answer: u64)
     requires { ⌜ 4 ≤ length (now result) ⌝ }
     ensures { λ _. ⌜ now (result .exit) ≡ sets (now (result .entry)) 0 (end ∷ number ∷ place ∷ answer ∷ []) ⌝ }
@@ -139,6 +151,20 @@ pub extern "C" fn exporter_back(file: &[u8], out: &mut [u8], result: &mut [u64])
     }
     let answer = unflatten::back(file, out);
     put_back(result, answer);
+}
+
+#[no_mangle]
+pub extern "C" fn exporter_join(prologue: &[u8], file: &[u8], out: &mut [u8], result: &mut [u64])
+    ensures { λ _. ⌜ now (out .exit)
+        ≡ flattenOutput (joinedFile (now (prologue .entry)) (now (file .entry)) (length (now (out .entry)))) (now (out .entry)) (now (result .entry)) ⌝ }
+    ensures { λ _. ⌜ now (result .exit)
+        ≡ flattenResult (joinedFile (now (prologue .entry)) (now (file .entry)) (length (now (out .entry)))) (now (result .entry)) ⌝ }
+{
+    if result.len() < 2 {
+        return;
+    }
+    let answer = join::join(prologue, file, out);
+    put_joined(result, answer);
 }
 
 #[no_mangle]

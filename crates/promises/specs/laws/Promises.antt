@@ -30,6 +30,11 @@ use Rattle.pull.proofs.pull_list.Kinds as pull-list
 use Rattle.pull.proofs.pull_list.Reads as pull-list-reads
 use Rattle.exporter.proofs.exporter_pull_list.Kinds as exporter-pull-list
 use Rattle.exporter.proofs.exporter_pull_list.Reads as exporter-pull-list-reads
+use Rattle.join.specs.declared.Joined.{Joined}
+use Rattle.join.proofs.join.Kinds as join
+use Rattle.join.proofs.join.Reads as join-reads
+use Rattle.exporter.proofs.exporter_join.Kinds as exporter-join
+use Rattle.exporter.proofs.exporter_join.Reads as exporter-join-reads
 use Rattle.unflatten.specs.declared.TreeBack.{TreeBack}
 use Rattle.unflatten.proofs.back.Kinds as back
 use Rattle.unflatten.proofs.back.Reads as back-reads
@@ -119,3 +124,13 @@ back-only κs a x y e f p q = (λ i. (fixed (p .0) (q .0) i, fixed (p .1) (q .1)
 pub exporter-back-only : Only 3 exporter-back.ps exporter-back.r exporter-back-reads.Learnt {B = List ℕ × List ℕ}
     (λ κs x e. (now (e .1 .0), now (e .1 .1 .0)))
 exporter-back-only κs a x y e f p q = (λ i. (fixed (p .0) (q .0) i, fixed (p .1) (q .1) i))
+
+-- join::join(prologue, file, out): its answer, and out
+pub join-only : Only 3 join.ps join.r join-reads.Learnt {B = Joined × List ℕ}
+    (λ κs x e. (x, now (e .1 .1 .0)))
+join-only κs a x y e f p q = (λ i. (fixed (p .0) (q .0) i, fixed (p .1) (q .1) i))
+
+-- exporter::exporter_join(prologue, file, out, result): out and result
+pub exporter-join-only : Only 4 exporter-join.ps exporter-join.r exporter-join-reads.Learnt {B = List ℕ × List ℕ}
+    (λ κs x e. (now (e .1 .1 .0), now (e .1 .1 .1 .0)))
+exporter-join-only κs a x y e f p q = (λ i. (fixed (p .0) (q .0) i, fixed (p .1) (q .1) i))

@@ -124,7 +124,7 @@ module _ (f : ℕ → ℕ) where
   index-operand op n h k = rw (le-ltb op 6 h, le-ltb 9 op k)
 
   -- codes 6 to 9 have one operand
-  one-operand : (op : ℕ) → 6 ≤ op → op ≤ 9 → shapeOf op ≡ 2
+  pub one-operand : (op : ℕ) → 6 ≤ op → op ≤ 9 → shapeOf op ≡ 2
   unfolding shapeOf
   one-operand op h k = each (λ op. shapeOf op ≡ 2) 6 4 (refl, (refl, (refl, (refl, tt)))) op h (omega arith)
 
@@ -192,6 +192,10 @@ module _ {s : List ℕ} {p : ℕ} (c : Code) (v : Valid c) (h : Stands s p (list
         here = rw body-is (stands-left (bodyBits c) (bitsOf 5 0) (rw (body-end c) at h));
         size = ap length body-is ∙ body-length;
       }
+
+  pub body-all : bodyAt .all ≡ tokens c []
+  unfolding bodyAt
+  body-all = refl
 
   pub listAt : TokensAt s p (bits c)
   unfolding TokensOk shapeOf operandCount Bytes

@@ -34,7 +34,7 @@ sub-if3 : tie.Need-sub-if3
 sub-if3 c = search needs
 
 returns-3 : tie.Need-returns-3
-returns-3 c = let h = c .before .before .before .before .before .pre in levelled _ _ _ _ _ _ (c .before .before .before .if1 .left) (cond-far _ _ _ _ _ _ (h .2) (omega arith) (h .3) (c .before .offset-at .ensures) (c .if3 .taken))
+returns-3 c = let h = c .before .before .before .before .before .pre in levelled _ _ _ _ _ _ (c .before .before .before .if1 .left) (cond-far _ _ _ _ _ _ (h .2) (omega arith) (h .3) (c .before .offset-at .ensures) (omega (arith, c .if3 .taken)))
 
 add-turn : tie.Need-add-turn
 add-turn c = search needs
@@ -46,10 +46,10 @@ add-ends-in-jump : tie.Need-add-ends-in-jump
 add-ends-in-jump c = search needs
 
 ends-in-jump-requires : tie.Need-ends-in-jump-requires
-ends-in-jump-requires c κs = search needs
+ends-in-jump-requires c κs = let h = c .before .before .before .before .before .pre in (h .0, omega arith, omega (arith, h .2, c .if3 .left))
 
 open-arms-requires : tie.Need-open-arms-requires
-open-arms-requires c κs = search needs
+open-arms-requires c κs = let h = c .before .before .before .before .before .before .before .pre in (h .0, omega arith, omega (arith, c .before .before .if3 .left), h .2)
 
 returns-4 : tie.Need-returns-4
 returns-4 c = let h = c .before .before .before .before .before .before .before .before .pre in levelled _ _ _ _ _ _ (c .before .before .before .before .before .before .if1 .left) (open-told _ _ _ _ _ _ (h .2) (omega arith) (h .3) (c .before .before .before .before .offset-at .ensures) (c .before .before .before .if3 .left) (sym (c .before .before .ends-in-jump .ensures) ∙ c .before .if4 .taken) (c .open-arms .ensures))

@@ -1,0 +1,40 @@
+-- `join::file_end` meets its contract: where the last list ends. Assumes nothing.
+use native.Mathlib.Omega.{arith}
+use mathlib.Core.Path.{refl}
+use Rattle.join.specs.laws.PutLaws.{operand-short, operand-count, end-is}
+use borrow.Author.Needs.{needs}
+use Rattle.join.proofs.file_end.Statement.{statement}
+use Rattle.join.proofs.file_end.Tie as tie
+
+sub-own : tie.Need-sub-own
+sub-own c = operand-count (c .before .before .pre .1) .0
+
+mul-slot : tie.Need-mul-slot
+mul-slot c = search needs
+
+mul-from-slot : tie.Need-mul-from-slot
+mul-from-slot c = search needs
+
+shared-slice-read-from-slot : tie.Need-shared-slice-read-from-slot
+shared-slice-read-from-slot c = let k = operand-count (c .before .before .before .pre .1) in omega (arith, k, c .before .before .before .pre .0)
+
+from-slot-requires : tie.Need-from-slot-requires
+from-slot-requires c κs = search needs
+
+measure-requires : tie.Need-measure-requires
+measure-requires c κs = let k = operand-count (c .before .before .before .before .pre .1) in (operand-short (c .before .before .before .before .pre .1), c .before .before .before .before .pre .0, omega (arith, k))
+
+returns : tie.Need-returns
+returns c = λ w. end-is w _ _ (c .before .measure .ensures) _ refl (c .before .before .from-slot .ensures)
+
+pub file-end-spec : {M : Type 1} → statement M
+file-end-spec =
+    tie.close
+    (tie.spec
+    sub-own
+    mul-slot
+    mul-from-slot
+    shared-slice-read-from-slot
+    from-slot-requires
+    measure-requires
+    returns)

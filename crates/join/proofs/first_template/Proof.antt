@@ -1,0 +1,36 @@
+-- `join::first_template` meets its contract: E is the second byte of the file. Assumes nothing.
+use native.Mathlib.Omega.{arith}
+use mathlib.Core.Path.{refl}
+use Rattle.join.specs.laws.PutLaws.{operand-short, operand-two, first-is}
+use borrow.Author.Needs.{needs}
+use Rattle.join.proofs.first_template.Statement.{statement}
+use Rattle.join.proofs.first_template.Tie as tie
+
+shared-slice-read-from-slot : tie.Need-shared-slice-read-from-slot
+shared-slice-read-from-slot c = search needs
+
+from-slot-requires : tie.Need-from-slot-requires
+from-slot-requires c κs = search needs
+
+measure-requires : tie.Need-measure-requires
+measure-requires c κs = (operand-short (c .before .before .before .before .pre .1), c .before .before .before .before .pre .0, omega arith)
+
+bits-at-requires : tie.Need-bits-at-requires
+bits-at-requires c κs = (omega (arith, operand-short (c .before .before .before .before .before .before .pre .1)), (omega arith, operand-two (c .before .before .before .before .before .before .pre .1)))
+
+cast-entries : tie.Need-cast-entries
+cast-entries c = search needs
+
+returns : tie.Need-returns
+returns c = λ w. first-is w _ _ (c .before .before .measure .ensures) (c .before .before .before .from-slot .ensures) _ (c .bits-at .ensures .0)
+
+pub first-template-spec : {M : Type 1} → statement M
+first-template-spec =
+    tie.close
+    (tie.spec
+    shared-slice-read-from-slot
+    from-slot-requires
+    measure-requires
+    bits-at-requires
+    cast-entries
+    returns)

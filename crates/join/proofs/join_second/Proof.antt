@@ -1,0 +1,49 @@
+-- `join::join_second` meets its contract: as the second operand was judged. Assumes nothing.
+use native.Mathlib.Omega.{arith}
+use mathlib.Core.Path.{sym, _∙_}
+use Rattle.tree.specs.laws.Judged.{judged-refused}
+use Rattle.join.specs.laws.WholeLaws.{to-join, second-refused}
+use borrow.Author.Needs.{needs}
+use Rattle.join.proofs.join_second.Statement.{statement}
+use Rattle.join.proofs.join_second.Tie as tie
+
+slice-aggregate-read-second : tie.Need-slice-aggregate-read-second
+slice-aggregate-read-second c = search needs
+
+read-second-requires : tie.Need-read-second-requires
+read-second-requires c κs = search needs
+
+enum-known-sum : tie.Need-enum-known-sum
+enum-known-sum c = search needs
+
+slice-aggregate-join-both : tie.Need-slice-aggregate-join-both
+slice-aggregate-join-both c = search needs
+
+join-both-requires : tie.Need-join-both-requires
+join-both-requires c κs = (c .before .before .before .before .before .before .before .before .before .before .before .before .pre .0, c .before .before .before .before .before .before .read-second .kept .1 .0, to-join (c .before .before .before .before .before .before .before .before .before .before .before .before .pre .1) _ (sym (c .before .before .before .before .before .before .read-second .ensures .0) ∙ c .before .before .before .sum .given .1) (c .before .before .before .before .before .before .read-second .ensures .1))
+
+enum-known-no : tie.Need-enum-known-no
+enum-known-no c = search needs
+
+same-length : tie.Need-same-length
+same-length c = search needs
+
+returns : tie.Need-returns
+returns c = search needs
+
+returns-2 : tie.Need-returns-2
+returns-2 c = second-refused _ _ _ (c .before .before .before .before .before .before .before .before .before .before .pre .1) (judged-refused _ (sym (c .before .before .before .before .read-second .ensures .0) ∙ c .before .no .given .1))
+
+pub join-second-spec : {M : Type 1} → statement M
+join-second-spec =
+    tie.close
+    (tie.spec
+    slice-aggregate-read-second
+    read-second-requires
+    enum-known-sum
+    slice-aggregate-join-both
+    join-both-requires
+    enum-known-no
+    same-length
+    returns
+    returns-2)

@@ -1,0 +1,25 @@
+-- `join::levels_fit` meets its contract: a list is read where its levels are there. Assumes nothing.
+use mathlib.Core.Path.{sym, _∙_}
+use Rattle.lists.specs.laws.ReadLaws.{listed-done, listed-refused}
+use Rattle.join.specs.laws.OperandsLaws.{levels-read, levels-refused}
+use borrow.Author.Needs.{needs}
+use Rattle.join.proofs.levels_fit.Statement.{statement}
+use Rattle.join.proofs.levels_fit.Tie as tie
+
+read-list-requires : tie.Need-read-list-requires
+read-list-requires c κs = search needs
+
+enum-told : tie.Need-enum-told
+enum-told c = search needs
+
+enum-told-2 : tie.Need-enum-told-2
+enum-told-2 c = search needs
+
+returns : tie.Need-returns
+returns c = λ w. let l = listed-done _ _ _ _ _ (sym (c .before .before .read-list .ensures) ∙ c .enum-told .given .1) in levels-read _ _ _ (c .before .before .before .before .before .pre .2) w (l .0) _ (l .1)
+
+returns-2 : tie.Need-returns-2
+returns-2 c = λ w. levels-refused _ _ _ (c .before .before .before .before .before .pre .2) w _ _ (listed-refused _ _ _ _ _ (sym (c .before .before .read-list .ensures) ∙ c .enum-told2 .given .1))
+
+pub levels-fit-spec : {M : Type 1} → statement M
+levels-fit-spec = tie.close (tie.spec read-list-requires enum-told enum-told-2 returns returns-2)

@@ -1,0 +1,58 @@
+-- `join::put_entries` meets its contract: four parts, one after the other. Assumes nothing.
+use native.Mathlib.Omega.{arith}
+use mathlib.Core.Path.{refl}
+use Rattle.join.specs.laws.PutLaws.{entries-put}
+use borrow.Author.Needs.{needs}
+use Rattle.join.proofs.put_entries.Statement.{statement}
+use Rattle.join.proofs.put_entries.Tie as tie
+
+put-field-requires : tie.Need-put-field-requires
+put-field-requires c κs = search needs
+
+cast-put-field : tie.Need-cast-put-field
+cast-put-field c = search needs
+
+put-field-requires-2 : tie.Need-put-field-requires-2
+put-field-requires-2 c κs = search needs
+
+since-requires : tie.Need-since-requires
+since-requires c κs = search needs
+
+copy-bits-requires : tie.Need-copy-bits-requires
+copy-bits-requires c κs = search needs
+
+since-requires-2 : tie.Need-since-requires-2
+since-requires-2 c κs = search needs
+
+copy-bits-requires-2 : tie.Need-copy-bits-requires-2
+copy-bits-requires-2 c κs = search needs
+
+same-length : tie.Need-same-length
+same-length c = search needs
+
+returns : tie.Need-returns
+returns c =
+    let e₁ = c .before .before .before .before .before .before .before .before .before .before .before .before .before .before .before .before .put-field .ensures in
+    let e₂ = c .before .before .before .before .before .before .before .before .before .before .before .before .put-field2 .ensures in
+    let e₃ = c .before .before .before .before .before .before .before .copy-bits .ensures in
+    let e₄ = c .before .before .copy-bits2 .ensures in
+    let s₁ = c .before .before .before .before .before .before .before .before .before .since .ensures in
+    let s₂ = c .before .before .before .before .since2 .ensures in
+    let p = c .before .before .before .before .before .before .before .before .before .before .before .before .before .before .before .before .before .before .before .before .before .pre in (
+      omega (arith, e₁ .0, e₂ .0, e₃ .0, e₄ .0, s₁, s₂, p .1 .0 .0, p .1 .0 .2),
+      entries-put _ _ _ _ _ _ _ _ _ _ _ _ _ _ _ _ s₁ s₂ (omega (arith, s₁, s₂, p .1 .0 .0, p .1 .0 .2, p .1 .1)) (e₁ .1) (e₁ .0) (e₂ .1) (e₂ .0) (e₃ .1) (e₃ .0) (e₄ .1),
+    )
+
+pub put-entries-spec : {M : Type 1} → statement M
+put-entries-spec =
+    tie.close
+    (tie.spec
+    put-field-requires
+    cast-put-field
+    put-field-requires-2
+    since-requires
+    copy-bits-requires
+    since-requires-2
+    copy-bits-requires-2
+    same-length
+    returns)

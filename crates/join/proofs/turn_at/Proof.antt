@@ -1,0 +1,82 @@
+-- `join::turn_at` meets its contract: by the shape of the code. Assumes nothing.
+use native.Mathlib.Omega.{arith}
+use mathlib.Core.Path.{refl, ap, _∙_}
+use Rattle.fields.specs.laws.Laws.{field-small}
+use Rattle.files.specs.Codes.{shapeOf}
+use Rattle.join.specs.laws.TurnLaws.{code-five, code-there, code-within, code-plain, arms-below, code-arms}
+use borrow.Author.Needs.{needs}
+use Rattle.join.proofs.turn_at.Statement.{statement}
+use Rattle.join.proofs.turn_at.Tie as tie
+
+bits-at-requires : tie.Need-bits-at-requires
+bits-at-requires c κs = (omega (arith, c .before .before .pre .0), (omega arith, code-five (c .before .before .pre .2)))
+
+shape-of-requires : tie.Need-shape-of-requires
+shape-of-requires c κs = rw (c .bits-at .ensures .0) (field-small _ _ 5)
+
+past-requires : tie.Need-past-requires
+past-requires c κs = search needs
+
+sub-measure : tie.Need-sub-measure
+sub-measure c = omega (arith, arms-below (c .before .before .before .before .before .before .pre .2) _ (c .before .before .shape-of .ensures ∙ ap shapeOf (c .before .before .before .bits-at .ensures .0)) (c .before .match .keys2))
+
+measure-requires : tie.Need-measure-requires
+measure-requires c κs = search needs
+
+sub-measure-2 : tie.Need-sub-measure-2
+sub-measure-2 c = omega (arith, arms-below (c .before .before .before .before .before .before .before .before .pre .2) _ (c .before .before .before .before .shape-of .ensures ∙ ap shapeOf (c .before .before .before .before .before .bits-at .ensures .0)) (c .before .before .before .match .keys2))
+
+measure-requires-2 : tie.Need-measure-requires-2
+measure-requires-2 c κs = search needs
+
+past-requires-2 : tie.Need-past-requires-2
+past-requires-2 c κs = search needs
+
+sub-past : tie.Need-sub-past
+sub-past c = search needs
+
+cast-past : tie.Need-cast-past
+cast-past c = search needs
+
+mul-past : tie.Need-mul-past
+mul-past c = search needs
+
+add-past : tie.Need-add-past
+add-past c = search needs
+
+past-requires-3 : tie.Need-past-requires-3
+past-requires-3 c κs = search needs
+
+returns : tie.Need-returns
+returns c = λ w. code-there w _ (c .before .shape-of .ensures ∙ ap shapeOf (c .before .before .bits-at .ensures .0)) (c .match .keys1)
+
+returns-2 : tie.Need-returns-2
+returns-2 c = λ w. code-arms w _ (c .before .before .before .before .before .before .shape-of .ensures ∙ ap shapeOf (c .before .before .before .before .before .before .before .bits-at .ensures .0)) (c .before .before .before .before .before .match .keys2) _ _ _ _ (c .before .before .before .before .past .ensures) (c .before .before .before .measure .ensures) refl (c .before .measure2 .ensures)
+
+returns-3 : tie.Need-returns-3
+returns-3 c = λ w. code-within w _ (c .before .before .shape-of .ensures ∙ ap shapeOf (c .before .before .before .bits-at .ensures .0)) (c .before .match .keys3) _ (c .past2 .ensures)
+
+returns-4 : tie.Need-returns-4
+returns-4 c = let r = c .before .match .rest in λ w. code-plain w _ (c .before .before .shape-of .ensures ∙ ap shapeOf (c .before .before .before .bits-at .ensures .0)) (r .0 .0 .1) (r .0 .1) (r .1) _ (c .past3 .ensures)
+
+pub turn-at-spec : {M : Type 1} → statement M
+turn-at-spec =
+    tie.close
+    (tie.spec
+    bits-at-requires
+    shape-of-requires
+    past-requires
+    sub-measure
+    measure-requires
+    sub-measure-2
+    measure-requires-2
+    past-requires-2
+    sub-past
+    cast-past
+    mul-past
+    add-past
+    past-requires-3
+    returns
+    returns-2
+    returns-3
+    returns-4)

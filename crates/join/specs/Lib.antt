@@ -1,0 +1,6 @@
+-- The specs of the crate join.
+pub mod Adjoin
+pub mod Join
+pub mod Copied
+pub mod Operands
+pub mod laws
