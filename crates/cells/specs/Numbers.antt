@@ -1,4 +1,4 @@
--- Document 01's numbers by name, in its tables' order, each with the definition that gives it. Definitions use the names; rows and laws,
+-- The numbers of documents 01 and 02 by name, in the tables' order, each with the definition that gives it. Definitions use the names; rows and laws,
 -- which are laid beside the paper, may use the numbers.
 use Prim.Native.Nat.{ℕ}
 
@@ -39,7 +39,16 @@ orphan = 24
 abbrev pub farOffset : ℕ
 farOffset = 8
 
--- 9 output shorter than the linear file; bytes needed: intoBytes (flatten, Flatten)
+-- 32 no accepted tree file flattens to these bytes; the lowest template that stands in the way, 0 where only the tree's length does: templatesBack,
+-- given (unflatten, Back; request 13)
+abbrev pub noTree : ℕ
+noTree = 32
+
+-- 30 more entries than E can say in a joined file, place 0: withinLimits (join, Join; request 10)
+abbrev pub manyEntries : ℕ
+manyEntries = 30
+
+-- 9 output shorter than what is to be written; bytes needed: intoBytes (files, Outcome)
 abbrev pub shortOutput : ℕ
 shortOutput = 9
 
@@ -108,3 +117,16 @@ unfitGlobal = 22
 -- 31 an owner that is neither 0 nor 1; place 0: started, startRefusal; after 21 and before 22 (request 12)
 abbrev pub unknownOwner : ℕ
 unknownOwner = 31
+
+-- ---- a pull list's: refused before any run (request 9), then 21 and the linear file's
+-- 27 more than 256 clips, or a cut-off one; place 0: clipsChecked (pull, Pull)
+abbrev pub cutClips : ℕ
+cutClips = 27
+
+-- 28 a zero or negative denominator; the lowest clip: speedsChecked (pull, Pull)
+abbrev pub noSpeed : ℕ
+noSpeed = 28
+
+-- 29 a list of under 48 bytes a clip; place 0: roomChecked (pull, Pull)
+abbrev pub shortList : ℕ
+shortList = 29

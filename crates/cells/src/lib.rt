@@ -12,7 +12,7 @@ pub struct BitPlace(pub usize);
 // A code place in a linear file: a byte number within its template's code.
 pub struct BytePlace(pub usize);
 
-// What is to be known of a place is asked here; docs/DECISIONS.md names what still takes one apart. Files are at most 262,144 bytes.
+// What is to be known of a place is asked here, and no other crate takes one apart. Files are at most 262,144 bytes.
 impl BitPlace {
     // n bits on.
     pub fn past(self, n: usize) -> BitPlace

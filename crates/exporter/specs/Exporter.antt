@@ -5,63 +5,27 @@ use mathlib.Core.List.{List, [], _∷_}
 use lib.Dec.{leb}
 use lib.ListN.{length}
 use lib.Seq.{sets}
-use Rattle.files.specs.Reading.{Got}
-use Rattle.flatten.specs.Flatten.{answered, written}
-use Rattle.flatten.specs.declared.Flattened.{Flattened}
-use Rattle.flatten.specs.declared.Flattened.the-variants.{Written}
-use Rattle.flatten.specs.declared.Flattened.the-variants.{Refused as FlatRefused}
-use Rattle.unflatten.specs.Back.{answered as backAnswered, written as backWritten}
-use Rattle.unflatten.specs.declared.TreeBack.{TreeBack}
-use Rattle.unflatten.specs.declared.TreeBack.the-variants.{Written as BackWritten, Refused as BackRefused}
-use Rattle.join.specs.declared.Joined.{Joined}
-use Rattle.join.specs.declared.Joined.the-variants.{Written as JoinWritten, Refused as JoinRefused}
+use Rattle.files.specs.declared.Outcome.{Outcome}
+use Rattle.files.specs.declared.Outcome.the-variants.{Written}
+use Rattle.files.specs.declared.Outcome.the-variants.{Refused as NotWritten}
 use Rattle.machines.specs.Runs.{Memory, Ran, ran, numberOf, answerCell}
 use Rattle.machines.specs.declared.End.{End}
 use Rattle.machines.specs.declared.End.the-variants.{Halted, Wrong, OutOfBudget, Refused}
 use Rattle.machines.specs.declared.Run.{Run}
-use Rattle.pull.specs.declared.Pulled.{Pulled}
-use Rattle.pull.specs.declared.Pulled.the-variants.{Written as Listed, Refused as ListRefused}
 
--- ---- flattening
+-- ---- an output that is filled, by flattening, joining, the way back and the pull list
 -- 0 and the length, or the refusal's number and the place
-unfoldable pub flattenSlots : Flattened → List ℕ
-flattenSlots (Written n) = 0 ∷ n ∷ []
-flattenSlots (FlatRefused n p) = n ∷ p ∷ []
+unfoldable pub outcomeSlots : Outcome → List ℕ
+outcomeSlots (Written n) = 0 ∷ n ∷ []
+outcomeSlots (NotWritten n p) = n ∷ p ∷ []
 
--- the result that held old, and the output that held out, after flattening s
-unfoldable pub flattenResult : Got (List ℕ) → List ℕ → List ℕ
-flattenResult g old = cond (leb 2 (length old)) (sets old 0 (flattenSlots (answered g))) old
+-- the result that held old, by what was answered
+unfoldable pub outcomeResult : Outcome → List ℕ → List ℕ
+outcomeResult r old = cond (leb 2 (length old)) (sets old 0 (outcomeSlots r)) old
 
-unfoldable pub flattenOutput : Got (List ℕ) → List ℕ → List ℕ → List ℕ
-flattenOutput g out old = cond (leb 2 (length old)) (written out g) out
-
--- ---- pulling: the same for a list, by its answer and by what it holds then
-unfoldable pub pullSlots : Pulled → List ℕ
-pullSlots (Listed n) = 0 ∷ n ∷ []
-pullSlots (ListRefused n p) = n ∷ p ∷ []
-
-unfoldable pub pullResult : Pulled → List ℕ → List ℕ
-pullResult r old = cond (leb 2 (length old)) (sets old 0 (pullSlots r)) old
-
-unfoldable pub pullOutput : List ℕ → List ℕ → List ℕ → List ℕ
-pullOutput lines list old = cond (leb 2 (length old)) lines list
-
--- ---- back to the tree: the same slots
-unfoldable pub backSlots : TreeBack → List ℕ
-backSlots (BackWritten n) = 0 ∷ n ∷ []
-backSlots (BackRefused n p) = n ∷ p ∷ []
-
-unfoldable pub backResult : Got (List ℕ) → List ℕ → List ℕ
-backResult g old = cond (leb 2 (length old)) (sets old 0 (backSlots (backAnswered g))) old
-
-unfoldable pub backOutput : Got (List ℕ) → List ℕ → List ℕ → List ℕ
-backOutput g out old = cond (leb 2 (length old)) (backWritten out g) out
-
--- ---- joining
--- the same two slots; a file that is joined goes into the output as one that is flattened
-unfoldable pub joinSlots : Joined → List ℕ
-joinSlots (JoinWritten n) = 0 ∷ n ∷ []
-joinSlots (JoinRefused n p) = n ∷ p ∷ []
+-- the output that held out, by what it would hold
+unfoldable pub outcomeOutput : List ℕ → List ℕ → List ℕ → List ℕ
+outcomeOutput new out old = cond (leb 2 (length old)) new out
 
 -- ---- runs
 -- how a run ended: 0 halted, 1 wrong, 2 out of budget, 3 refused

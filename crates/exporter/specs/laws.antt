@@ -1,3 +1,2 @@
 -- The laws of the crate exporter.
 pub mod Answers
-pub mod Joins

@@ -5,22 +5,18 @@ ghost use Prim.Native.Nat.{_≤_};
 ghost use lib.ListN.{length};
 ghost use lib.Seq.{sets};
 ghost use Rattle.cells.specs.Cells.{cellOf};
+ghost use Rattle.files.specs.Outcome.{answered, written};
 ghost use Rattle.flatten.specs.Flatten.{flattened};
 ghost use Rattle.join.specs.Join.{joinedFile};
 ghost use Rattle.machines.specs.Runs.{lent, treeRun, linearRun};
 ghost use Rattle.pull.specs.Pull.{pulled, pulledList};
 ghost use Rattle.unflatten.specs.Back.{backed};
-ghost use Rattle.exporter.specs.Exporter.{backSlots, backOutput, backResult};
-ghost use Rattle.exporter.specs.Exporter.{endSlots, runSlots, flattenSlots, joinSlots, flattenOutput, flattenResult, exported, runExported};
-ghost use Rattle.exporter.specs.Exporter.{pullSlots, pullOutput, pullResult};
+ghost use Rattle.exporter.specs.Exporter.{outcomeSlots, outcomeResult, outcomeOutput, endSlots, runSlots, exported, runExported};
 ghost use Rattle.exporter.specs.Answers.{FieldsFit, AnswerFits};
 use cells::Value;
-use flatten::Flattened;
-use join::Joined;
+use files::Outcome;
 use machines::End;
 use machines::Run;
-use pull::Pulled;
-use unflatten::TreeBack;
 
 // The cell of an answer.
 fn answer_cell(v: Value) -> u64
@@ -51,43 +47,13 @@ fn put_two(result: &mut [u64], a: u64, b: u64)
     result[1] = b;
 }
 
-fn put_flattened(result: &mut [u64], answer: Flattened)
+fn put_outcome(result: &mut [u64], answer: Outcome)
     requires { ⌜ 2 ≤ length (now result) ⌝ }
-    ensures { λ _. ⌜ now (result .exit) ≡ sets (now (result .entry)) 0 (flattenSlots answer) ⌝ }
+    ensures { λ _. ⌜ now (result .exit) ≡ sets (now (result .entry)) 0 (outcomeSlots answer) ⌝ }
 {
     match answer {
-        Flattened::Written(n) => put_two(result, 0, n as u64),
-        Flattened::Refused(n, p) => put_two(result, n as u64, p as u64),
-    }
-}
-
-fn put_pulled(result: &mut [u64], answer: Pulled)
-    requires { ⌜ 2 ≤ length (now result) ⌝ }
-    ensures { λ _. ⌜ now (result .exit) ≡ sets (now (result .entry)) 0 (pullSlots answer) ⌝ }
-{
-    match answer {
-        Pulled::Written(n) => put_two(result, 0, n as u64),
-        Pulled::Refused(n, p) => put_two(result, n as u64, p as u64),
-    }
-}
-
-fn put_back(result: &mut [u64], answer: TreeBack)
-    requires { ⌜ 2 ≤ length (now result) ⌝ }
-    ensures { λ _. ⌜ now (result .exit) ≡ sets (now (result .entry)) 0 (backSlots answer) ⌝ }
-{
-    match answer {
-        TreeBack::Written(n) => put_two(result, 0, n as u64),
-        TreeBack::Refused(n, p) => put_two(result, n as u64, p as u64),
-    }
-}
-
-fn put_joined(result: &mut [u64], answer: Joined)
-    requires { ⌜ 2 ≤ length (now result) ⌝ }
-    ensures { λ _. ⌜ now (result .exit) ≡ sets (now (result .entry)) 0 (joinSlots answer) ⌝ }
-{
-    match answer {
-        Joined::Written(n) => put_two(result, 0, n as u64),
-        Joined::Refused(n, p) => put_two(result, n as u64, p as u64),
+        Outcome::Written(n) => put_two(result, 0, n as u64),
+        Outcome::Refused(n, p) => put_two(result, n as u64, p as u64),
     }
 }
 
@@ -131,40 +97,43 @@ fn put_run(result: &mut [u64], run: Run)
 
 #[no_mangle]
 pub extern "C" fn exporter_flatten(file: &[u8], out: &mut [u8], result: &mut [u64])
-    ensures { λ _. ⌜ now (out .exit) ≡ flattenOutput (flattened (now (file .entry)) (length (now (out .entry)))) (now (out .entry)) (now (result .entry)) ⌝ }
-    ensures { λ _. ⌜ now (result .exit) ≡ flattenResult (flattened (now (file .entry)) (length (now (out .entry)))) (now (result .entry)) ⌝ }
+    ensures { λ _. ⌜ now (out .exit)
+        ≡ outcomeOutput (written (now (out .entry)) (flattened (now (file .entry)) (length (now (out .entry))))) (now (out .entry)) (now (result .entry)) ⌝ }
+    ensures { λ _. ⌜ now (result .exit) ≡ outcomeResult (answered (flattened (now (file .entry)) (length (now (out .entry))))) (now (result .entry)) ⌝ }
 {
     if result.len() < 2 {
         return;
     }
     let answer = flatten::flatten(file, out);
-    put_flattened(result, answer);
+    put_outcome(result, answer);
 }
 
 #[no_mangle]
 pub extern "C" fn exporter_back(file: &[u8], out: &mut [u8], result: &mut [u64])
-    ensures { λ _. ⌜ now (out .exit) ≡ backOutput (backed (now (file .entry)) (length (now (out .entry)))) (now (out .entry)) (now (result .entry)) ⌝ }
-    ensures { λ _. ⌜ now (result .exit) ≡ backResult (backed (now (file .entry)) (length (now (out .entry)))) (now (result .entry)) ⌝ }
+    ensures { λ _. ⌜ now (out .exit)
+        ≡ outcomeOutput (written (now (out .entry)) (backed (now (file .entry)) (length (now (out .entry))))) (now (out .entry)) (now (result .entry)) ⌝ }
+    ensures { λ _. ⌜ now (result .exit) ≡ outcomeResult (answered (backed (now (file .entry)) (length (now (out .entry))))) (now (result .entry)) ⌝ }
 {
     if result.len() < 2 {
         return;
     }
     let answer = unflatten::back(file, out);
-    put_back(result, answer);
+    put_outcome(result, answer);
 }
 
 #[no_mangle]
 pub extern "C" fn exporter_join(prologue: &[u8], file: &[u8], out: &mut [u8], result: &mut [u64])
     ensures { λ _. ⌜ now (out .exit)
-        ≡ flattenOutput (joinedFile (now (prologue .entry)) (now (file .entry)) (length (now (out .entry)))) (now (out .entry)) (now (result .entry)) ⌝ }
-    ensures { λ _. ⌜ now (result .exit)
-        ≡ flattenResult (joinedFile (now (prologue .entry)) (now (file .entry)) (length (now (out .entry)))) (now (result .entry)) ⌝ }
+        ≡ outcomeOutput (written (now (out .entry)) (joinedFile (now (prologue .entry)) (now (file .entry)) (length (now (out .entry)))))
+        (now (out .entry)) (now (result .entry)) ⌝ }
+    ensures { λ _. ⌜ now (result .exit) ≡ outcomeResult
+        (answered (joinedFile (now (prologue .entry)) (now (file .entry)) (length (now (out .entry))))) (now (result .entry)) ⌝ }
 {
     if result.len() < 2 {
         return;
     }
     let answer = join::join(prologue, file, out);
-    put_joined(result, answer);
+    put_outcome(result, answer);
 }
 
 #[no_mangle]
@@ -219,13 +188,13 @@ pub extern "C" fn exporter_pull_list(
     result: &mut [u64],
 )
     ensures { λ _. ⌜ now (list .exit)
-        ≡ pullOutput (pulledList (now (clips .entry)) (now (file .entry)) budget (now (list .entry))) (now (list .entry)) (now (result .entry)) ⌝ }
+        ≡ outcomeOutput (pulledList (now (clips .entry)) (now (file .entry)) budget (now (list .entry))) (now (list .entry)) (now (result .entry)) ⌝ }
     ensures { λ _. ⌜ now (result .exit)
-        ≡ pullResult (pulled (now (clips .entry)) (now (file .entry)) budget (length (now (list .entry)))) (now (result .entry)) ⌝ }
+        ≡ outcomeResult (pulled (now (clips .entry)) (now (file .entry)) budget (length (now (list .entry)))) (now (result .entry)) ⌝ }
 {
     if result.len() < 2 {
         return;
     }
     let answer = pull::pull_list(clips, file, budget, list);
-    put_pulled(result, answer);
+    put_outcome(result, answer);
 }

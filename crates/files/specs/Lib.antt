@@ -14,4 +14,5 @@ pub mod Valid
 pub mod EntriesRead
 pub mod RowFilled
 pub mod Filled
+pub mod Outcome
 pub mod laws

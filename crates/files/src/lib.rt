@@ -8,6 +8,12 @@ ghost use lib.Seq.{sets};
 ghost use Rattle.files.specs.Entries.{kindAt, constantAt, entryAt, entriesAt, zeroBits, nothingMore};
 ghost use Rattle.files.specs.EntriesRead.{entryTold, entriesTold, paddingTold, slotsAt};
 
+// What a function that fills an output answers: how many bytes it wrote, or a refusal's number and place.
+pub enum Outcome {
+    Written(usize),
+    Refused(u8, usize),
+}
+
 // What reading an entry finds: its slot in a run's table and the place past it, or a refusal's number and place.
 pub enum EntryRead {
     Slot(u64, BitPlace),

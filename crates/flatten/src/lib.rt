@@ -1,20 +1,16 @@
 // The flattener (document 01, 'Flattening').
 use cells::BitPlace;
+use files::Outcome;
 use tree::Judged;
 ghost use mathlib.Core.Path.{_≡_};
 ghost use Prim.Native.Nat.{_+_, _*_, _-_, _/_, _≤_, _<_};
 ghost use lib.ListN.{length};
 ghost use lib.Seq.{sets};
 ghost use Rattle.files.specs.Linear.{byteOf, bytesOf, threeBytes, templatesBytes};
-ghost use Rattle.flatten.specs.Flatten.{flattened, answered, written};
+ghost use Rattle.flatten.specs.Flatten.{flattened};
+ghost use Rattle.files.specs.Outcome.{answered, written};
 ghost use Rattle.readback.specs.Lists.{bitsFrom};
 ghost use Rattle.flatten.specs.ToFlatten.{TemplateToWrite, TemplatesToWrite, TemplateDone};
-
-// What flattening answers: the linear file's length, or a refusal's number and place.
-pub enum Flattened {
-    Written(usize),
-    Refused(u8, usize),
-}
 
 // The place past a template, and how many bytes of the linear file are written.
 pub struct Past {
@@ -103,7 +99,7 @@ fn write_templates(s: &[u8], table: &[u64], count: usize, out: &mut [u8])
 }
 
 // Flattens a tree file into an output.
-pub fn flatten(s: &[u8], out: &mut [u8]) -> Flattened
+pub fn flatten(s: &[u8], out: &mut [u8]) -> Outcome
     ensures { λ r. ⌜ r ≡ answered (flattened (now (s .entry)) (length (now (out .entry)))) ⌝ }
     ensures { λ _. ⌜ now (out .exit) ≡ written (now (out .entry)) (flattened (now (s .entry)) (length (now (out .entry)))) ⌝ }
 {
@@ -111,17 +107,17 @@ pub fn flatten(s: &[u8], out: &mut [u8]) -> Flattened
     match tree::read_accepted(s, &mut table) {
         Judged::Accepted(sum) => {
             if sum.far < 64 {
-                return Flattened::Refused(8, sum.far as usize);
+                return Outcome::Refused(8, sum.far as usize);
             }
             let size = sum.size;
             if out.len() < size {
-                return Flattened::Refused(9, size);
+                return Outcome::Refused(9, size);
             }
             let count = sum.count;
             out[0] = count;
             write_templates(s, &table, count as usize, out);
-            Flattened::Written(size)
+            Outcome::Written(size)
         }
-        Judged::Refused(no, place) => Flattened::Refused(no, place),
+        Judged::Refused(no, place) => Outcome::Refused(no, place),
     }
 }

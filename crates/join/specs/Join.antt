@@ -5,7 +5,7 @@ use mathlib.Core.List.{List, [], _∷_, _++_}
 use mathlib.Core.Option.{Option, none}
 use lib.ListN.{length}
 use lib.Dec.{leb}
-use Rattle.cells.specs.Numbers.{tooLong, tooDeep, notClosed, wrongIndex}
+use Rattle.cells.specs.Numbers.{tooLong, tooDeep, notClosed, wrongIndex, manyEntries}
 use Rattle.files.specs.Code.{Code}
 use Rattle.files.specs.Reading.{Got, got, refused}
 use Rattle.files.specs.Entries.{then}
@@ -14,9 +14,7 @@ use Rattle.files.specs.Grammar.{isOpen, lowest, closedTemplate, indexedTemplate
 use Rattle.files.specs.Accepted.{orLowest}
 use Rattle.tree_file.specs.File.{treeFile, levels}
 use Rattle.rewrite.specs.Reindex.{reindex}
-use Rattle.flatten.specs.Flatten.{intoBytes}
-use Rattle.join.specs.declared.Joined.{Joined}
-use Rattle.join.specs.declared.Joined.the-variants.{Written, Refused}
+use Rattle.files.specs.Outcome.{intoBytes}
 use Rattle.join.specs.Adjoin.{openAdjoin}
 
 -- ---- the operands
@@ -60,10 +58,6 @@ joinedTemplates [] ts = ts
 joinedTemplates (p ∷ ps) [] = []
 joinedTemplates (p ∷ ps) (t ∷ ts) = joinedFirst p t ∷ ts
 
--- 30: more entries than E can say (document 02, request 10)
-abbrev pub manyEntries : ℕ
-manyEntries = 30
-
 -- 30, then 4 where the join opens level 17, then 1, each with place 0
 unfoldable pub withinLimits : List Template → Got (List Template)
 withinLimits [] = got [] 0
@@ -82,8 +76,3 @@ joined a b = then (prologueChecked a) (λ ps p. then (secondChecked b) (λ ts q.
 -- the joined file, for an output of n bytes: 9, last
 unfoldable pub joinedFile : List ℕ → List ℕ → ℕ → Got (List ℕ)
 joinedFile a b n = then (joined a b) (λ ts q. intoBytes n (treeFile ts) q)
-
--- what join answers; what its output holds is `written` of flatten
-unfoldable pub answered : Got (List ℕ) → Joined
-answered (got w q) = Written (length w)
-answered (refused n p) = Refused n p

@@ -1,5 +1,6 @@
 // Joining a prologue and a file (document 02, request 10).
 use cells::BitPlace;
+use files::Outcome;
 use lists::Listed;
 use tree::Judged;
 use tree::TreeFile;
@@ -13,16 +14,10 @@ ghost use Rattle.tree.specs.Filled.{treeFilled};
 ghost use Rattle.bit_writer.specs.Put.{putBits};
 ghost use Rattle.tree_file.specs.File.{levels};
 ghost use Rattle.rewrite.specs.Tokens.{indexIn, tokensBits, renewed, TokensAt};
-ghost use Rattle.flatten.specs.Flatten.{written};
-ghost use Rattle.join.specs.Join.{isPrologue, prologueChecked, secondChecked, joinedFile, answered};
+ghost use Rattle.files.specs.Outcome.{answered, written};
+ghost use Rattle.join.specs.Join.{isPrologue, prologueChecked, secondChecked, joinedFile};
 ghost use Rattle.join.specs.Operands.{CodeAt, Operand, PrologueAt, ToJoin, firstOf, jointOf, turnOf, fileEnd};
 ghost use Rattle.join.specs.Copied.{entriesOf, entriesCopied, listsCopied};
-
-// What joining answers: the joined file's length, or a refusal's number and place.
-pub enum Joined {
-    Written(usize),
-    Refused(u8, usize),
-}
 
 // The first template of a file: E, the first bit of its list and the place past it.
 pub struct First {
@@ -290,7 +285,14 @@ fn write_joined(
 }
 
 // Joins two operands that were judged: 30, 4, 1, 9, then the file.
-fn join_both(a: &[u8], first: &[u64], b: &[u8], second: &[u64], count: u8, out: &mut [u8]) -> Joined
+fn join_both(
+    a: &[u8],
+    first: &[u64],
+    b: &[u8],
+    second: &[u64],
+    count: u8,
+    out: &mut [u8],
+) -> Outcome
     requires { ⌜ (length (now first) ≡ 16384) × (length (now second) ≡ 16384) × ToJoin (now a) (now first) (now b) (now second) count ⌝ }
     ensures { λ r. ⌜ r ≡ answered (joinedFile (now (a .entry)) (now (b .entry)) (length (now (out .entry)))) ⌝ }
     ensures { λ _. ⌜ now (out .exit) ≡ written (now (out .entry)) (joinedFile (now (a .entry)) (now (b .entry)) (length (now (out .entry)))) ⌝ }
@@ -298,7 +300,7 @@ fn join_both(a: &[u8], first: &[u64], b: &[u8], second: &[u64], count: u8, out: 
     let x = first_template(a, first, 1);
     let y = first_template(b, second, count);
     if 255 < x.entries + y.entries {
-        return Joined::Refused(30, 0);
+        return Outcome::Refused(30, 0);
     }
     let start = x.start;
     let joint = find_joint(a, first, start);
@@ -309,21 +311,21 @@ fn join_both(a: &[u8], first: &[u64], b: &[u8], second: &[u64], count: u8, out: 
         let end = file_end(b, second, count);
         let size = (past.since(BitPlace(16)) + end.since(BitPlace(5)) + 7) / 8;
         if 65536 < size {
-            return Joined::Refused(1, 0);
+            return Outcome::Refused(1, 0);
         }
         if out.len() < size {
-            return Joined::Refused(9, size);
+            return Outcome::Refused(9, size);
         }
         let mut indices = [0u8; 256];
         move_indices(x.entries, &mut indices);
         write_joined(a, x, place, b, y, end, count, &indices, &mut out[..size]);
-        return Joined::Written(size);
+        return Outcome::Written(size);
     }
-    Joined::Refused(4, 0)
+    Outcome::Refused(4, 0)
 }
 
 // Joins a prologue that was judged and a file.
-fn join_second(a: &[u8], first: &[u64], b: &[u8], out: &mut [u8]) -> Joined
+fn join_second(a: &[u8], first: &[u64], b: &[u8], out: &mut [u8]) -> Outcome
     requires { ⌜ (length (now first) ≡ 16384) × PrologueAt (now a) (now first) ⌝ }
     ensures { λ r. ⌜ r ≡ answered (joinedFile (now (a .entry)) (now (b .entry)) (length (now (out .entry)))) ⌝ }
     ensures { λ _. ⌜ now (out .exit) ≡ written (now (out .entry)) (joinedFile (now (a .entry)) (now (b .entry)) (length (now (out .entry)))) ⌝ }
@@ -331,18 +333,18 @@ fn join_second(a: &[u8], first: &[u64], b: &[u8], out: &mut [u8]) -> Joined
     let mut second = [0u64; 16384];
     match read_second(b, &mut second) {
         Judged::Accepted(sum) => join_both(a, first, b, &second, sum.count, out),
-        Judged::Refused(no, place) => Joined::Refused(no, place),
+        Judged::Refused(no, place) => Outcome::Refused(no, place),
     }
 }
 
 // Joins a prologue and a file into an output.
-pub fn join(prologue: &[u8], file: &[u8], out: &mut [u8]) -> Joined
+pub fn join(prologue: &[u8], file: &[u8], out: &mut [u8]) -> Outcome
     ensures { λ r. ⌜ r ≡ answered (joinedFile (now (prologue .entry)) (now (file .entry)) (length (now (out .entry)))) ⌝ }
     ensures { λ _. ⌜ now (out .exit) ≡ written (now (out .entry)) (joinedFile (now (prologue .entry)) (now (file .entry)) (length (now (out .entry)))) ⌝ }
 {
     let mut first = [0u64; 16384];
     match read_prologue(prologue, &mut first) {
         Judged::Accepted(_) => join_second(prologue, &first, file, out),
-        Judged::Refused(no, place) => Joined::Refused(no, place),
+        Judged::Refused(no, place) => Outcome::Refused(no, place),
     }
 }

@@ -14,8 +14,9 @@ use Rattle.files.specs.Accepted.{flatAccepted}
 use Rattle.files.specs.Linear.{linearFile}
 use Rattle.readback.specs.laws.TreeFacts.{tree-short}
 use Rattle.files.specs.laws.AcceptedLaws.{checked-read, flat-checked, flat-accepted-checked}
-use Rattle.flatten.specs.Flatten.{intoBytes, flattened, answered, written}
-use Rattle.flatten.specs.declared.Flattened.the-variants.{Written, Refused}
+use Rattle.files.specs.Outcome.{intoBytes, answered, written}
+use Rattle.flatten.specs.Flatten.{flattened}
+use Rattle.files.specs.declared.Outcome.the-variants.{Written, Refused}
 use Rattle.lines.specs.Lines.{linearOf, refusedLine, acceptedLines, sheetLines}
 
 -- the file is shorter than 16,384 bytes

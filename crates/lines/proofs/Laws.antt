@@ -7,8 +7,8 @@ use borrow.Author.Tests.{le-leb, lt-leb}
 use lib.ListN.{length}
 use lib.Seq.{sets-eq}
 use Rattle.text.specs.Put.{Put}
-use Rattle.lines.specs.declared.Printed.{Printed}
-use Rattle.lines.specs.declared.Printed.the-variants.{Written, Refused}
+use Rattle.files.specs.declared.Outcome.{Outcome}
+use Rattle.files.specs.declared.Outcome.the-variants.{Written, Refused}
 use Rattle.lines.specs.Lines.{printed, programOutput}
 
 pub lines-fit : {old new : List ℕ} {r : ℕ} (bs : List ℕ) → Put old 0 new r bs → r ≤ length old → (Written r ≡ printed bs (length old)) × (new ≡ programOutput bs old)

@@ -16,8 +16,8 @@ use Rattle.machines.specs.Runs.{freshMemory, runOf, treeRun, linearRun}
 use Rattle.machines.specs.declared.End.{End}
 use Rattle.machines.specs.declared.End.the-variants.{Halted, Wrong, OutOfBudget, Refused}
 use Rattle.machines.specs.declared.Run.{Run}
-use Rattle.lines.specs.declared.Printed.{Printed}
-use Rattle.lines.specs.declared.Printed.the-variants.{Written, Refused as RefusedLines}
+use Rattle.files.specs.declared.Outcome.{Outcome}
+use Rattle.files.specs.declared.Outcome.the-variants.{Written, Refused as RefusedLines}
 
 -- ---- words
 abbrev pub linearWord : List ℕ
@@ -90,7 +90,7 @@ programLines s = cond (leb (length s) 4096) (sheetLines s (linearOf s)) (refused
 
 -- ---- the lines in a lent output
 -- what the program answers for an output of n bytes: how many the lines are; 9 and the bytes needed where they do not fit
-unfoldable pub printed : List ℕ → ℕ → Printed
+unfoldable pub printed : List ℕ → ℕ → Outcome
 printed ls n = cond (leb (length ls) n) (Written (length ls)) (RefusedLines 9 (length ls))
 
 -- what the output holds that held old: the lines in its first bytes; where they do not fit it is unchanged

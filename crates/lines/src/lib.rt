@@ -7,15 +7,9 @@ ghost use Rattle.text.specs.Text.{line};
 ghost use Rattle.lines.specs.Lines.{answerWord, endWords, machineLine, linearLine};
 ghost use Rattle.lines.specs.Lines.{tabularRun, flatRun, acceptedLines, linearOf, sheetLines, programLines, printed, programOutput};
 use cells::Value;
-use flatten::Flattened;
+use files::Outcome;
 use machines::End;
 use machines::Run;
-
-// What the program answers: how many bytes its lines are, or a refusal's number and place: 9 and the bytes needed.
-pub enum Printed {
-    Written(usize),
-    Refused(u8, usize),
-}
 
 // ---- words into a buffer, from place at on; each function answers the place after them
 
@@ -141,8 +135,8 @@ fn put_sheet(out: &mut [u8], sheet: &[u8]) -> usize
 {
     let mut linear = [0u8; 16384];
     match flatten::flatten(sheet, &mut linear) {
-        Flattened::Written(n) => put_accepted(out, sheet, &linear[..n]),
-        Flattened::Refused(n, p) => text::put_numbers(out, 0, b"refused", n as u64, p as u64),
+        Outcome::Written(n) => put_accepted(out, sheet, &linear[..n]),
+        Outcome::Refused(n, p) => text::put_numbers(out, 0, b"refused", n as u64, p as u64),
     }
 }
 
@@ -159,14 +153,14 @@ fn put_lines(out: &mut [u8], sheet: &[u8]) -> usize
 }
 
 // The lines of a sheet, in the first bytes of out; nothing is written where they do not fit.
-pub fn program(sheet: &[u8], out: &mut [u8]) -> Printed
+pub fn program(sheet: &[u8], out: &mut [u8]) -> Outcome
     ensures { λ r. ⌜ r ≡ printed (programLines (now (sheet .entry))) (length (now (out .entry))) ⌝ }
     ensures { λ r. ⌜ now (out .exit) ≡ programOutput (programLines (now (sheet .entry))) (now (out .entry)) ⌝ }
 {
     let mut lines = [0u8; 256];
     let count = put_lines(&mut lines, sheet);
     if out.len() < count {
-        return Printed::Refused(9, count);
+        return Outcome::Refused(9, count);
     }
-    Printed::Written(text::put_bytes(out, 0, &lines[..count]))
+    Outcome::Written(text::put_bytes(out, 0, &lines[..count]))
 }

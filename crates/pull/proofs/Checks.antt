@@ -23,8 +23,8 @@ use Rattle.linear.specs.declared.Checked.{Checked}
 use Rattle.linear.specs.declared.Checked.the-variants.{Accepted, Refused}
 use Rattle.cells.specs.declared.BitPlace.{BitPlace}
 use Rattle.text.specs.Put.{Put}
-use Rattle.pull.specs.declared.Pulled.{Pulled}
-use Rattle.pull.specs.declared.Pulled.the-variants.{Written, Refused as RefusedList}
+use Rattle.files.specs.declared.Outcome.{Outcome}
+use Rattle.files.specs.declared.Outcome.the-variants.{Written, Refused as RefusedList}
 use Rattle.pull.specs.Pull.{clipCount, clipAt, word, wholeClips, lowestStill, speedsChecked, roomChecked, clipsChecked}
 use Rattle.pull.specs.Pull.{fileChecked, andThen, pullChecked, pullList, answered, listed, pulled, pulledList, bytesOf}
 use Rattle.pull.proofs.Words.{word-fits}
@@ -119,7 +119,7 @@ accepted-fit cs b room =
         record { few = leb-true (length cs / 8) 256 a; room-for = leb-true (48 * (length cs / 8)) room c; small = leb-true b 2000000 d }
 
 -- ---- the answer
-abbrev pub Answer : List ℤ → List ℕ → ℕ → List ℕ → List ℕ → Pulled → Type 0
+abbrev pub Answer : List ℤ → List ℕ → ℕ → List ℕ → List ℕ → Outcome → Type 0
 Answer cs file b old new r = (r ≡ pulled cs file b (length old)) × ((new ≡ pulledList cs file b old) × (bytesOf r ≤ 44 * (length cs / 8)))
 
 module _ (cs : List ℤ) (file : List ℕ) (b : ℕ) (old : List ℕ) where

@@ -9,7 +9,7 @@ use lib.ListN.{length, getD, take, drop, replicate}
 use lib.Seq.{sets}
 use lib.Signed.{ltZ}
 use Rattle.cells.specs.Cells.{full, undefinedCell, intCell, tagOf, intOf}
-use Rattle.cells.specs.Numbers.{budgetSpent, largeBudget}
+use Rattle.cells.specs.Numbers.{budgetSpent, cutClips, noSpeed, shortList, largeBudget}
 use Rattle.text.specs.Text.{decimal, integer, line}
 use Rattle.integers.specs.Integers.{signed, intBits}
 use Rattle.files.specs.Linear.{linearRead}
@@ -23,8 +23,8 @@ use Rattle.machines.specs.declared.End.{End}
 use Rattle.machines.specs.declared.End.the-variants.{Halted, Wrong, OutOfBudget, Refused as RefusedRun}
 use Rattle.machines.specs.declared.Run.{Run}
 use Rattle.pull.specs.declared.Found.{Found}
-use Rattle.pull.specs.declared.Pulled.{Pulled}
-use Rattle.pull.specs.declared.Pulled.the-variants.{Written, Refused as RefusedList}
+use Rattle.files.specs.declared.Outcome.{Outcome}
+use Rattle.files.specs.declared.Outcome.the-variants.{Written, Refused as RefusedList}
 
 -- ---- clips
 -- A clip is eight words: record in, record out, speed numerator, speed denominator, head handle, tail handle, first and last frame of its media.
@@ -124,18 +124,6 @@ unfoldable pub pullList : List ℤ → List ℕ → ℕ → List ℕ
 pullList cs file b = pullLines cs file b (clipCount cs)
 
 -- ---- what is refused before any run
--- 27 more than 256 clips, or a cut-off one; place 0
-abbrev pub cutClips : ℕ
-cutClips = 27
-
--- 28 a zero or negative denominator; the lowest clip
-abbrev pub noSpeed : ℕ
-noSpeed = 28
-
--- 29 a list of under 48 bytes a clip; place 0
-abbrev pub shortList : ℕ
-shortList = 29
-
 unfoldable pub wholeClips : List ℤ → Bool
 wholeClips cs = leb (clipCount cs) 256 && eqb (length cs % 8) 0
 
@@ -173,7 +161,7 @@ unfolding andThen clipsChecked fileChecked
 pullChecked cs file b room = andThen (clipsChecked cs b room) (fileChecked (linearTold (linearRead file)))
 
 -- ---- the answer, and what a list that held old holds: the lines in its first bytes; where something is refused it is unchanged
-unfoldable pub answered : Checked → List ℕ → Pulled
+unfoldable pub answered : Checked → List ℕ → Outcome
 answered Accepted ls = Written (length ls)
 answered (Refused n p) ls = RefusedList n p
 
@@ -181,7 +169,7 @@ unfoldable pub listed : Checked → List ℕ → List ℕ → List ℕ
 listed Accepted ls old = ls ++ drop (length ls) old
 listed (Refused n p) ls old = old
 
-unfoldable pub pulled : List ℤ → List ℕ → ℕ → ℕ → Pulled
+unfoldable pub pulled : List ℤ → List ℕ → ℕ → ℕ → Outcome
 unfolding answered pullChecked
 pulled cs file b room = answered (pullChecked cs file b room) (pullList cs file b)
 
@@ -190,6 +178,6 @@ unfolding listed pullChecked
 pulledList cs file b old = listed (pullChecked cs file b (length old)) (pullList cs file b) old
 
 -- the bytes of an answer
-unfoldable pub bytesOf : Pulled → ℕ
+unfoldable pub bytesOf : Outcome → ℕ
 bytesOf (Written n) = n
 bytesOf (RefusedList n p) = 0

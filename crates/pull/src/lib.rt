@@ -13,16 +13,11 @@ ghost use Rattle.pull.specs.Pull.{clipCount, clipAt, word, wordCell, cli
 ghost use Rattle.pull.specs.Pull.{endWords, foundLine, pullLine, pullList, lowestStill, speedsChecked, roomChecked, clipsChecked};
 ghost use Rattle.pull.specs.Pull.{pulled, pulledList, bytesOf};
 use cells::BitPlace;
+use files::Outcome;
 use linear::Checked;
 use linear::LinearFile;
 use machines::End;
 use machines::Run;
-
-// What a pull answers: how many bytes its lines are, or a refusal's number and place.
-pub enum Pulled {
-    Written(usize),
-    Refused(u8, usize),
-}
 
 // What a clip's line tells of its run: the end, and the cells of globals 6 and 7.
 struct Found {
@@ -342,7 +337,7 @@ fn check_clips(clips: &[i32], budget: u64, room: usize) -> Checked
 }
 
 // Where clips, list and budget are accepted. The file is read once, for all clips.
-fn pull_file(clips: &[i32], file: &[u8], budget: u64, list: &mut [u8]) -> Pulled
+fn pull_file(clips: &[i32], file: &[u8], budget: u64, list: &mut [u8]) -> Outcome
     requires { ⌜ clipsChecked (now clips) budget (length (now list)) ≡ Checked.Accepted ⌝ }
     ensures { λ r. ⌜ r ≡ pulled (now (clips .entry)) (now (file .entry)) budget (length (now (list .entry))) ⌝ }
     ensures { λ _. ⌜ now (list .exit) ≡ pulledList (now (clips .entry)) (now (file .entry)) budget (now (list .entry)) ⌝ }
@@ -350,19 +345,19 @@ fn pull_file(clips: &[i32], file: &[u8], budget: u64, list: &mut [u8]) -> Pulled
 {
     let mut table = [0u64; 16384];
     match linear::read_linear(file, &mut table) {
-        LinearFile::Read(_) => Pulled::Written(pull_read(clips, file, &table, budget, list)),
-        LinearFile::Refused(number, place) => Pulled::Refused(number, place.number()),
+        LinearFile::Read(_) => Outcome::Written(pull_read(clips, file, &table, budget, list)),
+        LinearFile::Refused(number, place) => Outcome::Refused(number, place.number()),
     }
 }
 
 // The lines of the clips, in the first bytes of the list. Clips are i32 words, eight for each clip.
-pub fn pull_list(clips: &[i32], file: &[u8], budget: u64, list: &mut [u8]) -> Pulled
+pub fn pull_list(clips: &[i32], file: &[u8], budget: u64, list: &mut [u8]) -> Outcome
     ensures { λ r. ⌜ r ≡ pulled (now (clips .entry)) (now (file .entry)) budget (length (now (list .entry))) ⌝ }
     ensures { λ _. ⌜ now (list .exit) ≡ pulledList (now (clips .entry)) (now (file .entry)) budget (now (list .entry)) ⌝ }
     ensures longest { λ r. ⌜ bytesOf r ≤ 44 * (length (now (clips .entry)) / 8) ⌝ }
 {
     match check_clips(clips, budget, list.len()) {
         Checked::Accepted => pull_file(clips, file, budget, list),
-        Checked::Refused(number, place) => Pulled::Refused(number, place),
+        Checked::Refused(number, place) => Outcome::Refused(number, place),
     }
 }

@@ -1,8 +1,8 @@
 // The program of document 01: a sheet on standard input, its lines on standard output. Where a read fails it writes nothing: an error is no
 // end of the input, and what was read before it is no sheet.
+use files::Outcome;
 use libc::STDIN_FILENO;
 use libc::STDOUT_FILENO;
-use lines::Printed;
 ghost use Prim.Native.Nat.{_≤_};
 ghost use lib.ListN.{length};
 ghost use Rattle.trial.specs.Input.{Within};
@@ -50,7 +50,7 @@ fn main() {
     };
     let mut out = [0u8; 256];
     let printed = lines::program(&sheet[..length], &mut out);
-    if let Printed::Written(count) = printed {
+    if let Outcome::Written(count) = printed {
         if count <= 256 {
             io::write_all(STDOUT_FILENO, &out[..count]);
         }

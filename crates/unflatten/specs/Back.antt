@@ -1,24 +1,19 @@
 -- From a linear file back to the one tree file that flattens to it (request 13), into a lent output.
 use Prim.Native.Nat.{ℕ, _+_}
 use mathlib.Core.Bool.{cond}
-use mathlib.Core.List.{List, [], _∷_, _++_}
+use mathlib.Core.List.{List, [], _∷_}
 use mathlib.Core.Option.{Option, none, some}
-use lib.ListN.{length, drop}
+use lib.ListN.{length}
 use lib.Dec.{leb}
-use Rattle.cells.specs.Numbers.{shortOutput}
+use Rattle.cells.specs.Numbers.{noTree}
 use Rattle.files.specs.Code.{Code}
 use Rattle.files.specs.Reading.{Got, got, refused}
 use Rattle.files.specs.Entries.{then}
+use Rattle.files.specs.Outcome.{intoBytes}
 use Rattle.files.specs.Tree.{Template}
 use Rattle.files.specs.Linear.{Linear, linearRead}
 use Rattle.tree_file.specs.File.{treeFile}
 use Rattle.back.specs.laws.Lists.{listBack}
-use Rattle.unflatten.specs.declared.TreeBack.{TreeBack}
-use Rattle.unflatten.specs.declared.TreeBack.the-variants.{Written, Refused}
-
--- refusal 32: no accepted tree file flattens to these bytes
-abbrev pub noTree : ℕ
-noTree = 32
 
 -- on with the list, or 32 with template n
 unfoldable pub orStuck : {A : Type 0} → ℕ → Option Code → (Code → Got A) → Got A
@@ -36,19 +31,10 @@ templatesBack n (l ∷ ls) = orStuck n (listBack (l .entries) (l .code)) (λ c. 
 
 -- ---- what stands last in the way: only the tree's length, 32 with place 0; then 9, an output of n bytes that is shorter
 unfoldable pub given : List ℕ → ℕ → Got (List ℕ)
-given f n = cond (leb (length f) 65536) (cond (leb (length f) n) (got f (length f)) (refused shortOutput (length f))) (refused noTree 0)
+unfolding intoBytes
+given f n = cond (leb (length f) 65536) (intoBytes n f (length f)) (refused noTree 0)
 
 -- 1, 2, 3 and 5 as the linear machine gives them, 32, 9
 unfoldable pub backed : List ℕ → ℕ → Got (List ℕ)
 unfolding given
 backed z n = then (linearRead z) (λ ls q. then (templatesBack 0 ls) (λ ts m. given (treeFile ts) n))
-
--- what is answered
-unfoldable pub answered : Got (List ℕ) → TreeBack
-answered (got f q) = Written (length f)
-answered (refused n p) = Refused n p
-
--- what the output holds that held old: the tree file in its first bytes; on a refusal it is unchanged
-unfoldable pub written : List ℕ → Got (List ℕ) → List ℕ
-written old (got f q) = f ++ drop (length f) old
-written old (refused n p) = old

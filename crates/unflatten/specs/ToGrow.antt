@@ -19,7 +19,8 @@ use Rattle.unflatten.specs.declared.Grown.the-variants.{Stuck, On}
 use Rattle.unflatten.specs.declared.Sized.{Sized}
 use Rattle.unflatten.specs.declared.Sized.the-variants.{Stuck as StuckAt, Past}
 use Rattle.unflatten.specs.Found.{part, found}
-use Rattle.unflatten.specs.Back.{noTree, templateOf, templatesBack}
+use Rattle.cells.specs.Numbers.{noTree}
+use Rattle.unflatten.specs.Back.{templateOf, templatesBack}
 
 -- ---- a code whose length stands at byte size, with room in o at a
 pub record CodeIn (s o : List ℕ) (size a : ℕ) : Type 0 where

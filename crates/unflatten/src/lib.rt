@@ -4,6 +4,7 @@
 use cells::BitPlace;
 use fields::Field;
 use files::Entries;
+use files::Outcome;
 use linear::Checked;
 ghost use mathlib.Core.Path.{_≡_};
 ghost use mathlib.Core.Bool.{_&&_};
@@ -22,7 +23,8 @@ ghost use Rattle.fields.specs.Field.{fieldAt};
 ghost use Rattle.files.specs.Reading.{got};
 ghost use Rattle.files.specs.Entries.{field};
 ghost use Rattle.files.specs.EntriesRead.{slotsAt};
-ghost use Rattle.unflatten.specs.Back.{backed, answered, written, given};
+ghost use Rattle.unflatten.specs.Back.{backed, given};
+ghost use Rattle.files.specs.Outcome.{answered, written};
 ghost use Rattle.unflatten.specs.ToGrow.{CodeIn, Grows, TemplateIn, TemplateGrows, TemplatesIn, TemplatesGrow, FileIn};
 ghost use Rattle.unflatten.specs.ToPut.{Puts, TwoPut, armsSize, ArmsIn, Steps};
 
@@ -75,12 +77,6 @@ pub enum Grown {
 pub enum Sized {
     Stuck(usize),
     Past(BitPlace),
-}
-
-// What the way back answers: the tree file's length, or a refusal's number and place.
-pub enum TreeBack {
-    Written(usize),
-    Refused(u8, usize),
 }
 
 // How a code is followed in a tree; a byte above 31 is no code.
@@ -559,27 +555,27 @@ fn put_templates(s: &[u8], table: &mut [u64], count: usize, out: &mut [u8], at: 
 }
 
 // The first n bytes of a tree into an output, if a tree may be so long and the output is long enough.
-fn give(tree: &[u8], n: usize, out: &mut [u8]) -> TreeBack
+fn give(tree: &[u8], n: usize, out: &mut [u8]) -> Outcome
     requires { ⌜ n ≤ length (now tree) ⌝ }
     ensures { λ r. ⌜ r ≡ answered (given (take n (now (tree .entry))) (length (now (out .entry)))) ⌝ }
     ensures { λ _. ⌜ now (out .exit) ≡ written (now (out .entry)) (given (take n (now (tree .entry))) (length (now (out .entry)))) ⌝ }
 {
     if 65536 < n {
-        return TreeBack::Refused(32, 0);
+        return Outcome::Refused(32, 0);
     }
     if out.len() < n {
-        return TreeBack::Refused(9, n);
+        return Outcome::Refused(9, n);
     }
     let mut i: usize = 0;
     while i < n {
         out[i] = tree[i];
         i += 1;
     }
-    TreeBack::Written(n)
+    Outcome::Written(n)
 }
 
 // The way back of a file that is read, with a zeroed table and room for the longest tree.
-fn back_read(s: &[u8], table: &mut [u64], tree: &mut [u8], out: &mut [u8]) -> TreeBack
+fn back_read(s: &[u8], table: &mut [u64], tree: &mut [u8], out: &mut [u8]) -> Outcome
     requires { ⌜ FileIn (now s) × (now table ≡ replicate 16384 0) × (length (now tree) ≡ 262144) ⌝ }
     ensures { λ r. ⌜ r ≡ answered (backed (now (s .entry)) (length (now (out .entry)))) ⌝ }
     ensures { λ _. ⌜ now (out .exit) ≡ written (now (out .entry)) (backed (now (s .entry)) (length (now (out .entry)))) ⌝ }
@@ -587,14 +583,14 @@ fn back_read(s: &[u8], table: &mut [u64], tree: &mut [u8], out: &mut [u8]) -> Tr
     let count = fields::bits_at(s, BitPlace(0), 8);
     let first = bit_writer::put_field(tree, BitPlace(0), 8, count);
     match put_templates(s, table, count as usize, tree, first) {
-        Sized::Stuck(own) => TreeBack::Refused(32, own),
+        Sized::Stuck(own) => Outcome::Refused(32, own),
         Sized::Past(end) => give(tree, end.past(7).byte(), out),
     }
 }
 
 // From a linear file back to the one tree file that flattens to it, or a refusal: 1, 2, 3 and 5 as the linear machine gives them; 32 where no
 // accepted tree file flattens to these bytes; 9.
-pub fn back(s: &[u8], out: &mut [u8]) -> TreeBack
+pub fn back(s: &[u8], out: &mut [u8]) -> Outcome
     ensures { λ r. ⌜ r ≡ answered (backed (now (s .entry)) (length (now (out .entry)))) ⌝ }
     ensures { λ _. ⌜ now (out .exit) ≡ written (now (out .entry)) (backed (now (s .entry)) (length (now (out .entry)))) ⌝ }
 {
@@ -602,6 +598,6 @@ pub fn back(s: &[u8], out: &mut [u8]) -> TreeBack
     let mut tree = [0u8; 262144];
     match linear::check_linear(s) {
         Checked::Accepted => back_read(s, &mut table, &mut tree, out),
-        Checked::Refused(no, place) => TreeBack::Refused(no, place),
+        Checked::Refused(no, place) => Outcome::Refused(no, place),
     }
 }

@@ -7,9 +7,10 @@ use mathlib.Core.List.{List, _++_}
 use lib.ListN.{length, take, drop}
 use lib.Seq.{take-append-seam}
 use Rattle.files.specs.Reading.{Got, got, refused}
-use Rattle.flatten.specs.Flatten.{flattened, answered, written}
-use Rattle.flatten.specs.declared.Flattened.{Flattened}
-use Rattle.flatten.specs.declared.Flattened.the-variants.{Written}
+use Rattle.files.specs.Outcome.{answered, written}
+use Rattle.flatten.specs.Flatten.{flattened}
+use Rattle.files.specs.declared.Outcome.{Outcome}
+use Rattle.files.specs.declared.Outcome.the-variants.{Written}
 use Rattle.machines.specs.Runs.{Memory, Ran, ran, treeRun, linearRun}
 use Rattle.machines.specs.declared.Run.{Run}
 use Rattle.agree.specs.Demand3.{EndAlike, Flattens, StartsFrom, Ends, jumpsMade, firstArms}
@@ -17,7 +18,7 @@ use Rattle.agree.specs.laws.Proved.{demand-3-forward, demand-3-backward}
 
 -- ---- the promises
 -- flatten(s, out) answered r, where out held old and then new
-pub record FlattenPromise (s old : List ℕ) (r : Flattened) (new : List ℕ) : Type 0 where
+pub record FlattenPromise (s old : List ℕ) (r : Outcome) (new : List ℕ) : Type 0 where
   pub answer : r ≡ answered (flattened s (length old))
   pub output : new ≡ written old (flattened s (length old))
 

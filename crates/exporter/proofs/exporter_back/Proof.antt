@@ -1,19 +1,19 @@
 -- `exporter::exporter_back` meets its contract: nothing is done without room for two slots; else the contract of `back`. Assumes nothing.
 use borrow.Author.Needs.{needs}
 use borrow.Author.Tests.{le-leb, lt-leb}
-use Rattle.exporter.specs.Exporter.{backOutput, backResult}
+use Rattle.exporter.specs.Exporter.{outcomeOutput, outcomeResult}
 use Rattle.exporter.proofs.exporter_back.Statement.{statement}
 use Rattle.exporter.proofs.exporter_back.Tie as tie
 
 returns : tie.Need-returns
-unfolding backOutput backResult
+unfolding outcomeOutput outcomeResult
 returns c = let h = lt-leb 2 _ (c .if1 .taken) in (rw h, rw h)
 
 back-requires : tie.Need-back-requires
 back-requires c κs = search needs
 
-put-back-requires : tie.Need-put-back-requires
-put-back-requires c κs = search needs
+put-outcome-requires : tie.Need-put-outcome-requires
+put-outcome-requires c κs = search needs
 
 same-length : tie.Need-same-length
 same-length c = search needs
@@ -22,10 +22,10 @@ same-length-2 : tie.Need-same-length-2
 same-length-2 c = search needs
 
 returns-2 : tie.Need-returns-2
-unfolding backOutput backResult
-returns-2 c = let h = le-leb 2 _ (c .before .before .before .before .before .before .before .before .if1 .left) in (rw h (c .before .before .before .before .before .before .back .ensures .1), rw (h, ← c .before .before .before .before .before .before .back .ensures .0) (c .before .before .put-back .ensures))
+unfolding outcomeOutput outcomeResult
+returns-2 c = let h = le-leb 2 _ (c .before .before .before .before .before .before .before .before .if1 .left) in (rw h (c .before .before .before .before .before .before .back .ensures .1), rw (h, ← c .before .before .before .before .before .before .back .ensures .0) (c .before .before .put-outcome .ensures))
 
 pub exporter-back-spec : {M : Type 1} → statement M
 exporter-back-spec =
     tie.close
-    (tie.spec returns back-requires put-back-requires same-length same-length-2 returns-2)
+    (tie.spec returns back-requires put-outcome-requires same-length same-length-2 returns-2)

@@ -1,19 +1,19 @@
 -- `exporter::exporter_flatten` meets its contract: nothing is done without room for two slots; else the flattener's contract. Assumes nothing.
 use borrow.Author.Needs.{needs}
 use borrow.Author.Tests.{le-leb, lt-leb}
-use Rattle.exporter.specs.Exporter.{flattenOutput, flattenResult}
+use Rattle.exporter.specs.Exporter.{outcomeOutput, outcomeResult}
 use Rattle.exporter.proofs.exporter_flatten.Statement.{statement}
 use Rattle.exporter.proofs.exporter_flatten.Tie as tie
 
 returns : tie.Need-returns
-unfolding flattenOutput flattenResult
+unfolding outcomeOutput outcomeResult
 returns c = let h = lt-leb 2 _ (c .if1 .taken) in (rw h, rw h)
 
 flatten-requires : tie.Need-flatten-requires
 flatten-requires c κs = search needs
 
-put-flattened-requires : tie.Need-put-flattened-requires
-put-flattened-requires c κs = search needs
+put-outcome-requires : tie.Need-put-outcome-requires
+put-outcome-requires c κs = search needs
 
 same-length : tie.Need-same-length
 same-length c = search needs
@@ -22,10 +22,10 @@ same-length-2 : tie.Need-same-length-2
 same-length-2 c = search needs
 
 returns-2 : tie.Need-returns-2
-unfolding flattenOutput flattenResult
-returns-2 c = let h = le-leb 2 _ (c .before .before .before .before .before .before .before .before .if1 .left) in (rw h (c .before .before .before .before .before .before .flatten .ensures .1), rw (h, ← c .before .before .before .before .before .before .flatten .ensures .0) (c .before .before .put-flattened .ensures))
+unfolding outcomeOutput outcomeResult
+returns-2 c = let h = le-leb 2 _ (c .before .before .before .before .before .before .before .before .if1 .left) in (rw h (c .before .before .before .before .before .before .flatten .ensures .1), rw (h, ← c .before .before .before .before .before .before .flatten .ensures .0) (c .before .before .put-outcome .ensures))
 
 pub exporter-flatten-spec : {M : Type 1} → statement M
 exporter-flatten-spec =
     tie.close
-    (tie.spec returns flatten-requires put-flattened-requires same-length same-length-2 returns-2)
+    (tie.spec returns flatten-requires put-outcome-requires same-length same-length-2 returns-2)

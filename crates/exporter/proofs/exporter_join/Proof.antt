@@ -1,20 +1,19 @@
 -- `exporter::exporter_join` meets its contract: nothing is done without room for two slots; else the contract of join. Assumes nothing.
 use borrow.Author.Needs.{needs}
 use borrow.Author.Tests.{le-leb, lt-leb}
-use Rattle.exporter.specs.Exporter.{flattenOutput, flattenResult}
-use Rattle.exporter.specs.laws.Joins.{slots-alike}
+use Rattle.exporter.specs.Exporter.{outcomeOutput, outcomeResult}
 use Rattle.exporter.proofs.exporter_join.Statement.{statement}
 use Rattle.exporter.proofs.exporter_join.Tie as tie
 
 returns : tie.Need-returns
-unfolding flattenOutput flattenResult
+unfolding outcomeOutput outcomeResult
 returns c = let h = lt-leb 2 _ (c .if1 .taken) in (rw h, rw h)
 
 join-requires : tie.Need-join-requires
 join-requires c κs = search needs
 
-put-joined-requires : tie.Need-put-joined-requires
-put-joined-requires c κs = search needs
+put-outcome-requires : tie.Need-put-outcome-requires
+put-outcome-requires c κs = search needs
 
 same-length : tie.Need-same-length
 same-length c = search needs
@@ -23,10 +22,10 @@ same-length-2 : tie.Need-same-length-2
 same-length-2 c = search needs
 
 returns-2 : tie.Need-returns-2
-unfolding flattenOutput flattenResult
-returns-2 c = let h = le-leb 2 _ (c .before .before .before .before .before .before .before .before .if1 .left) in (rw h (c .before .before .before .before .before .before .join .ensures .1), rw (h, ← slots-alike, ← c .before .before .before .before .before .before .join .ensures .0) (c .before .before .put-joined .ensures))
+unfolding outcomeOutput outcomeResult
+returns-2 c = let h = le-leb 2 _ (c .before .before .before .before .before .before .before .before .if1 .left) in (rw h (c .before .before .before .before .before .before .join .ensures .1), rw (h, ← c .before .before .before .before .before .before .join .ensures .0) (c .before .before .put-outcome .ensures))
 
 pub exporter-join-spec : {M : Type 1} → statement M
 exporter-join-spec =
     tie.close
-    (tie.spec returns join-requires put-joined-requires same-length same-length-2 returns-2)
+    (tie.spec returns join-requires put-outcome-requires same-length same-length-2 returns-2)

@@ -1,19 +1,19 @@
 -- `exporter::exporter_pull_list` meets its contract: nothing is done without room for two slots; else the pull list's contract. Assumes nothing.
 use borrow.Author.Needs.{needs}
 use borrow.Author.Tests.{le-leb, lt-leb}
-use Rattle.exporter.specs.Exporter.{pullOutput, pullResult}
+use Rattle.exporter.specs.Exporter.{outcomeOutput, outcomeResult}
 use Rattle.exporter.proofs.exporter_pull_list.Statement.{statement}
 use Rattle.exporter.proofs.exporter_pull_list.Tie as tie
 
 returns : tie.Need-returns
-unfolding pullOutput pullResult
+unfolding outcomeOutput outcomeResult
 returns c = let h = lt-leb 2 _ (c .if1 .taken) in (rw h, rw h)
 
 pull-list-requires : tie.Need-pull-list-requires
 pull-list-requires c κs = search needs
 
-put-pulled-requires : tie.Need-put-pulled-requires
-put-pulled-requires c κs = search needs
+put-outcome-requires : tie.Need-put-outcome-requires
+put-outcome-requires c κs = search needs
 
 same-length : tie.Need-same-length
 same-length c = search needs
@@ -22,10 +22,10 @@ same-length-2 : tie.Need-same-length-2
 same-length-2 c = search needs
 
 returns-2 : tie.Need-returns-2
-unfolding pullOutput pullResult
-returns-2 c = let h = le-leb 2 _ (c .before .before .before .before .before .before .before .before .if1 .left) in (rw h (c .before .before .before .before .before .before .pull-list .ensures .1 .0), rw (h, ← c .before .before .before .before .before .before .pull-list .ensures .0) (c .before .before .put-pulled .ensures))
+unfolding outcomeOutput outcomeResult
+returns-2 c = let h = le-leb 2 _ (c .before .before .before .before .before .before .before .before .if1 .left) in (rw h (c .before .before .before .before .before .before .pull-list .ensures .1 .0), rw (h, ← c .before .before .before .before .before .before .pull-list .ensures .0) (c .before .before .put-outcome .ensures))
 
 pub exporter-pull-list-spec : {M : Type 1} → statement M
 exporter-pull-list-spec =
     tie.close
-    (tie.spec returns pull-list-requires put-pulled-requires same-length same-length-2 returns-2)
+    (tie.spec returns pull-list-requires put-outcome-requires same-length same-length-2 returns-2)

@@ -30,9 +30,10 @@ use Rattle.tree.specs.laws.Parts.{TemplatesParts, templates-parts, templates-co
 use Rattle.tree.specs.laws.Judged.{ReadAs, judged-told, number-some, number-none}
 use Rattle.emit.specs.laws.Stores.{sets-append}
 use Rattle.flatten.specs.declared.Past.{Past}
-use Rattle.flatten.specs.declared.Flattened.{Flattened}
-use Rattle.flatten.specs.declared.Flattened.the-variants.{Written, Refused}
-use Rattle.flatten.specs.Flatten.{intoBytes, flattened, answered, written}
+use Rattle.files.specs.declared.Outcome.{Outcome}
+use Rattle.files.specs.declared.Outcome.the-variants.{Written, Refused}
+use Rattle.files.specs.Outcome.{intoBytes, answered, written}
+use Rattle.flatten.specs.Flatten.{flattened}
 use Rattle.flatten.specs.ToFlatten.{TemplateToWrite, TemplateDone, Flattenable, TemplatesToWrite}
 
 -- ---- the templates that are left, own to T, which stand at p and go into o from f on
@@ -117,7 +118,7 @@ all-flattenable all few front (t ∷ ts) own e l h =
 -- ---- the flattener
 module _ (s old : List ℕ) where
   -- the answer r and the output o
-  abbrev pub FlattenDone : Flattened → List ℕ → Type 0
+  abbrev pub FlattenDone : Outcome → List ℕ → Type 0
   FlattenDone r o = (r ≡ answered (flattened s (length old))) × (o ≡ written old (flattened s (length old)))
 
   flat-refused : {n p : ℕ} → flatAccepted s ≡ refused n p → FlattenDone (Refused n p) old

@@ -38,13 +38,13 @@ use Rattle.join.specs.laws.AdjoinLaws.{adjoin-bits, adjoin-levels, depth
 use Rattle.files.specs.Accepted.{orLowest}
 use Rattle.bit_writer.specs.Put.{putBits}
 use Rattle.tree_file.specs.laws.Written.{put-tree}
-use Rattle.flatten.specs.Flatten.{intoBytes, written}
+use Rattle.files.specs.Outcome.{intoBytes, answered, written}
 use Rattle.join.specs.declared.First.{First}
 use Rattle.join.specs.declared.Joint.{Joint}
-use Rattle.join.specs.declared.Joined.{Joined}
-use Rattle.join.specs.declared.Joined.the-variants.{Written, Refused}
+use Rattle.files.specs.declared.Outcome.{Outcome}
+use Rattle.files.specs.declared.Outcome.the-variants.{Written, Refused}
 use Rattle.join.specs.Join.{moved, joinedFirst, indicesChecked, prologueChecked, unclosed, secondChecked, joinedTemplates, withinLimits, joined}
-use Rattle.join.specs.Join.{joinedFile, answered}
+use Rattle.join.specs.Join.{joinedFile}
 use Rattle.join.specs.Copied.{entriesOf, entriesCopied, listsCopied}
 use Rattle.join.specs.Operands.{CodeAt, ToJoin, firstOf, jointOf, fileEnd}
 use Rattle.join.specs.laws.OperandsLaws.{first-start, first-entries, first-writable, first-end, first-code, first-code-is, others-stand, file-inside}
@@ -243,7 +243,7 @@ module _ {a b : List ℕ} {count : ℕ} (k : Both a b count) where
   writable-b = first-writable b t ts (k .end-b) (k .read-b)
 
   -- the answer r and the output o
-  abbrev pub JoinDone : List ℕ → Joined → List ℕ → Type 0
+  abbrev pub JoinDone : List ℕ → Outcome → List ℕ → Type 0
   JoinDone old r o = (r ≡ answered (joinedFile a b (length old))) × (o ≡ written old (joinedFile a b (length old)))
 
   join-refused : (old : List ℕ) (n q : ℕ) → joinedFile a b (length old) ≡ refused n q → JoinDone old (Refused n q) old

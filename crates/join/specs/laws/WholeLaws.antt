@@ -19,10 +19,10 @@ use Rattle.tree.specs.Summary.{summaryOf, judgedTold}
 use Rattle.tree.specs.Filled.{treeFilled}
 use Rattle.tree.specs.laws.FilledLaws.{tree-table}
 use Rattle.tree.specs.laws.Judged.{ReadAs, judged-told}
-use Rattle.flatten.specs.Flatten.{written}
-use Rattle.join.specs.declared.Joined.{Joined}
-use Rattle.join.specs.declared.Joined.the-variants.{Refused}
-use Rattle.join.specs.Join.{isPrologue, indicesChecked, prologueChecked, unclosed, secondChecked, joined, joinedFile, answered}
+use Rattle.files.specs.Outcome.{answered, written}
+use Rattle.files.specs.declared.Outcome.{Outcome}
+use Rattle.files.specs.declared.Outcome.the-variants.{Refused}
+use Rattle.join.specs.Join.{isPrologue, indicesChecked, prologueChecked, unclosed, secondChecked, joined, joinedFile}
 use Rattle.join.specs.Operands.{Operand, PrologueAt, ToJoin}
 
 -- ---- what was judged was read
@@ -88,7 +88,7 @@ to-join w b told e =
 
 -- ---- refused
 module _ (a b old : List ℕ) where
-  abbrev Done : Joined → List ℕ → Type 0
+  abbrev Done : Outcome → List ℕ → Type 0
   Done r o = (r ≡ answered (joinedFile a b (length old))) × (o ≡ written old (joinedFile a b (length old)))
 
   pub prologue-refused : {n q : ℕ} → prologueChecked a ≡ refused n q → Done (Refused n q) old

@@ -7,8 +7,8 @@ use mathlib.Core.List.{List}
 use borrow.Author.Tests.{leb-true}
 use lib.Dec.{leb}
 use lib.ListN.{length}
-use Rattle.lines.specs.declared.Printed.{Printed}
-use Rattle.lines.specs.declared.Printed.the-variants.{Written, Refused}
+use Rattle.files.specs.declared.Outcome.{Outcome}
+use Rattle.files.specs.declared.Outcome.the-variants.{Written, Refused}
 use Rattle.lines.specs.Lines.{printed}
 
 pub written-within : (ls : List ℕ) (n : ℕ) {k : ℕ} → printed ls n ≡ Written k → k ≤ n

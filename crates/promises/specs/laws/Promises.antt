@@ -10,8 +10,7 @@ use denote.Ref.{now}
 use denote.Triple.Clauses.{AtExit}
 use borrow.Fn.Kinds.{PK, RK, Out, Dens, resT, endedOf}
 use Rattle.machines.specs.Runs.{memory, ran}
-use Rattle.flatten.specs.declared.Flattened.{Flattened}
-use Rattle.lines.specs.declared.Printed.{Printed}
+use Rattle.files.specs.declared.Outcome.{Outcome}
 use Rattle.exporter.specs.Exporter.{exported}
 use Rattle.tree.proofs.check_tree.Kinds as check-tree
 use Rattle.tree.proofs.check_tree.Reads as check-tree-reads
@@ -25,17 +24,14 @@ use Rattle.tree_machine.proofs.run_tree.Kinds as run-tree
 use Rattle.tree_machine.proofs.run_tree.Reads as run-tree-reads
 use Rattle.linear_machine.proofs.run_linear.Kinds as run-linear
 use Rattle.linear_machine.proofs.run_linear.Reads as run-linear-reads
-use Rattle.pull.specs.declared.Pulled.{Pulled}
 use Rattle.pull.proofs.pull_list.Kinds as pull-list
 use Rattle.pull.proofs.pull_list.Reads as pull-list-reads
 use Rattle.exporter.proofs.exporter_pull_list.Kinds as exporter-pull-list
 use Rattle.exporter.proofs.exporter_pull_list.Reads as exporter-pull-list-reads
-use Rattle.join.specs.declared.Joined.{Joined}
 use Rattle.join.proofs.join.Kinds as join
 use Rattle.join.proofs.join.Reads as join-reads
 use Rattle.exporter.proofs.exporter_join.Kinds as exporter-join
 use Rattle.exporter.proofs.exporter_join.Reads as exporter-join-reads
-use Rattle.unflatten.specs.declared.TreeBack.{TreeBack}
 use Rattle.unflatten.proofs.back.Kinds as back
 use Rattle.unflatten.proofs.back.Reads as back-reads
 use Rattle.exporter.proofs.exporter_back.Kinds as exporter-back
@@ -69,12 +65,12 @@ pub check-linear-only : Only 1 check-linear.ps check-linear.r check-linear-reads
 check-linear-only κs a x y e f p q = fixed p q
 
 -- flatten::flatten(s, out): its answer, and out
-pub flatten-only : Only 2 flatten.ps flatten.r flatten-reads.Learnt {B = Flattened × List ℕ}
+pub flatten-only : Only 2 flatten.ps flatten.r flatten-reads.Learnt {B = Outcome × List ℕ}
     (λ κs x e. (x, now (e .1 .0)))
 flatten-only κs a x y e f p q = (λ i. (fixed (p .0) (q .0) i, fixed (p .1) (q .1) i))
 
 -- lines::program(sheet, out): its answer, and out
-pub program-only : Only 2 program.ps program.r program-reads.Learnt {B = Printed × List ℕ}
+pub program-only : Only 2 program.ps program.r program-reads.Learnt {B = Outcome × List ℕ}
     (λ κs x e. (x, now (e .1 .0)))
 program-only κs a x y e f p q = (λ i. (fixed (p .0) (q .0) i, fixed (p .1) (q .1) i))
 
@@ -106,7 +102,7 @@ pub exporter-run-linear-only : Only 6 exporter-run-linear.ps exporter-run-linear
 exporter-run-linear-only κs a x y e f p q = fixed p q
 
 -- pull::pull_list(clips, file, budget, list): its answer, and list
-pub pull-list-only : Only 3 pull-list.ps pull-list.r pull-list-reads.Learnt {B = Pulled × List ℕ}
+pub pull-list-only : Only 3 pull-list.ps pull-list.r pull-list-reads.Learnt {B = Outcome × List ℕ}
     (λ κs x e. (x, now (e .1 .1 .1 .0)))
 pull-list-only κs a x y e f p q = (λ i. (fixed (p .0) (q .0) i, fixed (p .1 .0) (q .1 .0) i))
 
@@ -116,7 +112,7 @@ pub exporter-pull-list-only : Only 4 exporter-pull-list.ps exporter-pull-list.r 
 exporter-pull-list-only κs a x y e f p q = (λ i. (fixed (p .0) (q .0) i, fixed (p .1) (q .1) i))
 
 -- unflatten::back(s, out): its answer, and out
-pub back-only : Only 2 back.ps back.r back-reads.Learnt {B = TreeBack × List ℕ}
+pub back-only : Only 2 back.ps back.r back-reads.Learnt {B = Outcome × List ℕ}
     (λ κs x e. (x, now (e .1 .0)))
 back-only κs a x y e f p q = (λ i. (fixed (p .0) (q .0) i, fixed (p .1) (q .1) i))
 
@@ -126,7 +122,7 @@ pub exporter-back-only : Only 3 exporter-back.ps exporter-back.r exporter-back-r
 exporter-back-only κs a x y e f p q = (λ i. (fixed (p .0) (q .0) i, fixed (p .1) (q .1) i))
 
 -- join::join(prologue, file, out): its answer, and out
-pub join-only : Only 3 join.ps join.r join-reads.Learnt {B = Joined × List ℕ}
+pub join-only : Only 3 join.ps join.r join-reads.Learnt {B = Outcome × List ℕ}
     (λ κs x e. (x, now (e .1 .1 .0)))
 join-only κs a x y e f p q = (λ i. (fixed (p .0) (q .0) i, fixed (p .1) (q .1) i))
 

@@ -3,7 +3,7 @@ use Prim.Native.Nat.{ℕ, _+_, _*_, _/_}
 use native.Mathlib.Omega.{arith}
 use mathlib.Core.Path.{refl, sym, ap, _∙_}
 use lib.ListN.{length, length-replicate}
-use Rattle.unflatten.specs.Back.{answered, written}
+use Rattle.files.specs.Outcome.{answered, written}
 use Rattle.unflatten.specs.laws.GrowLaws.{bytes-all, file, templates-in, back-stuck, back-given}
 use borrow.Author.Needs.{needs}
 use Rattle.unflatten.proofs.back_read.Statement.{statement}

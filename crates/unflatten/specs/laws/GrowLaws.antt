@@ -54,12 +54,14 @@ use Rattle.unflatten.specs.declared.Grown.{Grown}
 use Rattle.unflatten.specs.declared.Grown.the-variants.{Stuck, On}
 use Rattle.unflatten.specs.declared.Sized.{Sized}
 use Rattle.unflatten.specs.declared.Sized.the-variants.{Stuck as StuckAt, Past as PastAll}
-use Rattle.unflatten.specs.declared.TreeBack.the-variants.{Written as WrittenTree, Refused as RefusedTree}
+use Rattle.files.specs.declared.Outcome.the-variants.{Written as WrittenTree, Refused as RefusedTree}
 use Rattle.unflatten.specs.Found.{part, kept, found}
 use Rattle.unflatten.specs.laws.Regions.{part-length}
 use Rattle.unflatten.specs.ToPut.{Puts}
 use Rattle.unflatten.specs.laws.PutLaws.{puts-none, puts-some}
-use Rattle.unflatten.specs.Back.{noTree, orStuck, templateOf, templatesBack, given, backed, answered, written}
+use Rattle.unflatten.specs.Back.{orStuck, templateOf, templatesBack, given, backed}
+use Rattle.files.specs.Outcome.{intoBytes, answered, written}
+use Rattle.cells.specs.Numbers.{noTree}
 use Rattle.unflatten.specs.ToGrow.{CodeIn, Grows, no-list, list-grown, TemplateIn, TemplateGrows, no-template, template-grown}
 use Rattle.unflatten.specs.ToGrow.{TemplatesIn, TemplatesGrow, stuck-at, templates-grown, Growing, FileIn}
 

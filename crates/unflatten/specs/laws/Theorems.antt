@@ -30,7 +30,8 @@ use Rattle.back.specs.laws.Lists.{listBack}
 use Rattle.back.specs.laws.Files.{one-file}
 use Rattle.back.specs.laws.Shelf.{Backs, no-more, one-more, flattens-back}
 use Rattle.back.specs.laws.Whole.{back-file}
-use Rattle.unflatten.specs.Back.{noTree, orStuck, templateOf, templatesBack, given, backed}
+use Rattle.cells.specs.Numbers.{noTree}
+use Rattle.unflatten.specs.Back.{orStuck, templateOf, templatesBack, given, backed}
 
 -- ---- the templates
 backs-of : (n : ℕ) (ls : List Linear) {ts : List Template} {m : ℕ} → templatesBack n ls ≡ got ts m → Backs ls ts

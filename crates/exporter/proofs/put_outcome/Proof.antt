@@ -1,8 +1,8 @@
--- `exporter::put_flattened` meets its contract: in each arm the answer is known, and so are its slots. Assumes nothing.
+-- `exporter::put_outcome` meets its contract: in each arm the answer is known, and so are its slots. Assumes nothing.
 use borrow.Author.Needs.{needs}
-use Rattle.exporter.specs.Exporter.{flattenSlots}
-use Rattle.exporter.proofs.put_flattened.Statement.{statement}
-use Rattle.exporter.proofs.put_flattened.Tie as tie
+use Rattle.exporter.specs.Exporter.{outcomeSlots}
+use Rattle.exporter.proofs.put_outcome.Statement.{statement}
+use Rattle.exporter.proofs.put_outcome.Tie as tie
 
 enum-known-answer : tie.Need-enum-known-answer
 enum-known-answer c = search needs
@@ -23,18 +23,18 @@ same-length : tie.Need-same-length
 same-length c = search needs
 
 returns : tie.Need-returns
-unfolding flattenSlots
+unfolding outcomeSlots
 returns c = rw (c .before .before .before .before .before .answer .given .1) (c .before .before .put-two .ensures)
 
 same-length-2 : tie.Need-same-length-2
 same-length-2 c = search needs
 
 returns-2 : tie.Need-returns-2
-unfolding flattenSlots
+unfolding outcomeSlots
 returns-2 c = rw (c .before .before .before .before .before .answer2 .given .1) (c .before .before .put-two2 .ensures)
 
-pub put-flattened-spec : {M : Type 1} → statement M
-put-flattened-spec =
+pub put-outcome-spec : {M : Type 1} → statement M
+put-outcome-spec =
     tie.close
     (tie.spec
     enum-known-answer
