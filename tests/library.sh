@@ -2,7 +2,7 @@
 # Sourced by the run scripts, with $root set: how to build against the library and how to start what was built.
 #   compile OUTPUT SOURCE..     builds a program with the library's side
 #   $start PROGRAM WORD..       runs it
-# SELF=1 takes the plain implementation for the library's side. LIBRARY names another archive, CFLAGS other flags.
+# SELF=1 takes the plain implementation for the library's side, SELF="SOURCE.." what these sources have. LIBRARY names another archive, CFLAGS other flags.
 
 build=$(mktemp -d)
 trap 'rm -rf "$build"' EXIT
@@ -11,7 +11,8 @@ compiler=${CC:-gcc}
 flags=${CFLAGS:--O2}
 
 if [ -n "${SELF:-}" ]; then
-  library=$root/tests/plain/self.c
+  library=$SELF
+  [ "$SELF" != 1 ] || library=$root/tests/plain/self.c
 else
   library=${LIBRARY:-$root/target/staticlib/libexporter.a}
   [ -f "$library" ] || (cd "$root" && rt staticlib exporter >&2)

@@ -67,6 +67,17 @@ module _ (slot : ℕ → ℕ) (op next : ℕ) (w : List ℕ) where
   unfolding wholeBytes transfer
   whole-other a b h₁ h₂ h₃ h₄ h₅ i j = rw (ne-eqb op 1 h₁, ne-eqb op 2 h₂, ne-eqb op 3 h₃, ne-eqb op 4 h₄, ne-eqb op 5 h₅, i, j)
 
+-- a code at q, and the `left` bytes at i after it
+module _ (s : List ℕ) (i left : ℕ) (fits : i + left ≤ length s) (slot : ℕ → ℕ) (q op n : ℕ) (c : n ≡ operandBytes op) where
+  pub op-cut : left < n → bad ≡ codeBytes slot q op (part s i left)
+  unfolding codeBytes
+  op-cut h = rw (lt-leb (operandBytes op) (length (part s i left)) (omega (arith, part-length s i left fits)))
+
+  pub op-whole : (x : Fetched) (next : ℕ) → n ≤ left → next ≡ q + (1 + n) → x ≡ wholeBytes slot op (part s i left) next
+      → x ≡ codeBytes slot q op (part s i left)
+  unfolding codeBytes
+  op-whole x next h e h′ = h′ ∙ rw (le-leb (operandBytes op) (length (part s i left)) (omega (arith, part-length s i left fits)), e, c)
+
 -- ---- a place of a template's code
 drop-take : (k n : ℕ) (l : List ℕ) → drop k (take n l) ≡ take (n - k) (drop k l)
 drop-take zero n l = rw (sub-zero n)
@@ -92,25 +103,9 @@ module _ (s table : List ℕ) (t start len q : ℕ) (k : Within s start len) whe
   fetch-there x h e = rw (ne-eqb start 0 (λ z. omega (arith, k .there z)), from-there h) e
 
   -- the instruction at i, of which `left` bytes are left
-  module _ (i left op n : ℕ) (at : i ≡ start + q) (e : left ≡ len - q) (some : left ≡ 0 → ⊥) (o : op ≡ getD s i 0) (c : n ≡ operandBytes op) where
-    here : q < len
-    here = omega (arith, some)
-
-    bytes-there : (x : Fetched) → x ≡ codeBytes (slotAt table t) q op (part s (i + 1) (left - 1)) → x ≡ fetchBytes s table t start len q
-    bytes-there x h = fetch-there x here (h ∙ rw (o, at, e))
-
-    bytes-length : length (part s (i + 1) (left - 1)) ≡ left - 1
-    bytes-length = part-length s (i + 1) (left - 1) (omega (arith, k .inside, here))
-
-    pub fetch-cut : left - 1 < n → bad ≡ fetchBytes s table t start len q
-    unfolding codeBytes
-    fetch-cut h = bytes-there bad (rw (lt-leb (operandBytes op) (length (part s (i + 1) (left - 1))) (omega (arith, bytes-length))))
-
-    pub fetch-whole : (x : Fetched) (next : ℕ) → n ≤ left - 1 → next ≡ q + (1 + n) → x ≡ wholeBytes (slotAt table t) op (part s (i + 1) (left - 1)) next
-        → x ≡ fetchBytes s table t start len q
-    unfolding codeBytes
-    fetch-whole x next h e h′ =
-        bytes-there x (h′ ∙ rw (le-leb (operandBytes op) (length (part s (i + 1) (left - 1))) (omega (arith, bytes-length)), e, c))
+  pub fetch-known : (x : Fetched) (i left op : ℕ) → i ≡ start + q → left ≡ len - q → (left ≡ 0 → ⊥) → op ≡ getD s i 0
+      → x ≡ codeBytes (slotAt table t) q op (part s (i + 1) (left - 1)) → x ≡ fetchBytes s table t start len q
+  fetch-known x i left op at e some o h = fetch-there x (omega (arith, some)) (h ∙ rw (o, at, e))
 
   pub fetch-past : len ≤ q → (start ≡ 0 → ⊥) → bad ≡ fetchBytes s table t start len q
   unfolding fetchBytes codeFrom decodeBytes

@@ -11,7 +11,7 @@ ghost use Rattle.runs.specs.Runs.{part};
 ghost use Rattle.files.specs.Codes.{operandBytes};
 ghost use Rattle.machines.specs.Slots.{slotAt};
 ghost use Rattle.machines.specs.Instruction.{linearForm, fetchedAs, Places};
-ghost use Rattle.linear_code.specs.Bytes.{wholeBytes, fetchBytes, codeStart, codeLength, Within, AllWithin};
+ghost use Rattle.linear_code.specs.Bytes.{wholeBytes, codeBytes, fetchBytes, codeStart, codeLength, Within, AllWithin};
 
 // Byte k of the `left` bytes at i, 0 past them.
 fn operand(file: &[u8], i: usize, left: usize, k: usize) -> u8
@@ -28,8 +28,7 @@ fn offset(file: &[u8], i: usize) -> usize
     256 * (file[i] as usize) + file[i + 1] as usize
 }
 
-// How many operand bytes a code has in linear code, by code (document 01, 'Codes'; the handbook prints the same table). The compiler makes
-// the table anew at each use, so its numbers are single bytes: with eight bytes a number the whole step took 1.4 times as long.
+// How many operand bytes a code has in linear code, by code (document 01, 'Codes'; the handbook prints the same table).
 const OPERAND_BYTES: [u8; 32] = [
     0, // 0
     0, // 1 return
@@ -102,6 +101,51 @@ fn fetch_whole(file: &[u8], i: usize, left: usize, op: u8, next: BytePlace) -> I
     }
 }
 
+// An instruction: its code, which stands at a place, and the `left` bytes at i after it. One that is cut is bad.
+fn fetch_op(file: &[u8], i: usize, left: usize, op: u8, at: BytePlace) -> Instruction
+    requires { ⌜ (i + left ≤ length (now file)) × (at .0 ≤ 262144) ⌝ }
+    ensures { λ r. ⌜ ((slot : ℕ → ℕ) → fetchedAs slot r ≡ codeBytes slot (at .0) op (part (now (file .entry)) i left)) × Places linearForm r ⌝ }
+{
+    let count = operand_count(op);
+    if left < count {
+        return Instruction::Bad;
+    }
+    fetch_whole(file, i, left, op, at.past(1 + count))
+}
+
+// The same, each code for itself: the compiler then knows its length and its rule, and a step is one jump to what its code does.
+fn fetch_known(file: &[u8], i: usize, left: usize, op: u8, at: BytePlace) -> Instruction
+    requires { ⌜ (i + left ≤ length (now file)) × (at .0 ≤ 262144) ⌝ }
+    ensures { λ r. ⌜ ((slot : ℕ → ℕ) → fetchedAs slot r ≡ codeBytes slot (at .0) op (part (now (file .entry)) i left)) × Places linearForm r ⌝ }
+{
+    match op {
+        1 => fetch_op(file, i, left, 1, at),
+        2 => fetch_op(file, i, left, 2, at),
+        3 => fetch_op(file, i, left, 3, at),
+        4 => fetch_op(file, i, left, 4, at),
+        5 => fetch_op(file, i, left, 5, at),
+        6 => fetch_op(file, i, left, 6, at),
+        7 => fetch_op(file, i, left, 7, at),
+        8 => fetch_op(file, i, left, 8, at),
+        9 => fetch_op(file, i, left, 9, at),
+        10 => fetch_op(file, i, left, 10, at),
+        11 => fetch_op(file, i, left, 11, at),
+        12 => fetch_op(file, i, left, 12, at),
+        13 => fetch_op(file, i, left, 13, at),
+        15 => fetch_op(file, i, left, 15, at),
+        16 => fetch_op(file, i, left, 16, at),
+        18 => fetch_op(file, i, left, 18, at),
+        19 => fetch_op(file, i, left, 19, at),
+        20 => fetch_op(file, i, left, 20, at),
+        21 => fetch_op(file, i, left, 21, at),
+        22 => fetch_op(file, i, left, 22, at),
+        23 => fetch_op(file, i, left, 23, at),
+        24 => fetch_op(file, i, left, 24, at),
+        25 => fetch_op(file, i, left, 25, at),
+        _ => fetch_op(file, i, left, op, at),
+    }
+}
+
 // What stands at a place of the `len` bytes of code at `start`.
 fn fetch_code(file: &[u8], start: usize, len: usize, at: BytePlace) -> Instruction
     requires { ⌜ Within (now file) start len × (length (now file) ≤ 262144) ⌝ }
@@ -119,12 +163,7 @@ fn fetch_code(file: &[u8], start: usize, len: usize, at: BytePlace) -> Instructi
         return Instruction::Bad;
     }
     let i = at.index(start);
-    let op = file[i];
-    let count = operand_count(op);
-    if left - 1 < count {
-        return Instruction::Bad;
-    }
-    fetch_whole(file, i + 1, left - 1, op, at.past(1 + count))
+    fetch_known(file, i + 1, left - 1, file[i], at)
 }
 
 // What stands at a place of a template.

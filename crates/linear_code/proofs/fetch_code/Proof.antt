@@ -6,7 +6,7 @@ use native.Mathlib.Omega.{arith}
 use mathlib.Core.Path.{refl, sym, _∙_}
 use Rattle.machines.specs.Slots.{slotAt}
 use Rattle.machines.specs.Instruction.{fetchedAs, Places}
-use Rattle.linear_code.proofs.FetchLaws.{fetch-cut, fetch-whole, fetch-past, fetch-absent, fetch-past-absent}
+use Rattle.linear_code.proofs.FetchLaws.{fetch-known, fetch-past, fetch-absent, fetch-past-absent}
 use Rattle.linear_code.proofs.fetch_code.Statement.{statement}
 use Rattle.linear_code.proofs.fetch_code.Tie as tie
 
@@ -38,45 +38,25 @@ returns-3 c =
 index-requires : tie.Need-index-requires
 index-requires c κs = search needs
 
-shared-slice-read-op : tie.Need-shared-slice-read-op
-shared-slice-read-op c = search needs
+add-fetch-known : tie.Need-add-fetch-known
+add-fetch-known c = search needs
 
-operand-count-requires : tie.Need-operand-count-requires
-operand-count-requires c κs = search needs
+sub-fetch-known : tie.Need-sub-fetch-known
+sub-fetch-known c = search needs
 
-sub-if4 : tie.Need-sub-if4
-sub-if4 c = search needs
+shared-slice-read-fetch-known : tie.Need-shared-slice-read-fetch-known
+shared-slice-read-fetch-known c = search needs
+
+fetch-known-requires : tie.Need-fetch-known-requires
+fetch-known-requires c κs = search needs
 
 returns-4 : tie.Need-returns-4
-unfolding fetchedAs Places
 returns-4 c =
-    let p = c .before .before .before .before .before .before .before in
-    let e = c .before .before .before .before .before .left .ensures in
-    (λ table t. fetch-cut _ table t _ (p .args .len) (p .args .at .0) (p .pre .0) _ _ _ _ (c .before .before .before .index .ensures) e (c .before .before .before .before .if1 .left) refl (c .before .operand-count .ensures) (omega (arith, c .if4 .taken)), tt)
-
-add-fetch-whole : tie.Need-add-fetch-whole
-add-fetch-whole c = search needs
-
-sub-fetch-whole : tie.Need-sub-fetch-whole
-sub-fetch-whole c = search needs
-
-add-past : tie.Need-add-past
-add-past c = search needs
-
-past-requires : tie.Need-past-requires
-past-requires c κs = search needs
-
-fetch-whole-requires : tie.Need-fetch-whole-requires
-fetch-whole-requires c κs = search needs
-
-returns-5 : tie.Need-returns-5
-returns-5 c =
-    let p = c .before .before .before .before .before .before .before .before .before in
-    let e = c .before .before .before .before .before .before .before .left .ensures in
-    let i = c .before .before .before .before .before .index .ensures in
-    let some = c .before .before .before .before .before .before .if1 .left in
-    let n = c .before .before .before .operand-count .ensures in
-    (λ table t. fetch-whole _ table t _ (p .args .len) (p .args .at .0) (p .pre .0) _ _ _ _ i e some refl n _ _ (omega (arith, c .before .before .if4 .left)) (c .before .past .ensures) (c .fetch-whole .ensures .0 (slotAt table t)), c .fetch-whole .ensures .1)
+    let p = c .before .before .before .before .before .before in
+    let e = c .before .before .before .before .left .ensures in
+    let i = c .before .before .index .ensures in
+    let some = c .before .before .before .if1 .left in
+    (λ table t. fetch-known _ table t _ (p .args .len) (p .args .at .0) (p .pre .0) _ _ _ _ i e some refl (c .fetch-known .ensures .0 (slotAt table t)), c .fetch-known .ensures .1)
 
 pub fetch-code-spec : {M : Type 1} → statement M
 fetch-code-spec =
@@ -88,13 +68,8 @@ fetch-code-spec =
     returns-2
     returns-3
     index-requires
-    shared-slice-read-op
-    operand-count-requires
-    sub-if4
-    returns-4
-    add-fetch-whole
-    sub-fetch-whole
-    add-past
-    past-requires
-    fetch-whole-requires
-    returns-5)
+    add-fetch-known
+    sub-fetch-known
+    shared-slice-read-fetch-known
+    fetch-known-requires
+    returns-4)
