@@ -2,6 +2,7 @@
    flat: straight code; deep: open conditionals that nest to level 16 all over, so that the end of a first arm is looked for on each level. */
 #define _POSIX_C_SOURCE 199309L
 
+#include "../tests/back/nest.h"
 #include "../tests/plain/library.h"
 #include "../tests/plain/plain.h"
 
@@ -20,17 +21,6 @@ static double seconds(void)
     struct timespec now;
     clock_gettime(CLOCK_PROCESS_CPUTIME_ID, &now);
     return (double)now.tv_sec + 1e-9 * (double)now.tv_nsec;
-}
-
-/* An open conditional of `size` bytes whose first arm holds the next, and so on for `levels` levels; the innermost arm is push all over. */
-static void nest(uint8_t *code, size_t size, unsigned levels)
-{
-    size_t first = size - 7;
-    memcpy(code, (uint8_t[]){ 3, (uint8_t)((first + 3) / 256), (uint8_t)((first + 3) % 256) }, 3);
-    memset(code + 3, 12, first);
-    memcpy(code + 3 + first, (uint8_t[]){ 5, 0, 1, 12 }, 4);
-    if (levels > 1)
-        nest(code + 3, first, levels - 1);
 }
 
 static void make(size_t size, int deep)

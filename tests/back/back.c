@@ -2,6 +2,7 @@
    back ROOM < LINEAR: writes the tree file that a linear file goes back to, into an output of ROOM bytes, or the number and place of a refusal. An output
    that a refusal changed, or bytes after the file that changed, end it with status 2. */
 #include "../plain/library.h"
+#include "nest.h"
 
 #include <inttypes.h>
 #include <stdio.h>
@@ -10,17 +11,6 @@
 #include <time.h>
 
 enum { FILL = 0xA5, AMPLE = EXPORTER_TREE_FILE + 16 };
-
-/* An open conditional of `size` bytes whose first arm holds the next, and so on for `levels` levels; the innermost arm is push all over. */
-static void nest(uint8_t *code, size_t size, unsigned levels)
-{
-    size_t first = size - 7;
-    memcpy(code, (uint8_t[]){ 3, (uint8_t)((first + 3) / 256), (uint8_t)((first + 3) % 256) }, 3);
-    memset(code + 3, 12, first);
-    memcpy(code + 3 + first, (uint8_t[]){ 5, 0, 1, 12 }, 4);
-    if (levels > 1)
-        nest(code + 3, first, levels - 1);
-}
 
 /* Least of five times, in milliseconds; the answer has to be 32, place 0, since only the tree's length stands in the way. */
 static int hostile(void)

@@ -147,15 +147,21 @@ typedef struct {
 static const Way flattening = { "flatten", exporter_flatten, plain_flatten, flatten_tally };
 static const Way way_back = { "back", exporter_back, plain_back, back_tally };
 
+/* Both outputs and both results hold the same before a call. */
+static void fill_alike(Random *random, size_t out_len, uint64_t library_result[4], uint64_t plain_result[4])
+{
+    memset(library_out, (int)below(random, 256), out_len);
+    memcpy(plain_out, library_out, out_len);
+    for (unsigned i = 0; i < 4; i++)
+        library_result[i] = plain_result[i] = draw(random);
+}
+
 /* Answers the length of the file that is written, or 0 where it was refused. It is then at the front of library_out. */
 static size_t convert_both(const Way *way, Random *random, const File *file, size_t out_len, size_t result_len, uint64_t plain_result[4])
 {
     uint64_t library_result[4];
     bool at_end = next_end(), inside;
-    memset(library_out, (int)below(random, 256), out_len);
-    memcpy(plain_out, library_out, out_len);
-    for (unsigned i = 0; i < 4; i++)
-        library_result[i] = plain_result[i] = draw(random);
+    fill_alike(random, out_len, library_result, plain_result);
     empty_outputs += out_len == 0;
     empty_results += result_len == 0;
     short_results += result_len == 1;
@@ -239,10 +245,7 @@ static bool join_both(Random *random, const File *prologue, const File *file, si
     static uint8_t after[FILE_ROOM];
     uint64_t library_result[4];
     bool at_end = next_end(), inside;
-    memset(library_out, (int)below(random, 256), out_len);
-    memcpy(plain_out, library_out, out_len);
-    for (unsigned i = 0; i < 4; i++)
-        library_result[i] = plain_result[i] = draw(random);
+    fill_alike(random, out_len, library_result, plain_result);
     calling = "join";
     exporter_join(lend_file(prologue, at_end), prologue->len, lend(&lent.second, file->bytes, file->len, at_end), file->len,
                   lend(&lent.out, library_out, out_len, at_end), out_len, lend(&lent.result, library_result, result_len * sizeof(uint64_t), at_end),

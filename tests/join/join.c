@@ -1,6 +1,7 @@
 /* join ROOM OUT FILE FILE: joins two files into an output of so many bytes, and writes what the output holds then to OUT, the first byte that is not
    the file's and those behind it as they were before (0x5a). Tells `N P` of a refusal, as the vectors of document 02's request 10 do, and nothing else.
-   join left|right OUT A B C: both groupings of request 11, with ample outputs; tells `accepted N bytes` or `refused N P`. */
+   join left|right OUT A B C: both groupings of request 11, with ample outputs; tells `accepted N bytes` or `refused N P`.
+   join row NAME A B C: a row of the table of docs/GROUPINGS.md: how A, B (as first and as second operand) and C are judged by themselves, and both groupings. */
 #include "../../include/exporter.h"
 
 #include <inttypes.h>
@@ -59,8 +60,38 @@ static int group(int left)
     return join(&operands[1], &operands[2], &inner, EXPORTER_TREE_FILE) && join(&operands[0], &inner, &outer, EXPORTER_TREE_FILE);
 }
 
+/* ---- a row */
+static const File push = {{0x01, 0x00, 0x60, 0x00}, 4}, only_return = {{0x01, 0x00, 0x08, 0x00}, 4};
+
+static void cell(int accepted, int grouped)
+{
+    if (!accepted)
+        printf(" %" PRIu64 " at %" PRIu64 " |", result[0], result[1]);
+    else if (grouped)
+        printf(" %" PRIu64 " bytes |", result[1]);
+    else
+        printf(" |");
+}
+
+static int row(char **words)
+{
+    for (int i = 0; i < 3; i++)
+        load(words[i + 1], &operands[i]);
+    printf("| `%s` |", words[0]);
+    cell(join(&operands[0], &only_return, &outer, EXPORTER_TREE_FILE), 0);
+    cell(join(&operands[1], &only_return, &outer, EXPORTER_TREE_FILE), 0);
+    cell(join(&push, &operands[1], &outer, EXPORTER_TREE_FILE), 0);
+    cell(join(&push, &operands[2], &outer, EXPORTER_TREE_FILE), 0);
+    cell(group(1), 1);
+    cell(group(0), 1);
+    printf("\n");
+    return 0;
+}
+
 int main(int argc, char **argv)
 {
+    if (argc == 6 && strcmp(argv[1], "row") == 0)
+        return row(argv + 2);
     if (argc < 5 || argc > 6)
         give_up("usage: join ROOM OUT A B, or join left|right OUT A B C");
     for (int i = 3; i < argc; i++)

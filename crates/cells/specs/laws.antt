@@ -1,2 +1,3 @@
 -- The laws of the crate cells.
 pub mod Laws
+pub mod Lists

@@ -18,15 +18,35 @@ fn byte_at(s: &[u8], i: usize) -> u32
     if i < s.len() { s[i] as u32 } else { 0 }
 }
 
+// The two bytes at i, both there.
+fn pair_at(s: &[u8], i: usize) -> u32
+    requires { ⌜ i + 1 < length (now s) ⌝ }
+    ensures { λ r. ⌜ (r ≡ getD (now (s .entry)) i 0 * 256 + getD (now (s .entry)) (i + 1) 0) × (getD (now (s .entry)) (i + 1) 0 < 256) × (r < 65536) ⌝ }
+{
+    s[i] as u32 * 256 + s[i + 1] as u32
+}
+
 // The two bytes at i, one test where both are there.
 fn two_at(s: &[u8], i: usize) -> u32
-    requires { ⌜ i ≤ 262144 ⌝ }
+    requires { ⌜ i ≤ 262146 ⌝ }
     ensures { λ r. ⌜ (r ≡ getD (now (s .entry)) i 0 * 256 + getD (now (s .entry)) (i + 1) 0) × (getD (now (s .entry)) (i + 1) 0 < 256) × (r < 65536) ⌝ }
 {
     if i + 1 < s.len() {
-        s[i] as u32 * 256 + s[i + 1] as u32
+        pair_at(s, i)
     } else {
         byte_at(s, i) * 256
+    }
+}
+
+// The four bytes at i, one test where all are there.
+fn four_at(s: &[u8], i: usize) -> u32
+    requires { ⌜ i ≤ 262144 ⌝ }
+    ensures { λ r. ⌜ r ≡ fieldAt (now (s .entry)) (8 * i) 32 ⌝ }
+{
+    if i + 3 < s.len() {
+        pair_at(s, i) * 0x10000 + pair_at(s, i + 2)
+    } else {
+        two_at(s, i) * 0x10000 + two_at(s, i + 2)
     }
 }
 
@@ -37,6 +57,14 @@ pub fn bits_at(s: &[u8], at: BitPlace, width: usize) -> u32
 {
     let two = two_at(s, at.byte());
     (two >> (16 - at.bit() - width)) % (1u32 << width)
+}
+
+// The number that the 21 bits at a place are, a code and two operand bytes; bits past the end are 0.
+pub fn line_at(s: &[u8], at: BitPlace) -> u32
+    requires { ⌜ (length (now s) ≤ 262144) × (at .0 ≤ 8 * length (now s)) ⌝ }
+    ensures { λ r. ⌜ (r ≡ fieldAt (now (s .entry)) (at .0) 21) × (r < 0x200000) ⌝ }
+{
+    (four_at(s, at.byte()) >> (11 - at.bit())) % 0x200000
 }
 
 // The number that 16 bits are.

@@ -8,6 +8,8 @@ use Rattle.files.specs.Valid.{Valid}
 use Rattle.files.specs.Reading.{got}
 use Rattle.files.specs.Tree.{Template, treeRead}
 use Rattle.files.specs.Table.{treeTable}
+use Rattle.files.specs.Grammar.{lowest, closedTemplate}
+use Rattle.tree.specs.Summary.{numberOr64}
 use Rattle.readback.specs.Bits.{Stands}
 use Rattle.tree_file.specs.File.{listBits, fileBits, levels}
 use Rattle.join.specs.declared.First.{First}
@@ -31,6 +33,10 @@ pub record Operand (s table : List ℕ) (count : ℕ) : Type 0 where
   pub read : treeRead s ≡ got templates past
   pub filled : table ≡ treeTable templates
   pub count-is : count ≡ length templates
+
+-- the lowest template whose list is not closed, 64 if all are
+abbrev pub Unclosed : List ℕ → List ℕ → ℕ → ℕ → Type 0
+Unclosed s table count n = (w : Operand s table count) → numberOr64 (lowest closedTemplate 0 (w .templates)) ≡ n
 
 -- a prologue that was judged
 pub record PrologueAt (a table : List ℕ) : Type 0 where

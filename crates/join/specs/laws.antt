@@ -6,3 +6,5 @@ pub mod JudgedLaws
 pub mod PutLaws
 pub mod FileLaws
 pub mod WholeLaws
+pub mod JoinedLaws
+pub mod GroupingsLaws

@@ -16,7 +16,7 @@ ghost use Rattle.tree_file.specs.File.{levels};
 ghost use Rattle.rewrite.specs.Tokens.{indexIn, tokensBits, renewed, TokensAt};
 ghost use Rattle.files.specs.Outcome.{answered, written};
 ghost use Rattle.join.specs.Join.{isPrologue, prologueChecked, secondChecked, joinedFile};
-ghost use Rattle.join.specs.Operands.{CodeAt, Operand, PrologueAt, ToJoin, firstOf, jointOf, turnOf, fileEnd};
+ghost use Rattle.join.specs.Operands.{CodeAt, Operand, Unclosed, PrologueAt, ToJoin, firstOf, jointOf, turnOf, fileEnd};
 ghost use Rattle.join.specs.Copied.{entriesOf, entriesCopied, listsCopied};
 
 // The first template of a file: E, the first bit of its list and the place past it.
@@ -55,6 +55,17 @@ fn is_prologue(s: &[u8], table: &[u64], count: u8) -> bool
     }
 }
 
+// The same where `unclosed` is the lowest template whose list is not closed: no list is read again where all are closed.
+fn is_open(s: &[u8], table: &[u64], count: u8, unclosed: u8) -> bool
+    requires { ⌜ (length (now s) ≤ 65536) × (length (now table) ≡ 16384) × Unclosed (now s) (now table) count unclosed ⌝ }
+    ensures { λ r. ⌜ ((w : Operand (now (s .entry)) (now (table .entry)) count) → r ≡ isPrologue (w .templates)) ⌝ }
+{
+    if 64 <= unclosed {
+        return false;
+    }
+    is_prologue(s, table, count)
+}
+
 // Reads and judges the first operand, 1 to 7, and fills a table.
 fn read_prologue(s: &[u8], table: &mut [u64]) -> Judged
     requires { ⌜ now table ≡ replicate 16384 0 ⌝ }
@@ -83,7 +94,7 @@ fn read_second(s: &[u8], table: &mut [u64]) -> Judged
 {
     match tree::read_tree(s, table) {
         TreeFile::Read(sum) => {
-            if is_prologue(s, table, sum.count) {
+            if is_open(s, table, sum.count, sum.unclosed) {
                 if sum.misnamed < 64 {
                     return Judged::Refused(7, sum.misnamed as usize);
                 }
@@ -128,6 +139,19 @@ fn file_end(s: &[u8], table: &[u64], count: u8) -> BitPlace
     let list = emit::measure(s, table, own, BitPlace::from_slot(table[slot]), 15);
     let next = list.next;
     next
+}
+
+// The same where the first template is known: no list is read again where it is the only one.
+fn last_end(s: &[u8], table: &[u64], count: u8, first: First) -> BitPlace
+    requires { ⌜ (length (now table) ≡ 16384) × Operand (now s) (now table) count ⌝ }
+    requires { ⌜ ((w : Operand (now s) (now table) count) → first ≡ firstOf (w .templates)) ⌝ }
+    ensures { λ r. ⌜ ((w : Operand (now (s .entry)) (now (table .entry)) count) → r .0 ≡ fileEnd (w .templates)) ⌝ }
+{
+    if count == 1 {
+        let past = first.past;
+        return past;
+    }
+    file_end(s, table, count)
 }
 
 // What the instruction at a place says of the joint, with `levels` levels left below its list.
@@ -185,6 +209,17 @@ fn levels_fit(s: &[u8], table: &[u64], at: BitPlace, most: usize) -> bool
         Listed::Done(_, _) => true,
         Listed::Refused(_, _) => false,
     }
+}
+
+// The same: a list that was read has at most 15, and is not read again to know that.
+fn levels_left(s: &[u8], table: &[u64], at: BitPlace, most: usize) -> bool
+    requires { ⌜ (length (now s) ≤ 65536) × (length (now table) ≡ 16384) × (most ≤ 15) ⌝ }
+    ensures { λ r. ⌜ ((w : CodeAt (now (s .entry)) 15 (at .0)) → r ≡ leb (levels (w .code)) most) ⌝ }
+{
+    if most == 15 {
+        return true;
+    }
+    levels_fit(s, table, at, most)
 }
 
 // ---- the joined file
@@ -306,9 +341,9 @@ fn join_both(
     let joint = find_joint(a, first, start);
     let place = joint.place;
     let code = y.start;
-    if levels_fit(b, second, code, 15 - joint.depth) {
+    if levels_left(b, second, code, 15 - joint.depth) {
         let past = x.past;
-        let end = file_end(b, second, count);
+        let end = last_end(b, second, count, y);
         let size = (past.since(BitPlace(16)) + end.since(BitPlace(5)) + 7) / 8;
         if 65536 < size {
             return Outcome::Refused(1, 0);

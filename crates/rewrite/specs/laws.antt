@@ -1,3 +1,4 @@
 -- The laws of the crate rewrite.
 pub mod TokensLaws
+pub mod ReindexLaws
 pub mod Steps

@@ -1,12 +1,13 @@
 -- What stands at a place of a tree file, found by the file's bits, a run's links and its table.
 use Prim.Native.Nat.{ℕ, zero, suc}
 use mathlib.Core.Bool.{Bool, false, cond}
-use mathlib.Core.List.{List}
+use mathlib.Core.List.{List, map}
 use lib.Dec.{eqb}
+use lib.ListN.{getD}
 use Rattle.fields.specs.declared.Field.{Field}
 use Rattle.fields.specs.declared.Field.the-variants.{Read, Cut}
 use Rattle.fields.specs.Field.{fieldRead}
-use Rattle.files.specs.Codes.{shapeOf}
+use Rattle.files.specs.Codes.{codes, shapeOf}
 use Rattle.links.specs.Links.{linkAt}
 use Rattle.machines.specs.Fetched.{Fetched, returns, calls, branches, saves, bad, plainly}
 use Rattle.machines.specs.Machine.{Program}
@@ -24,6 +25,18 @@ settled s L zero p = p
 settled s L (suc n) p = cond (isEnd (fieldRead s p 5)) (settled s L n (linkAt L p)) p
 
 -- ---- an instruction
+-- how many operand bytes a code has
+unfoldable pub treeBytes : ℕ → ℕ
+treeBytes v = getD (map (λ r. r .tree) codes) v 0
+
+-- code v with the operand n, or none, of the codes that are not neutral: q is the place past it, and l the link of its place
+unfoldable pub transferAs : ℕ → ℕ → ℕ → ℕ → Fetched
+transferAs l v n q =
+    cond (eqb v 1) returns
+    (cond (eqb v 2) (calls n)
+    (cond (eqb v 3) (branches 0 q l)
+    (cond (eqb v 4) (saves n q l) bad)))
+
 -- on with a field's value and the place past it
 unfoldable pub withRead : (ℕ → ℕ → Fetched) → Field → Fetched
 withRead k (Read v q) = k v (q .0)

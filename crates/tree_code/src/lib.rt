@@ -1,94 +1,70 @@
 // What stands at a place of a tree file (document 01, 'Rules').
 use cells::BitPlace;
-use fields::Field;
 use machines::CodePlace;
 use machines::Instruction;
 ghost use mathlib.Core.Path.{_≡_};
-ghost use mathlib.Core.Bool.{false};
 ghost use mathlib.Core.List.{List};
-ghost use Prim.Native.Nat.{ℕ, _≤_, _<_};
+ghost use Prim.Native.Nat.{ℕ, _+_, _*_, _^_, _≤_, _<_};
 ghost use lib.ListN.{length};
-ghost use Rattle.files.specs.Codes.{shapeOf};
+ghost use Rattle.fields.specs.Field.{fieldAt};
 ghost use Rattle.machines.specs.Instruction.{treeForm, fetchedAs, Places};
 ghost use Rattle.machines.specs.Slots.{slotAt};
-ghost use Rattle.tree_code.specs.Fetch.{shapedAs, fetchedAt};
+ghost use Rattle.links.specs.Links.{linkAt};
+ghost use Rattle.tree_code.specs.Fetch.{treeBytes, transferAs, instructionAt, fetchedAt};
 
-// A code that ends at a place and has one operand.
-fn fetch_one(file: &[u8], code: u32, at: BitPlace) -> Instruction
-    requires { ⌜ (length (now file) ≤ 65536) × (code < 32) ⌝ }
-    ensures { λ r. ⌜ ((L table : List ℕ) (t p : ℕ) → fetchedAs (slotAt table t) r ≡ shapedAs (now (file .entry)) L table t p code (at .0) 2)
-        × Places treeForm r ⌝ }
+// How many operand bytes each code has in a tree (document 01, 'Codes'), two bits for a code, code 0 lowest. One word, since the compiler makes a table
+// anew at each use.
+const OPERAND_COUNTS: u64 = 0x104a55110;
+
+fn operand_count(code: u32) -> usize
+    requires { ⌜ code < 32 ⌝ }
+    ensures { λ r. ⌜ (r ≡ treeBytes code) × (r < 4) ⌝ }
 {
-    let Field::Read(n, next) = fields::read_field(file, at, 8) else {
-        return Instruction::Bad;
-    };
-    if code == 2 {
-        Instruction::Call(n as u8)
-    } else {
-        Instruction::Neutral(code as u8, n as u8, 0, CodePlace::Tree(next))
-    }
+    (OPERAND_COUNTS >> (2 * code)) as usize % 4
 }
 
-// The same of two operands.
-fn fetch_two(file: &[u8], code: u32, at: BitPlace) -> Instruction
-    requires { ⌜ (length (now file) ≤ 65536) × (code < 32) ⌝ }
-    ensures { λ r. ⌜ ((L table : List ℕ) (t p : ℕ) → fetchedAs (slotAt table t) r ≡ shapedAs (now (file .entry)) L table t p code (at .0) 3)
-        × Places treeForm r ⌝ }
+// An instruction whose code is none of the neutral ones and has the operand n, or none; `next` is the place past it.
+fn fetch_transfer(links: &[u32], at: BitPlace, code: u32, n: u8, next: BitPlace) -> Instruction
+    requires { ⌜ next .0 < 2 ^ 24 ⌝ }
+    ensures { λ r. ⌜ ((slot : ℕ → ℕ) → fetchedAs slot r ≡ transferAs (linkAt (now (links .entry)) (at .0)) code n (next .0)) × Places treeForm r ⌝ }
 {
-    let Field::Read(a, second) = fields::read_field(file, at, 8) else {
-        return Instruction::Bad;
-    };
-    let Field::Read(b, next) = fields::read_field(file, second, 8) else {
-        return Instruction::Bad;
-    };
-    Instruction::Neutral(code as u8, a as u8, b as u8, CodePlace::Tree(next))
-}
-
-// A make-cont, whose code stands at a place and ends at `after`.
-fn fetch_save(file: &[u8], links: &[u32], at: BitPlace, after: BitPlace) -> Instruction
-    requires { ⌜ length (now file) ≤ 65536 ⌝ }
-    ensures { λ r. ⌜ ((table : List ℕ) (t v : ℕ)
-        → fetchedAs (slotAt table t) r ≡ shapedAs (now (file .entry)) (now (links .entry)) table t (at .0) v (after .0) 5) × Places treeForm r ⌝ }
-{
-    let Field::Read(n, saved) = fields::read_field(file, after, 8) else {
-        return Instruction::Bad;
-    };
-    Instruction::Save(
-        n as u8,
-        CodePlace::Tree(saved),
-        CodePlace::Tree(links::link_at(links, at)),
-    )
-}
-
-// The instruction at a place, whose code ends at `next`.
-fn fetch_instruction(
-    file: &[u8],
-    links: &[u32],
-    at: BitPlace,
-    code: u32,
-    next: BitPlace,
-) -> Instruction
-    requires { ⌜ (length (now file) ≤ 65536) × (code < 32) ⌝ }
-    ensures { λ r. ⌜ ((table : List ℕ) (t : ℕ)
-        → fetchedAs (slotAt table t) r ≡ shapedAs (now (file .entry)) (now (links .entry)) table t (at .0) code (next .0) (shapeOf code)) × Places treeForm r ⌝ }
-{
-    match lists::shape_of(code) {
-        1 => {
-            if code == 1 {
-                Instruction::Return
-            } else {
-                Instruction::Neutral(code as u8, 0, 0, CodePlace::Tree(next))
-            }
-        }
-        2 => fetch_one(file, code, next),
-        3 => fetch_two(file, code, next),
-        4 => {
+    match code {
+        1 => Instruction::Return,
+        2 => Instruction::Call(n),
+        3 => {
             let second = links::link_at(links, at);
             Instruction::Branch(CodePlace::Tree(next), CodePlace::Tree(second))
         }
-        5 => fetch_save(file, links, at, next),
+        4 => {
+            let rest = links::link_at(links, at);
+            Instruction::Save(n, CodePlace::Tree(next), CodePlace::Tree(rest))
+        }
         _ => Instruction::Bad,
     }
+}
+
+// The instruction at a place, of which `line` has the code and what may be operands.
+fn fetch_line(file: &[u8], links: &[u32], at: BitPlace, line: u32) -> Instruction
+    requires { ⌜ (length (now file) ≤ 65536) × (at .0 + 5 ≤ 8 * length (now file)) × (line ≡ fieldAt (now file) (at .0) 21) × (line < 0x200000) ⌝ }
+    ensures { λ r. ⌜ ((table : List ℕ) (t : ℕ) → fetchedAs (slotAt table t) r ≡ instructionAt (now (file .entry)) (now (links .entry)) table t (at .0))
+        × Places treeForm r ⌝ }
+{
+    let code = line / 0x10000;
+    let bits = 5 + 8 * operand_count(code);
+    if at.within(bits, file.len()) {
+        let next = at.past(bits);
+        let first = (line / 0x100 % 0x100) as u8;
+        if code < 6 {
+            return fetch_transfer(links, at, code, first, next);
+        }
+        return Instruction::Neutral(
+            code as u8,
+            first,
+            (line % 0x100) as u8,
+            CodePlace::Tree(next),
+        );
+    }
+    Instruction::Bad
 }
 
 // What stands at a place, in any template: its entries are not looked at. At a list's end execution goes on where the link leads; no list is
@@ -103,12 +79,10 @@ pub fn fetch(file: &[u8], links: &[u32], at: BitPlace) -> Instruction
     }
     let mut here = at;
     let mut left: usize = 17;
-    loop {
-        let Field::Read(code, next) = fields::read_field(file, here, 5) else {
-            return Instruction::Bad;
-        };
-        if code != 0 {
-            return fetch_instruction(file, links, here, code, next);
+    while here.within(5, file.len()) {
+        let line = fields::line_at(file, here);
+        if 0x10000 <= line {
+            return fetch_line(file, links, here, line);
         }
         if left == 0 {
             return Instruction::Bad;
@@ -116,4 +90,5 @@ pub fn fetch(file: &[u8], links: &[u32], at: BitPlace) -> Instruction
         here = links::link_at(links, here);
         left = left - 1;
     }
+    Instruction::Bad
 }

@@ -11,6 +11,7 @@ use lib.ListN.{length, set, getD, length-append}
 use lib.Seq.{sets}
 use lib.Dec.{eqb}
 use Rattle.cells.specs.laws.Laws.{clash}
+use Rattle.cells.specs.laws.Lists.{sets-append}
 use Rattle.fields.specs.Field.{fieldAt}
 use Rattle.files.specs.Codes.{shapeOf}
 use Rattle.files.specs.Code.{Code, Instr, neutral-i, return-i, call-i, unless-i, cont-i, put, simple}
@@ -20,10 +21,6 @@ use Rattle.files.specs.laws.RowFilled.{set-sets}
 use Rattle.emit.specs.Written.{gap, jumpBytes, armsBytes, savedBytes, frontBytes, backBytes, operandsAt}
 
 -- ---- runs of stores
-pub sets-append : (xs ys o : List ℕ) (i : ℕ) → sets o i (xs ++ ys) ≡ sets (sets o i xs) (i + length xs) ys
-sets-append [] ys o i = rw add-zero refl
-sets-append (x ∷ xs) ys o i = sets-append xs ys (set o i x) (suc i) ∙ rw (suc-add, add-suc) refl
-
 -- in two parts that do not meet
 pub sets-comm : (xs ys o : List ℕ) (i j : ℕ) → i + length xs ≤ j → sets (sets o i xs) j ys ≡ sets (sets o j ys) i xs
 sets-comm [] ys o i j h = refl

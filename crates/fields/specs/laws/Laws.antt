@@ -1,6 +1,6 @@
 -- What the proofs use of `fieldRead`. Assumes nothing.
 use Prim.Native.Nat.{ℕ, zero, suc, _+_, _*_, _-_, _/_, _%_, _^_, _≤_, _<_}
-use native.Mathlib.Nat.{mul-assoc, add-zero, add-suc, add-assoc, pow-suc, one-mul, div-div-eq-div-mul, mod-one, mod-eq-of-lt}
+use native.Mathlib.Nat.{mul-assoc, add-mul, add-zero, add-suc, add-assoc, pow-suc, one-mul, div-div-eq-div-mul, mod-one, mod-eq-of-lt}
 use native.Mathlib.Numerals.{add-one}
 use native.Mathlib.Omega.{arith}
 use mathlib.Core.Path.{_≡_, refl, sym, ap, _∙_}
@@ -10,6 +10,7 @@ use borrow.Author.Tests.{le-leb, lt-leb, leb-true, leb-false}
 use lib.ListN.{length, getD}
 use lib.Dec.{leb}
 use lib.Pow.{pow-add, pow-lt, pow-mono, mod-pow-add}
+use lib.Pow.{high as high-part, low as low-part}
 use Rattle.cells.specs.laws.Laws.{clash}
 use Rattle.cells.specs.declared.BitPlace.{BitPlace}
 use Rattle.fields.specs.declared.Field.{Field}
@@ -134,3 +135,48 @@ pub shifted : (s : List ℕ) (p w a b : ℕ) → a ≡ getD s (p / 8) 0 → b �
 shifted s p w a b ea eb small h =
     let l : 2 ^ w ≤ 2 ^ 8 = pow-mono h in
     rw (ea, eb, shl-one 32 w (omega arith), window s p (rw eb at small) w h) (refl, omega (arith, field-small s p w))
+
+-- ---- four bytes
+module _ (s : List ℕ) (bytes : (k : ℕ) → getD s k 0 < 256) where
+  byte-field : (i : ℕ) → getD s i 0 ≡ fieldAt s (8 * i) 8
+  byte-field i =
+      let e : 8 * i / 8 ≡ i = omega arith in
+      let m : 8 * i % 8 ≡ 0 = omega arith in
+      let k : (getD s i 0 * 256 + getD s (i + 1) 0) / 256 % 256 ≡ getD s i 0 = omega (arith, bytes i, bytes (i + 1)) in
+      sym k ∙ (rw (e, m) at (window s (8 * i) (bytes (8 * i / 8 + 1)) 8 (omega arith)))
+
+  two-field : (i : ℕ) → getD s i 0 * 256 + getD s (i + 1) 0 ≡ fieldAt s (8 * i) 16
+  two-field i = let e : 8 * i + 8 ≡ 8 * (i + 1) = omega arith in joined s (8 * i) 8 8 _ _ (byte-field i) (rw e (byte-field (i + 1)))
+
+  pub four-field : (i a b : ℕ) → a ≡ getD s i 0 * 256 + getD s (i + 1) 0 → b ≡ getD s (i + 2) 0 * 256 + getD s (i + 3) 0
+      → a * 65536 + b ≡ fieldAt s (8 * i) 32
+  four-field i a b h k =
+      let e : 8 * i + 16 ≡ 8 * (i + 2) = omega arith in
+      let n : i + 2 + 1 ≡ i + 3 = omega arith in
+      joined s (8 * i) 16 16 a b (h ∙ two-field i) (k ∙ rw e (rw n at (two-field (i + 2))))
+
+-- a field of 21 bits lies in the four bytes of its first bit's byte and those after it
+line-of : (s : List ℕ) (p : ℕ) → fieldAt s (8 * (p / 8)) 32 / 2 ^ (11 - p % 8) % 2 ^ 21 ≡ fieldAt s p 21
+line-of s p =
+    let k = 11 - p % 8 in
+    let all : 32 ≡ p % 8 + (21 + k) = omega arith in
+    let at : 8 * (p / 8) + p % 8 ≡ p = omega arith in
+    let first : fieldAt s (8 * (p / 8)) 32 ≡ fieldAt s (8 * (p / 8)) (p % 8) * 2 ^ (21 + k) + fieldAt s p (21 + k) =
+    ap (fieldAt s (8 * (p / 8))) all ∙ field-split s (8 * (p / 8)) (p % 8) (21 + k)
+    ∙ ap (λ (q : ℕ). fieldAt s (8 * (p / 8)) (p % 8) * 2 ^ (21 + k) + fieldAt s q (21 + k)) at
+    in
+    cut-out (fieldAt s (8 * (p / 8)) (p % 8)) k _ (field-small s p 21) (field-small s (p + 21) k)
+    (first ∙ ap (λ (x : ℕ). fieldAt s (8 * (p / 8)) (p % 8) * 2 ^ (21 + k) + x) (field-split s p 21 k))
+  where
+    cut-out : (a k n : ℕ) {f g : ℕ} → f < 2 ^ 21 → g < 2 ^ k → n ≡ a * 2 ^ (21 + k) + (f * 2 ^ k + g) → n / 2 ^ k % 2 ^ 21 ≡ f
+    cut-out a k n {f} {g} small less e =
+        let d : a * 2 ^ (21 + k) + (f * 2 ^ k + g) ≡ (a * 2 ^ 21 + f) * 2 ^ k + g =
+        let h = a * 2 ^ 21 * 2 ^ k in
+        rw (pow-add 2 21 k, ← mul-assoc a (2 ^ 21) (2 ^ k)) (sym (add-assoc h (f * 2 ^ k) g) ∙ ap (λ (x : ℕ). x + g) (sym (add-mul (a * 2 ^ 21) f (2 ^ k))))
+        in
+        rw (e ∙ d, high-part (a * 2 ^ 21 + f) k less) (low-part a 21 small)
+
+-- the four bytes x of byte b, shifted by bit r
+pub line-at : (s : List ℕ) (p x b r : ℕ) → x ≡ fieldAt s (8 * b) 32 → b ≡ p / 8 → r ≡ p % 8
+    → (x / 2 ^ (11 - r) % 2 ^ 21 ≡ fieldAt s p 21) × (x / 2 ^ (11 - r) % 2 ^ 21 < 2 ^ 21)
+line-at s p x b r h k m = rw (h, k, m, line-of s p) (refl, field-small s p 21)

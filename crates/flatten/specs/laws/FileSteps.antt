@@ -28,7 +28,7 @@ use Rattle.tree.specs.Filled.{treeFilled}
 use Rattle.tree.specs.laws.FilledLaws.{tree-table}
 use Rattle.tree.specs.laws.Parts.{TemplatesParts, templates-parts, templates-count, FileParts, tree-parts}
 use Rattle.tree.specs.laws.Judged.{ReadAs, judged-told, number-some, number-none}
-use Rattle.emit.specs.laws.Stores.{sets-append}
+use Rattle.cells.specs.laws.Lists.{sets-append}
 use Rattle.flatten.specs.declared.Past.{Past}
 use Rattle.files.specs.declared.Outcome.{Outcome}
 use Rattle.files.specs.declared.Outcome.the-variants.{Written, Refused}

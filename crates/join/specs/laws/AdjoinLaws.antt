@@ -1,13 +1,13 @@
--- The laws of open-adjoin: flat code, offsets, levels, associativity, open and closed, and the bits of what is joined. Assumes nothing.
+-- The laws of open-adjoin: associativity, flat code, offsets, levels, open and closed, renumbering, and the bits of what is joined. Assumes nothing.
 use Prim.Native.Nat.{ℕ, suc, _+_, _*_, _≤_, max}
 use native.Mathlib.Omega.{arith}
 use mathlib.Core.Path.{_≡_, refl, sym, ap, _∙_}
 use mathlib.Core.Bool.{Bool, true, false, _&&_, _||_, and-eq-true-iff}
 use mathlib.Core.List.{List, [], _∷_, _++_, append-assoc, append-nil}
-use lib.ListN.{length, length-append}
+use lib.ListN.{length, getD, length-append}
 use Rattle.cells.specs.laws.Laws.{clash}
 use Rattle.files.specs.Code.{Code, done, neutral, return, call, unless-false, make-cont, bits}
-use Rattle.files.specs.Grammar.{isEmpty, isOpen, isClosed}
+use Rattle.files.specs.Grammar.{isEmpty, isOpen, isClosed, eachNeutral}
 use Rattle.files.specs.Flat.{offset, conditional, flat, fitsOffset, armsFit, offsetsFit}
 use Rattle.files.specs.Valid.{Valid}
 use Rattle.files.specs.Linear.{bitsOf}
@@ -19,6 +19,16 @@ use Rattle.rewrite.specs.Reindex.{reindex}
 use Rattle.rewrite.specs.Tokens.{bodyBits}
 use Rattle.rewrite.specs.laws.TokensLaws.{body-end}
 use Rattle.join.specs.Adjoin.{openAdjoin, jointBits, jointDepth, frontBits, backBits}
+
+-- ---- associativity (document 000, lemma 1, 3)
+pub adjoin-assoc : (y z w : Code) → openAdjoin (openAdjoin y z) w ≡ openAdjoin y (openAdjoin z w)
+unfolding openAdjoin
+adjoin-assoc done z w = refl
+adjoin-assoc (neutral op ns y) z w = ap (neutral op ns) (adjoin-assoc y z w)
+adjoin-assoc (return y) z w = ap return (adjoin-assoc y z w)
+adjoin-assoc (call n y) z w = ap (call n) (adjoin-assoc y z w)
+adjoin-assoc (unless-false y₁ y₂ y) z w = ap (unless-false y₁ y₂) (adjoin-assoc y z w)
+adjoin-assoc (make-cont n y b) z w = ap (λ (x : Code). make-cont n x b) (adjoin-assoc y z w)
 
 -- THE LAW of flat code: the prologue's, and then the file's
 conditional-on : (b : Bool) (x y r w : List ℕ) → conditional b x y (r ++ w) ≡ conditional b x y r ++ w
@@ -85,54 +95,84 @@ depth-levels (call n y) = depth-levels y
 depth-levels (unless-false y₁ y₂ y) = omega (arith, depth-levels y)
 depth-levels (make-cont n y b) = omega (arith, depth-levels y)
 
--- ---- associativity (document 000, lemma 1, 3)
-pub adjoin-assoc : (y z w : Code) → openAdjoin (openAdjoin y z) w ≡ openAdjoin y (openAdjoin z w)
-unfolding openAdjoin
-adjoin-assoc done z w = refl
-adjoin-assoc (neutral op ns y) z w = rw (adjoin-assoc y z w)
-adjoin-assoc (return y) z w = rw (adjoin-assoc y z w)
-adjoin-assoc (call n y) z w = rw (adjoin-assoc y z w)
-adjoin-assoc (unless-false y₁ y₂ y) z w = rw (adjoin-assoc y z w)
-adjoin-assoc (make-cont n y b) z w = rw (adjoin-assoc y z w)
+-- ---- open and closed (lemma 1, 2): what is joined is as w is
+and-true : (a : Bool) → (a && true) ≡ a
+and-true true = refl
+and-true false = refl
 
--- ---- open and closed (lemma 1, 2), of lists that are open or empty
-either : (a : Bool) → (a || true) ≡ true
-either true = refl
-either false = refl
+or-false : (a : Bool) → (a || false) ≡ a
+or-false true = refl
+or-false false = refl
 
-pub open-either : (y : Code) → isOpen y ≡ true → (isEmpty y || isOpen y) ≡ true
-unfolding isEmpty
-open-either y h = rw h (either (isEmpty y))
+pub adjoin-some : (y w : Code) → isEmpty w ≡ false → isEmpty (openAdjoin y w) ≡ false
+unfolding openAdjoin isEmpty
+adjoin-some done w k = k
+adjoin-some (neutral op ns y) w k = refl
+adjoin-some (return y) w k = refl
+adjoin-some (call n y) w k = refl
+adjoin-some (unless-false y₁ y₂ y) w k = refl
+adjoin-some (make-cont n y b) w k = refl
 
--- an instruction before it: what is left is open or empty where the whole is
-pub adjoin-closed : (y w : Code) → (isEmpty y || isOpen y) ≡ true → isClosed w ≡ true → isClosed (openAdjoin y w) ≡ true
+-- y is open or empty, w is not empty
+pub adjoin-open : (y w : Code) → (isEmpty y || isOpen y) ≡ true → isEmpty w ≡ false → isOpen (openAdjoin y w) ≡ isOpen w
 unfolding openAdjoin isEmpty isOpen isClosed
-adjoin-closed done w h k = k
+adjoin-open done w h k = refl
+adjoin-open (neutral op ns y) w h k = rw (adjoin-some y w k, adjoin-open y w h k) refl
+adjoin-open (return y) w h k = clash (cc)
+adjoin-open (call n y) w h k = clash (cc)
+adjoin-open (unless-false y₁ y₂ y) w h k =
+    let a = and-eq-true-iff (isOpen y₁ && isOpen y₂) (isEmpty y || isOpen y) .0 h in
+    rw (a .0, adjoin-some y w k, adjoin-open y w (a .1) k) refl
+adjoin-open (make-cont n y b) w h k =
+    let a = and-eq-true-iff (isEmpty y || isOpen y) (isClosed b) .0 h in
+    rw (adjoin-some y w k, adjoin-open y w (a .0) k, a .1) (and-true (isOpen w))
+
+pub adjoin-closed : (y w : Code) → (isEmpty y || isOpen y) ≡ true → isEmpty w ≡ false → isClosed (openAdjoin y w) ≡ isClosed w
+unfolding openAdjoin isEmpty isOpen isClosed
+adjoin-closed done w h k = refl
 adjoin-closed (neutral op ns y) w h k = adjoin-closed y w h k
 adjoin-closed (return y) w h k = clash (cc)
 adjoin-closed (call n y) w h k = clash (cc)
 adjoin-closed (unless-false y₁ y₂ y) w h k =
     let a = and-eq-true-iff (isOpen y₁ && isOpen y₂) (isEmpty y || isOpen y) .0 h in
-    let b = and-eq-true-iff (isOpen y₁) (isOpen y₂) .0 (a .0) in
-    rw (b .0, b .1, adjoin-closed y w (a .1) k) refl
+    rw (a .0, adjoin-some y w k, adjoin-closed y w (a .1) k) (or-false (isClosed w))
 adjoin-closed (make-cont n y b) w h k =
     let a = and-eq-true-iff (isEmpty y || isOpen y) (isClosed b) .0 h in
-    rw (adjoin-closed y w (a .0) k, a .1) refl
+    rw (adjoin-closed y w (a .0) k, a .1) (and-true (isClosed w))
 
--- and where w is open
-pub adjoin-open : (y w : Code) → (isEmpty y || isOpen y) ≡ true → isOpen w ≡ true → isOpen (openAdjoin y w) ≡ true
-unfolding openAdjoin isEmpty isOpen isClosed
-adjoin-open done w h k = k
-adjoin-open (neutral op ns y) w h k = rw (adjoin-open y w h k) (either (isEmpty (openAdjoin y w)))
-adjoin-open (return y) w h k = clash (cc)
-adjoin-open (call n y) w h k = clash (cc)
-adjoin-open (unless-false y₁ y₂ y) w h k =
-    let a = and-eq-true-iff (isOpen y₁ && isOpen y₂) (isEmpty y || isOpen y) .0 h in
-    let b = and-eq-true-iff (isOpen y₁) (isOpen y₂) .0 (a .0) in
-    rw (b .0, b .1, adjoin-open y w (a .1) k) (either (isEmpty (openAdjoin y w)))
-adjoin-open (make-cont n y b) w h k =
-    let a = and-eq-true-iff (isEmpty y || isOpen y) (isClosed b) .0 h in
-    rw (adjoin-open y w (a .0) k, either (isEmpty (openAdjoin y w)), a .1) refl
+-- ---- renumbered, valid, indexed
+pub adjoin-reindex : (f : ℕ → ℕ) (y w : Code) → reindex f (openAdjoin y w) ≡ openAdjoin (reindex f y) (reindex f w)
+unfolding openAdjoin reindex
+adjoin-reindex f done w = refl
+adjoin-reindex f (neutral op ns y) w = rw (adjoin-reindex f y w)
+adjoin-reindex f (return y) w = rw (adjoin-reindex f y w)
+adjoin-reindex f (call n y) w = rw (adjoin-reindex f y w)
+adjoin-reindex f (unless-false y₁ y₂ y) w = rw (adjoin-reindex f y w)
+adjoin-reindex f (make-cont n y b) w = rw (adjoin-reindex f y w)
+
+pub adjoin-valid : (y w : Code) → Valid y → Valid w → Valid (openAdjoin y w)
+unfolding openAdjoin Valid
+adjoin-valid done w v u = u
+adjoin-valid (neutral op ns y) w v u = (v .0, v .1, v .2, adjoin-valid y w (v .3) u)
+adjoin-valid (return y) w v u = adjoin-valid y w v u
+adjoin-valid (call n y) w v u = (v .0, adjoin-valid y w (v .1) u)
+adjoin-valid (unless-false y₁ y₂ y) w v u = (v .0, v .1, adjoin-valid y w (v .2) u)
+adjoin-valid (make-cont n y b) w v u = (v .0, adjoin-valid y w (v .1) u, v .2)
+
+pub adjoin-each : (ok : ℕ → ℕ → Bool) (y w : Code) → eachNeutral ok y ≡ true → eachNeutral ok w ≡ true → eachNeutral ok (openAdjoin y w) ≡ true
+unfolding openAdjoin eachNeutral
+adjoin-each ok done w e g = g
+adjoin-each ok (neutral op ns y) w e g =
+    let a = and-eq-true-iff (ok op (getD ns 0 0)) (eachNeutral ok y) .0 e in
+    rw (a .0, adjoin-each ok y w (a .1) g) refl
+adjoin-each ok (return y) w e g = adjoin-each ok y w e g
+adjoin-each ok (call n y) w e g = adjoin-each ok y w e g
+adjoin-each ok (unless-false y₁ y₂ y) w e g =
+    let a = and-eq-true-iff (eachNeutral ok y₁ && eachNeutral ok y₂) (eachNeutral ok y) .0 e in
+    rw (a .0, adjoin-each ok y w (a .1) g) refl
+adjoin-each ok (make-cont n y b) w e g =
+    let a = and-eq-true-iff (eachNeutral ok y) (eachNeutral ok b) .0 e in
+    rw (adjoin-each ok y w (a .0) g, a .1) refl
 
 -- ---- bits
 pub front-back : (y : Code) → listBits y ≡ frontBits y ++ backBits y

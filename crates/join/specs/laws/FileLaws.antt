@@ -32,7 +32,8 @@ use Rattle.tree_file.specs.laws.Back.{neutral-shape}
 use Rattle.tree_file.specs.laws.Written.{file-length}
 use Rattle.rewrite.specs.Reindex.{reindexed, reindex}
 use Rattle.rewrite.specs.Tokens.{Token, indexIn, tokens, bodyBits, tokensBits, renewed, TokensAt}
-use Rattle.rewrite.specs.laws.TokensLaws.{body-end, bodyAt, body-all, renewed-body, one-operand}
+use Rattle.rewrite.specs.laws.TokensLaws.{body-end, bodyAt, body-all, renewed-body}
+use Rattle.rewrite.specs.laws.ReindexLaws.{same-bits, same-levels, same-reindex}
 use Rattle.join.specs.Adjoin.{openAdjoin, jointBits, jointDepth, frontBits, backBits}
 use Rattle.join.specs.laws.AdjoinLaws.{adjoin-bits, adjoin-levels, depth-levels, front-back, front-length, back-length}
 use Rattle.files.specs.Accepted.{orLowest}
@@ -53,83 +54,11 @@ use Rattle.join.specs.laws.JudgedLaws.{One, one}
 use Rattle.join.specs.laws.PutLaws.{Some, some, operand-count}
 use Rattle.tree_file.specs.laws.Back.{TreeWritable}
 
--- ---- the renumbered list
 module _ (f : ℕ → ℕ) where
-  pub same-levels : (c : Code) → levels (reindex f c) ≡ levels c
-  unfolding reindex levels
-  same-levels done = refl
-  same-levels (neutral op ns r) = same-levels r
-  same-levels (return r) = same-levels r
-  same-levels (call n r) = same-levels r
-  same-levels (unless-false x y r) = rw (same-levels x, same-levels y, same-levels r) refl
-  same-levels (make-cont n x r) = rw (same-levels x, same-levels r) refl
-
--- indices that suit are at most E
-index-few : (es : List Entry) (op n : ℕ) → op ≤ 9 → indexFits es op n ≡ true → n ≤ length es
-unfolding indexFits suits
-index-few es op n h e = go (leb n (length es)) refl
-  where
-    go : (b : Bool) → leb n (length es) ≡ b → n ≤ length es
-    go true k = leb-true n (length es) k
-    go false k =
-        let z : entryOf es n ≡ none = entry-above es n (leb-false n (length es) k) in
-        let q : false ≡ true = rw (le-leb op 9 h, z) at e in
-        clash (cc)
-
--- two ways to renumber that agree on them give the same list
-module _ (f g : ℕ → ℕ) (es : List Entry) (agree : (i : ℕ) → i ≤ length es → f i ≡ g i) where
-  all-one : (op : ℕ) (ns : List ℕ) → length ns ≤ 1 → op ≤ 9 → indexFits es op (getD ns 0 0) ≡ true → map f ns ≡ map g ns
-  all-one op [] l h e = refl
-  all-one op (n ∷ []) l h e = rw (agree n (index-few es op n h e)) refl
-  all-one op (n ∷ m ∷ ns) l h e = absurd (omega arith)
-
-  operands-alike : (op : ℕ) (ns : List ℕ) → isNeutral op ≡ true → operands op ≡ length ns → indexFits es op (getD ns 0 0) ≡ true
-      → reindexed f op ns ≡ reindexed g op ns
-  unfolding reindexed
-  operands-alike op ns n l e = go (leb op 9) refl
-    where
-      go : (b : Bool) → leb op 9 ≡ b → cond b (map f ns) ns ≡ cond b (map g ns) ns
-      go true k =
-          let h = leb-true op 9 k in
-          let z = neutral-shape op (length ns) n l in
-          all-one op ns (omega (arith, z .shape, one-operand f op (z .past-five) h)) h e
-      go false k = refl
-
-  pub same-reindex : (c : Code) → Valid c → indicesFit es c ≡ true → reindex f c ≡ reindex g c
-  unfolding reindex indicesFit eachNeutral Valid
-  same-reindex done v e = refl
-  same-reindex (neutral op ns r) v e =
-      let a = and-eq-true-iff (indexFits es op (getD ns 0 0)) (eachNeutral (indexFits es) r) .0 e in
-      rw (operands-alike op ns (v .0) (v .1) (a .0), same-reindex r (v .3) (a .1)) refl
-  same-reindex (return r) v e = rw (same-reindex r v e) refl
-  same-reindex (call n r) v e = rw (same-reindex r (v .1) e) refl
-  same-reindex (unless-false x y r) v e =
-      let a = and-eq-true-iff (eachNeutral (indexFits es) x && eachNeutral (indexFits es) y) (eachNeutral (indexFits es) r) .0 e in
-      let b = and-eq-true-iff (eachNeutral (indexFits es) x) (eachNeutral (indexFits es) y) .0 (a .0) in
-      rw (same-reindex x (v .0) (b .0), same-reindex y (v .1) (b .1), same-reindex r (v .2) (a .1)) refl
-  same-reindex (make-cont n x r) v e =
-      let a = and-eq-true-iff (eachNeutral (indexFits es) x) (eachNeutral (indexFits es) r) .0 e in
-      rw (same-reindex x (v .1) (a .0), same-reindex r (v .2) (a .1)) refl
-
-module _ (f : ℕ → ℕ) where
-  -- its length
-  pub same-bits : (c : Code) → bits (reindex f c) ≡ bits c
-  unfolding reindex bits reindexed
-  same-bits done = refl
-  same-bits (neutral op ns r) = rw (same-length (leb op 9) ns, same-bits r) refl
-    where
-      same-length : (b : Bool) (ns : List ℕ) → length (cond b (map f ns) ns) ≡ length ns
-      same-length true ns = length-map ns f
-      same-length false ns = refl
-  same-bits (return r) = rw (same-bits r) refl
-  same-bits (call n r) = rw (same-bits r) refl
-  same-bits (unless-false x y r) = rw (same-bits x, same-bits y, same-bits r) refl
-  same-bits (make-cont n x r) = rw (same-bits x, same-bits r) refl
-
   body-count : (c : Code) → length (bodyBits (reindex f c)) + 5 ≡ bits c
   body-count c =
       let e = ap length (body-end (reindex f c)) ∙ length-append (bodyBits (reindex f c)) (bitsOf 5 0) in
-      omega (arith, list-length (reindex f c), same-bits c, length-bits 5 0)
+      omega (arith, list-length (reindex f c), same-bits f c, length-bits 5 0)
 
 -- ---- the bits of the joined file
 entries-append : (es ds : List Entry) → entriesBits (es ++ ds) ≡ entriesBits es ++ entriesBits ds
@@ -149,10 +78,10 @@ module _ (p t : Template) (ts : List Template) where
       rw (length-append (p .entries) (t .entries), entries-append (p .entries) (t .entries), adjoin-bits (p .code) (moved E (t .code))) (simp append-assoc)
 
   -- their number
-  pub joined-size : Valid (t .code) → length (fileBits (joinedFirst p t ∷ ts)) + 5
+  pub joined-size : length (fileBits (joinedFirst p t ∷ ts)) + 5
       ≡ 16 + length (entriesBits (p .entries)) + length (entriesBits (t .entries)) + bits (p .code) + bits (t .code) + length (templatesBits ts)
   unfolding moved
-  joined-size v =
+  joined-size =
       let f : ℕ → ℕ = λ i. E + i in
       let n : length (bodyBits (reindex f (t .code))) + 5 ≡ bits (t .code) = body-count f (t .code) in
       let l : length (fileBits (joinedFirst p t ∷ ts)) ≡ 16 + length (entriesBits (p .entries)) + length (entriesBits (t .entries)) + length
@@ -373,7 +302,7 @@ module _ {a b : List ℕ} {count : ℕ} (k : Both a b count) where
               sums =
                   let f = first-start a p [] (k .end-a) (k .read-a) in
                   let g = first-start b t ts (k .end-b) (k .read-b) in
-                  omega (arith, joined-size p t ts (writable-b .valid-code), past-x, end-all)
+                  omega (arith, joined-size p t ts, past-x, end-all)
 
               size-is : size ≡ length (treeFile js)
               size-is = e ∙ ap (λ n. (n + 7) / 8) sums ∙ sym (file-length js)

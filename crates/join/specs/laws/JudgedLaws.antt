@@ -6,20 +6,22 @@ use mathlib.Core.Bool.{Bool, true, false, cond}
 use mathlib.Core.List.{List, [], _∷_}
 use mathlib.Core.Option.{Option, none, some}
 use lib.ListN.{length, getD, replicate, length-replicate}
+use borrow.Author.Tests.{eqb-true}
 use lib.Dec.{eqb}
 use Rattle.cells.specs.laws.Laws.{clash}
 use Rattle.cells.specs.declared.BitPlace.{BitPlace}
-use Rattle.files.specs.Code.{bits}
+use Rattle.files.specs.Code.{Code, bits}
 use Rattle.files.specs.Reading.{Got, got, refused, listAt}
 use Rattle.files.specs.Entries.{then}
 use Rattle.files.specs.laws.AllGot.{got-value, refused-got}
 use Rattle.files.specs.Tree.{Template, treeRead}
-use Rattle.files.specs.Grammar.{isOpen, lowest, closedTemplate, indexedTemplate}
+use Rattle.files.specs.Grammar.{isOpen, isClosed, lowest, closedTemplate, indexedTemplate}
+use Rattle.files.specs.laws.AcceptedLaws.{lowest-none}
 use Rattle.files.specs.Accepted.{orLowest}
 use Rattle.lists.specs.declared.Facts.{Facts}
 use Rattle.lists.specs.declared.Listed.the-variants.{Done as ListDone, Refused as ListRefused}
 use Rattle.lists.specs.Facts.{classOf, factsOf, listed}
-use Rattle.lists.specs.laws.PassLaws.{open-class}
+use Rattle.lists.specs.laws.PassLaws.{open-class, closed-class}
 use Rattle.lists.specs.laws.ReadLaws.{listed-done, listed-refused}
 use Rattle.tree.specs.declared.Summary.{Summary}
 use Rattle.tree.specs.declared.TreeFile.the-variants.{Read, Refused as RefusedTree}
@@ -30,7 +32,7 @@ use Rattle.tree.specs.Filled.{treeFilled}
 use Rattle.tree.specs.laws.FilledLaws.{tree-table}
 use Rattle.tree.specs.laws.Judged.{ReadAs, tree-told, number-some, number-none}
 use Rattle.join.specs.Join.{isPrologue, indicesChecked, prologueChecked, unclosed, secondChecked}
-use Rattle.join.specs.Operands.{Operand}
+use Rattle.join.specs.Operands.{Operand, Unclosed}
 use Rattle.join.specs.laws.OperandsLaws.{file-count, slot-start, list-read}
 
 -- a table of zeros
@@ -76,6 +78,23 @@ module _ {s table : List ℕ} {count : ℕ} (w : Operand s table count) (single 
   pub prologue-refused : (n : ℕ) (q : BitPlace) → listed table 0 (listAt s 15 at) ≡ ListRefused n q → false ≡ isPrologue (w .templates)
   prologue-refused n q e = refused-got (sym (listed-refused table 0 (listAt s 15 at) n q e) ∙ list-is)
 
+-- ---- where all lists are closed there is no prologue
+closed-not-open : (c : Code) → isClosed c ≡ true → isOpen c ≡ false
+closed-not-open c e =
+    let k : classOf c ≡ 2 = eqb-true (classOf c) 2 (sym (closed-class c) ∙ e) in
+    open-class c ∙ rw k refl
+
+none-open : (ts : List Template) → lowest closedTemplate 0 ts ≡ none → false ≡ isPrologue ts
+unfolding isPrologue
+none-open [] e = refl
+none-open (t ∷ []) e = sym (closed-not-open (t .code) (lowest-none closedTemplate 0 t [] e .0))
+none-open (t ∷ u ∷ ts) e = refl
+
+pub all-closed : {s table : List ℕ} {count n : ℕ} → Unclosed s table count n → 64 ≤ n → (w : Operand s table count) → false ≡ isPrologue (w .templates)
+all-closed {s} u h w =
+    let few : 0 + length (w .templates) ≤ 64 = omega (arith, file-count s (w .templates) (w .past) (w .read)) in
+    none-open (w .templates) (number-none closedTemplate 0 (w .templates) few (rw (u w) h))
+
 -- ---- a file that was read
 module _ (s : List ℕ) {m : Summary} (told : treeTold (treeRead s) ≡ Read m) where
   pub file : ReadAs (treeRead s) m
@@ -107,6 +126,10 @@ module _ (s : List ℕ) {m : Summary} (told : treeTold (treeRead s) ≡ Read m) 
   unclosed-is : numberOr64 (lowest closedTemplate 0 ts) ≡ m .unclosed
   unfolding summaryOf
   unclosed-is = ap (λ (x : Summary). x .unclosed) (file .summary)
+
+  -- as a file is told by what was read of it
+  pub unclosed-told : {table : List ℕ} {count : ℕ} → Unclosed s table count (m .unclosed)
+  unclosed-told w = ap (λ (us : List Template). numberOr64 (lowest closedTemplate 0 us)) (got-value (sym (w .read) ∙ file .is) .0) ∙ unclosed-is
 
   misnamed-is : numberOr64 (lowest indexedTemplate 0 ts) ≡ m .misnamed
   unfolding summaryOf

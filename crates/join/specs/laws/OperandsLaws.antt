@@ -42,6 +42,10 @@ read-code s l p c q e =
 deeper : {s : List ℕ} {l p : ℕ} (m : ℕ) → l ≤ m → CodeAt s l p → CodeAt s m p
 deeper m h w = record { code = w .code; stands = w .stands; valid = w .valid; deep = omega (arith, w .deep) }
 
+-- a list has at most as many levels as were left below it
+pub levels-most : {s : List ℕ} {p : ℕ} (most : ℕ) → most ≡ 15 → (w : CodeAt s 15 p) → true ≡ leb (levels (w .code)) most
+levels-most most e w = sym (le-leb (levels (w .code)) most (omega (arith, w .deep)))
+
 -- the list at p has at most so many levels where it can be read with so many
 module _ (s : List ℕ) (p most : ℕ) (few : most ≤ 15) (w : CodeAt s 15 p) where
   pub levels-read : (c : Code) (q : ℕ) → listAt s most p ≡ got c q → true ≡ leb (levels (w .code)) most

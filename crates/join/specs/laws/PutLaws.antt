@@ -23,7 +23,7 @@ use Rattle.emit.specs.declared.Measured.{Measured}
 use Rattle.emit.specs.Written.{measuredOf}
 use Rattle.bit_writer.specs.Put.{putBits}
 use Rattle.bit_writer.specs.laws.Laws.{put-next}
-use Rattle.tree_file.specs.File.{fileBits}
+use Rattle.tree_file.specs.File.{templatesBits, fileBits}
 use Rattle.rewrite.specs.Tokens.{tokensBits, renewed, TokensAt}
 use Rattle.rewrite.specs.laws.TokensLaws.{tokens-are, renewed-length}
 use Rattle.join.specs.declared.First.{First}
@@ -160,6 +160,18 @@ module _ {s table : List ℕ} {count : ℕ} (w : Operand s table count) where
         here ∙ ap (λ i. getD table (256 * i) 0) n ∙ slot-start s (t ∷ us) (w .past) read (length us) t h filled in
         ap (λ (x : Measured). x .next .0) (measured _ _ (ap (listAt s 15) k ∙ list-read s (t ∷ us) (w .past) read (length us) t h))
         ∙ last-at s t us (w .past) read ∙ ap (λ (ts : List Template). length (fileBits ts)) (sym (parts .is))
+
+-- of one template, where its own list ends
+one-end : (s : List ℕ) (ts : List Template) (q : ℕ) → treeRead s ≡ got ts q → length ts ≡ 1 → firstOf ts .past .0 ≡ fileEnd ts
+unfolding firstOf fileEnd templatesBits
+one-end s [] q e l = absurd (omega arith)
+one-end s (t ∷ []) q e l = omega (arith, first-end s t [] q e)
+one-end s (t ∷ u ∷ ts) q e l = absurd (omega arith)
+
+pub only-end : {s table : List ℕ} {count : ℕ} (w : Operand s table count) → count ≡ 1 → (x : First) → x ≡ firstOf (w .templates)
+    → (at : ℕ) → at ≡ x .past .0 → at ≡ fileEnd (w .templates)
+only-end {s} w single x e at here =
+    here ∙ ap (λ (y : First). y .past .0) e ∙ one-end s (w .templates) (w .past) (w .read) (sym (w .count-is) ∙ single)
 
 -- ---- room for the lists, in plain numbers
 sums : (at sx joint px sy py end L n₁ n₂ n₃ n₄ d e : ℕ) → sx + n₁ ≡ joint → joint + n₃ ≡ px → sy + n₂ ≡ py → py + n₄ ≡ end → sy + 5 ≤ py → sx + d ≡ px

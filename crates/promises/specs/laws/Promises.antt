@@ -28,6 +28,7 @@ use Rattle.pull.proofs.pull_list.Kinds as pull-list
 use Rattle.pull.proofs.pull_list.Reads as pull-list-reads
 use Rattle.exporter.proofs.exporter_pull_list.Kinds as exporter-pull-list
 use Rattle.exporter.proofs.exporter_pull_list.Reads as exporter-pull-list-reads
+use Rattle.join.specs.laws.GroupingsLaws.{JoinPromise}
 use Rattle.join.proofs.join.Kinds as join
 use Rattle.join.proofs.join.Reads as join-reads
 use Rattle.exporter.proofs.exporter_join.Kinds as exporter-join
@@ -125,6 +126,11 @@ exporter-back-only κs a x y e f p q = (λ i. (fixed (p .0) (q .0) i, fixed (p .
 pub join-only : Only 3 join.ps join.r join-reads.Learnt {B = Outcome × List ℕ}
     (λ κs x e. (x, now (e .1 .1 .0)))
 join-only κs a x y e f p q = (λ i. (fixed (p .0) (q .0) i, fixed (p .1) (q .1) i))
+
+-- and it is what join/specs/laws/GroupingsLaws takes for the promise of join, where both groupings of request 11 agree
+pub join-promised : (κs : Lfts 3) (a : Dens κs join.ps) (x : resT join.r κs .Denot) (e : AtExit (endedOf 3 join.ps join.r) κs) → join-reads.Learnt κs a x e
+    → JoinPromise (now (a .0)) (now (a .1 .0)) (now (a .1 .1 .0)) x (now (e .1 .1 .0))
+join-promised κs a x e p = record { answer = p .0; output = p .1 }
 
 -- exporter::exporter_join(prologue, file, out, result): out and result
 pub exporter-join-only : Only 4 exporter-join.ps exporter-join.r exporter-join-reads.Learnt {B = List ℕ × List ℕ}

@@ -6,12 +6,9 @@ use mathlib.Core.Path.{_≡_, refl, ap, _∙_}
 use mathlib.Core.List.{List, [], _∷_, _++_, append-assoc}
 use lib.ListN.{length, set, take, length-append}
 use lib.Seq.{sets, length-sets, sets-eq, take-at}
+use Rattle.cells.specs.laws.Lists.{sets-append}
 use Rattle.text.specs.Put.{Put}
 use Rattle.text.specs.Text.{line}
-
-pub sets-append : (xs ys o : List ℕ) (i : ℕ) → sets o i (xs ++ ys) ≡ sets (sets o i xs) (i + length xs) ys
-sets-append [] ys o i = rw add-zero refl
-sets-append (x ∷ xs) ys o i = sets-append xs ys (set o i x) (suc i) ∙ rw (suc-add, add-suc) refl
 
 pub put-then : {a b c : List ℕ} {at m n : ℕ} {xs ys : List ℕ} → Put a at b m xs → Put b m c n ys → Put a at c n (xs ++ ys)
 put-then p q = record { next = simp length-append (omega arith); holds = rw (q .holds, p .holds, p .next, ← sets-append) }

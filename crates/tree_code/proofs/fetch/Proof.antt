@@ -2,12 +2,13 @@
 use Prim.Native.Nat.{_≤_}
 use mathlib.Core.Path.{_≡_, refl, sym, _∙_}
 use native.Mathlib.Omega.{arith}
-use Rattle.lists.specs.laws.ReadLaws.{read-below}
+use borrow.Author.Needs.{needs}
+use borrow.Author.Tests.{eqb-true, eqb-false, leb-true, leb-false}
+use Rattle.fields.specs.laws.Laws.{cut, lies}
 use Rattle.machines.specs.Instruction.{Places}
 use Rattle.tree_code.specs.Fetch.{settled}
 use Rattle.tree_code.specs.laws.FetchSteps.{nowhere-fetched, cut-fetched, code-fetched, end-fetched, end-followed}
-use borrow.Author.Needs.{needs}
-use borrow.Author.Tests.{eqb-true, eqb-false}
+use Rattle.tree_code.specs.laws.LineLaws.{line-read}
 use Rattle.tree_code.proofs.fetch.Statement.{statement}
 use Rattle.tree_code.proofs.fetch.Tie as tie
 
@@ -27,28 +28,40 @@ returns c = (λ table t. nowhere-fetched _ _ table t _ (eqb-true _ 0 (sym (c .be
 loop-holds : tie.Need-loop-holds Inv-loop μ-loop
 loop-holds c = (refl, omega arith)
 
-read-field-requires : tie.Need-read-field-requires Inv-loop μ-loop
-read-field-requires c κs = search needs
+within-requires : tie.Need-within-requires Inv-loop μ-loop
+within-requires c κs = search needs
 
-enum-known-code : tie.Need-enum-known-code Inv-loop μ-loop
-enum-known-code c = search needs
+line-at-requires : tie.Need-line-at-requires Inv-loop μ-loop
+line-at-requires c κs =
+    let pre = c .before .before .before .before .before .before .before .pre in
+    let fits = lies (c .before .before .before .before .before .before .before .args .file .now) (c .before .before .loop .here .0) 5 (c .before .within .ensures) (c .if2 .taken) in (omega (arith, pre), omega (arith, fits))
 
-enum-told : tie.Need-enum-told Inv-loop μ-loop
-enum-told c = search needs
+fetch-line-requires : tie.Need-fetch-line-requires Inv-loop μ-loop
+fetch-line-requires c κs =
+    let fits = leb-true _ _ (sym (c .before .before .before .within .ensures) ∙ c .before .before .if2 .taken) in
+    (c .before .before .before .before .before .before .before .before .before .pre, fits, c .before .line-at .ensures .0, c .before .line-at .ensures .1)
 
 returns-2 : tie.Need-returns-2 Inv-loop μ-loop
-unfolding Places
-returns-2 c = (λ table t. cut-fetched _ _ _ _ _ (c .before .before .before .loop .inv .0) table t (eqb-false _ 0 (sym (c .before .before .before .before .before .is-first .ensures) ∙ c .before .before .before .before .if1 .left)) (sym (c .before .before .read-field .ensures) ∙ c .enum-told .given .1), tt)
-
-fetch-instruction-requires : tie.Need-fetch-instruction-requires Inv-loop μ-loop
-fetch-instruction-requires c κs = (c .before .before .before .before .before .before .before .before .before .before .pre, read-below _ _ 5 _ _ (sym (c .before .before .before .before .read-field .ensures) ∙ c .before .before .code .given .1))
+returns-2 c =
+    let fits = leb-true _ _ (sym (c .before .before .before .before .within .ensures) ∙ c .before .before .before .if2 .taken) in
+    let line = c .before .before .line-at .ensures .0 in
+    let more = c .before .if3 .taken in (
+      λ table t.
+          c .fetch-line .ensures .0 table t
+          ∙ code-fetched _ _ _ _ _ (c .before .before .before .before .before .loop .inv .0) table t (eqb-false _ 0 (sym (c .before .before .before .before .before .before .before .is-first .ensures) ∙ c .before .before .before .before .before .before .if1 .left)) _ _ (line-read _ _ _ line fits) (λ z. omega (arith, more)),
+      c .fetch-line .ensures .1,
+    )
 
 returns-3 : tie.Need-returns-3 Inv-loop μ-loop
-returns-3 c = (λ table t. c .fetch-instruction .ensures .0 table t ∙ code-fetched _ _ _ _ _ (c .before .before .before .before .before .before .loop .inv .0) table t (eqb-false _ 0 (sym (c .before .before .before .before .before .before .before .before .is-first .ensures) ∙ c .before .before .before .before .before .before .before .if1 .left)) _ _ (sym (c .before .before .before .before .before .read-field .ensures) ∙ c .before .before .before .code .given .1) (c .before .if2 .taken), c .fetch-instruction .ensures .1)
-
-returns-4 : tie.Need-returns-4 Inv-loop μ-loop
 unfolding Places
-returns-4 c = (λ table t. end-fetched _ _ _ _ _ (c .before .before .before .before .before .before .loop .inv .0) table t (eqb-false _ 0 (sym (c .before .before .before .before .before .before .before .before .is-first .ensures) ∙ c .before .before .before .before .before .before .before .if1 .left)) _ _ (sym (c .before .before .before .before .before .read-field .ensures) ∙ c .before .before .before .code .given .1) (c .before .if2 .left) (c .if3 .taken), tt)
+returns-3 c =
+    let fits = leb-true _ _ (sym (c .before .before .before .before .within .ensures) ∙ c .before .before .before .if2 .taken) in
+    let line = c .before .before .line-at .ensures .0 in
+    let less = c .before .if3 .left in (
+      λ table t.
+          end-fetched _ _ _ _ _ (c .before .before .before .before .before .loop .inv .0) table t (eqb-false _ 0 (sym (c .before .before .before .before .before .before .before .is-first .ensures) ∙ c .before .before .before .before .before .before .if1 .left)) _ _ (line-read _ _ _ line fits) (omega (arith, less)) (c .if4 .taken),
+      tt,
+    )
 
 link-at-requires : tie.Need-link-at-requires Inv-loop μ-loop
 link-at-requires c κs = search needs
@@ -60,7 +73,19 @@ loop-less : tie.Need-loop-less Inv-loop μ-loop
 loop-less c = omega arith
 
 loop-again : tie.Need-loop-again Inv-loop μ-loop
-loop-again c = (end-followed _ _ _ _ _ (c .before .before .before .before .before .before .before .loop .inv .0) _ _ (sym (c .before .before .before .before .before .before .read-field .ensures) ∙ c .before .before .before .before .code .given .1) (c .before .before .if2 .left) (c .before .if3 .left) _ (c .link-at .ensures), omega arith)
+loop-again c =
+    let fits = leb-true _ _ (sym (c .before .before .before .before .before .within .ensures) ∙ c .before .before .before .before .if2 .taken) in
+    let line = c .before .before .before .line-at .ensures .0 in
+    let less = c .before .before .if3 .left in (
+      end-followed _ _ _ _ _ (c .before .before .before .before .before .before .loop .inv .0) _ _ (line-read _ _ _ line fits) (omega (arith, less)) (c .before .if4 .left) _ (c .link-at .ensures),
+      omega arith,
+    )
+
+returns-4 : tie.Need-returns-4 Inv-loop μ-loop
+unfolding Places
+returns-4 c =
+    let gone = leb-false _ _ (sym (c .before .within .ensures) ∙ c .if2 .left) in
+    (λ table t. cut-fetched _ _ _ _ _ (c .before .before .loop .inv .0) table t (eqb-false _ 0 (sym (c .before .before .before .before .is-first .ensures) ∙ c .before .before .before .if1 .left)) (sym (cut _ _ 5 gone)), tt)
 
 pub fetch-spec : {M : Type 1} → statement M
 fetch-spec =
@@ -71,14 +96,13 @@ fetch-spec =
     is-first-requires
     returns
     loop-holds
-    read-field-requires
-    enum-known-code
-    enum-told
+    within-requires
+    line-at-requires
+    fetch-line-requires
     returns-2
-    fetch-instruction-requires
     returns-3
-    returns-4
     link-at-requires
     sub-left
     loop-less
-    loop-again)
+    loop-again
+    returns-4)
