@@ -1,9 +1,8 @@
 -- The bytes of one instruction of a list: those that stand before the rest's, and those that stand after.
-use Prim.Native.Nat.{ℕ, zero, suc, _+_, _/_, _%_}
+use Prim.Native.Nat.{ℕ, _+_, _/_, _%_}
 use mathlib.Core.Bool.{Bool, true, false, cond}
 use mathlib.Core.List.{List, [], _∷_, _++_}
 use lib.ListN.{length}
-use Rattle.fields.specs.Field.{fieldAt}
 use Rattle.files.specs.Code.{Code, Instr, neutral-i, return-i, call-i, unless-i, cont-i}
 use Rattle.files.specs.Grammar.{isClosed}
 use Rattle.files.specs.Flat.{offset, flat}
@@ -43,14 +42,9 @@ backBytes (call-i n) = []
 backBytes (unless-i x y) = []
 backBytes (cont-i n x) = flat x
 
--- n operands from p on
-unfoldable pub operandsAt : List ℕ → ℕ → ℕ → List ℕ
-operandsAt s p zero = []
-operandsAt s p (suc n) = fieldAt s p 8 ∷ operandsAt s (p + 8) n
-
 -- ---- answers
-unfoldable pub measuredOf : Code → ℕ → Measured
-measuredOf c q = record { next = record { 0 = q }; size = length (flat c); closed = isClosed c }
+unfoldable pub measuredOf : Code → Measured
+measuredOf c = record { size = length (flat c); closed = isClosed c }
 
 abbrev pub wroteAs : ℕ → ℕ → ℕ → Wrote
 wroteAs q f b = record { next = record { 0 = q }; front = f; back = b }

@@ -1,4 +1,3 @@
 -- The laws of the crate emit.
-pub mod Known
 pub mod Stores
 pub mod Steps

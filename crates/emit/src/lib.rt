@@ -1,7 +1,6 @@
 // Writes the flat code of a list of a tree file (document 01, 'Flattening'): instructions from the front on, and the saved list of each
 // make-cont at the back, before those of the make-conts that hold it.
 use cells::BitPlace;
-use lists::Listed;
 ghost use mathlib.Core.Path.{_≡_};
 ghost use mathlib.Core.Bool.{false};
 ghost use mathlib.Core.List.{_∷_};
@@ -10,14 +9,16 @@ ghost use lib.ListN.{length};
 ghost use lib.Seq.{sets};
 ghost use Rattle.fields.specs.Field.{fieldAt};
 ghost use Rattle.files.specs.Code.{Code};
-ghost use Rattle.files.specs.Reading.{got, listAt};
+ghost use Rattle.files.specs.Codes.{shapeOf};
 ghost use Rattle.files.specs.Flat.{flat, offset};
-ghost use Rattle.emit.specs.Written.{gap, jumpBytes, operandsAt, measuredOf};
+ghost use Rattle.lists.specs.declared.Keep.the-variants.{Sizes};
+ghost use Rattle.lists.specs.Marks.{markOf, markAt};
+ghost use Rattle.lists.specs.Pass.{operandsAt};
+ghost use Rattle.emit.specs.Written.{gap, jumpBytes, measuredOf};
 ghost use Rattle.emit.specs.ToWrite.{ToWrite, ArmsToWrite, SavedToWrite, ItemToWrite, ArmsDone, SavedDone, ItemDone};
 
-// The place past a list, how many bytes its flat code has, and whether it is closed.
+// How many bytes the flat code of a list has, and whether it is closed.
 pub struct Measured {
-    pub next: BitPlace,
     pub size: usize,
     pub closed: bool,
 }
@@ -29,22 +30,14 @@ pub struct Wrote {
     pub back: usize,
 }
 
-// A list that is known to be read.
-pub fn measure(s: &[u8], table: &[u64], own: usize, at: BitPlace, levels: usize) -> Measured
-    requires { ⌜ (length (now s) ≤ 65536) × (length (now table) ≡ 16384) × (own < 64) ⌝ }
-    ensures { λ r. ⌜ ((c : Code) (q : ℕ) → listAt (now (s .entry)) levels (at .0) ≡ got c q → r ≡ measuredOf c q) ⌝ }
+// What reading kept of the list at a place.
+pub fn measure(marks: &[u32], at: BitPlace) -> Measured
+    ensures { λ r. ⌜ ((c : Code) (q : ℕ) → markAt (now (marks .entry)) (at .0) ≡ markOf Sizes c q → r ≡ measuredOf c) ⌝ }
 {
-    match lists::read_list(s, table, own, at, levels) {
-        Listed::Done(next, facts) => Measured {
-            next,
-            size: facts.size,
-            closed: facts.class == 2,
-        },
-        Listed::Refused(_, next) => Measured {
-            next,
-            size: 0,
-            closed: false,
-        },
+    let mark = lists::mark_at(marks, at);
+    Measured {
+        size: (mark / 2) as usize,
+        closed: mark % 2 == 1,
     }
 }
 
@@ -76,47 +69,44 @@ fn put_jump(out: &mut [u8], at: usize, closed: bool, size: usize)
     put_offset(out, at, 5, size);
 }
 
-// The code at a place and n operands.
-fn write_simple(s: &[u8], at: BitPlace, n: usize, out: &mut [u8], front: usize)
-    requires { ⌜ (length (now s) ≤ 65536) × (at .0 + 5 + 8 * n ≤ 8 * length (now s)) × (front + 1 + n ≤ length (now out)) ⌝ }
-    ensures { λ _. ⌜ now (out .exit) ≡ sets (now (out .entry)) front (fieldAt (now (s .entry)) (at .0) 5 ∷ operandsAt (now (s .entry)) (at .0 + 5) n) ⌝ }
+// A code and n operands, at most two, which stand at a place.
+fn write_simple(s: &[u8], at: BitPlace, code: u32, n: usize, out: &mut [u8], front: usize)
+    requires { ⌜ (length (now s) ≤ 65536) × (n ≤ 2) × (at .0 + 8 * n ≤ 8 * length (now s)) × (code < 256) × (front + 1 + n ≤ length (now out)) ⌝ }
+    ensures { λ _. ⌜ now (out .exit) ≡ sets (now (out .entry)) front (code ∷ operandsAt (now (s .entry)) (at .0) n) ⌝ }
 {
-    out[front] = fields::bits_at(s, at, 5) as u8;
-    let mut here = at.past(5);
-    let mut f = front + 1;
-    let end = f + n;
-    while f < end {
-        out[f] = fields::bits_at(s, here, 8) as u8;
-        here = here.past(8);
-        f += 1;
+    out[front] = code as u8;
+    if n == 0 {
+        return;
+    }
+    out[front + 1] = fields::bits_at(s, at, 8) as u8;
+    if n == 2 {
+        out[front + 2] = fields::bits_at(s, at.past(8), 8) as u8;
     }
 }
 
 // A conditional whose arms stand `at` a place.
 fn write_conditional(
     s: &[u8],
-    table: &[u64],
-    own: usize,
+    marks: &[u32],
     at: BitPlace,
     levels: usize,
     out: &mut [u8],
     front: usize,
     back: usize,
 ) -> Wrote
-    requires { ⌜ (length (now s) ≤ 65536) × (length (now table) ≡ 16384) × (own < 64) × (back ≤ length (now out))
-        × ArmsToWrite (now s) levels (at .0) front back ⌝ }
-    ensures { λ r. ⌜ ((w : ArmsToWrite (now (s .entry)) levels (at .0) front back) → ArmsDone w r (now (out .entry)) (now (out .exit))) ⌝ }
+    requires { ⌜ (length (now s) ≤ 65536) × (back ≤ length (now out))
+        × ArmsToWrite (now s) (now marks) levels (at .0) front back ⌝ }
+    ensures { λ r. ⌜ ((w : ArmsToWrite (now (s .entry)) (now (marks .entry)) levels (at .0) front back) → ArmsDone w r (now (out .entry)) (now (out .exit))) ⌝ }
 {
-    let first = measure(s, table, own, at, levels);
-    let mid = first.next;
-    let second = measure(s, table, own, mid, levels);
+    let first = measure(marks, at);
     let jump = gap(first.closed);
     let turn = front + 3 + first.size;
-    let end = turn + jump + second.size;
     put_offset(out, front, 3, jump + first.size);
-    write_list(s, table, own, at, levels, out, front + 3, turn);
+    let mid = write_list(s, marks, at, levels, out, front + 3, turn);
+    let second = measure(marks, mid);
+    let end = turn + jump + second.size;
     put_jump(out, turn, first.closed, second.size);
-    let next = write_list(s, table, own, mid, levels, out, turn + jump, end);
+    let next = write_list(s, marks, mid, levels, out, turn + jump, end);
     Wrote {
         next,
         front: end,
@@ -127,8 +117,7 @@ fn write_conditional(
 // A make-cont n whose saved list stands `at` a place.
 fn write_make_cont(
     s: &[u8],
-    table: &[u64],
-    own: usize,
+    marks: &[u32],
     at: BitPlace,
     levels: usize,
     out: &mut [u8],
@@ -136,16 +125,16 @@ fn write_make_cont(
     front: usize,
     back: usize,
 ) -> Wrote
-    requires { ⌜ (length (now s) ≤ 65536) × (length (now table) ≡ 16384) × (own < 64) × (n < 256) × (back ≤ length (now out))
-        × SavedToWrite (now s) levels (at .0) front back ⌝ }
-    ensures { λ r. ⌜ ((w : SavedToWrite (now (s .entry)) levels (at .0) front back) → SavedDone n w r (now (out .entry)) (now (out .exit))) ⌝ }
+    requires { ⌜ (length (now s) ≤ 65536) × (n < 256) × (back ≤ length (now out))
+        × SavedToWrite (now s) (now marks) levels (at .0) front back ⌝ }
+    ensures { λ r. ⌜ ((w : SavedToWrite (now (s .entry)) (now (marks .entry)) levels (at .0) front back) → SavedDone n w r (now (out .entry)) (now (out .exit))) ⌝ }
 {
-    let saved = measure(s, table, own, at, levels);
+    let saved = measure(marks, at);
     let cut = back - saved.size;
     let rest = front + 4;
     put_offset(out, front, 4, cut - rest);
     out[front + 3] = n as u8;
-    let next = write_list(s, table, own, at, levels, out, cut, back);
+    let next = write_list(s, marks, at, levels, out, cut, back);
     Wrote {
         next,
         front: rest,
@@ -153,31 +142,31 @@ fn write_make_cont(
     }
 }
 
-// One instruction.
+// One instruction, whose code has a shape.
 fn write_instr(
     s: &[u8],
-    table: &[u64],
-    own: usize,
+    marks: &[u32],
     at: BitPlace,
     levels: usize,
+    code: u32,
+    shape: u8,
     out: &mut [u8],
     front: usize,
     back: usize,
 ) -> Wrote
-    requires { ⌜ (length (now s) ≤ 65536) × (length (now table) ≡ 16384) × (own < 64) × (back ≤ length (now out))
-        × ItemToWrite (now s) levels (at .0) front back ⌝ }
-    ensures { λ r. ⌜ ((w : ItemToWrite (now (s .entry)) levels (at .0) front back) → ItemDone w r (now (out .entry)) (now (out .exit))) ⌝ }
+    requires { ⌜ (length (now s) ≤ 65536) × (back ≤ length (now out)) × (code ≡ fieldAt (now s) (at .0) 5) × (shape ≡ shapeOf code)
+        × ItemToWrite (now s) (now marks) levels (at .0) front back ⌝ }
+    ensures { λ r. ⌜ ((w : ItemToWrite (now (s .entry)) (now (marks .entry)) levels (at .0) front back) → ItemDone w r (now (out .entry)) (now (out .exit))) ⌝ }
 {
-    let shape = lists::shape_of(fields::bits_at(s, at, 5));
     match shape {
-        4 => write_conditional(s, table, own, at.past(5), levels - 1, out, front, back),
+        4 => write_conditional(s, marks, at.past(5), levels - 1, out, front, back),
         5 => {
             let n = fields::bits_at(s, at.past(5), 8);
-            write_make_cont(s, table, own, at.past(13), levels - 1, out, n, front, back)
+            write_make_cont(s, marks, at.past(13), levels - 1, out, n, front, back)
         }
         _ => {
             let n = (shape - 1) as usize;
-            write_simple(s, at, n, out, front);
+            write_simple(s, at.past(5), code, n, out, front);
             Wrote {
                 next: at.past(5 + 8 * n),
                 front: front + 1 + n,
@@ -187,30 +176,31 @@ fn write_instr(
     }
 }
 
-// The list at a place of template `own`, with `levels` levels left below it. `table` is the run's table.
+// The list at a place, with `levels` levels left below it. `marks` has what reading kept of the lists inside it.
 pub fn write_list(
     s: &[u8],
-    table: &[u64],
-    own: usize,
+    marks: &[u32],
     at: BitPlace,
     levels: usize,
     out: &mut [u8],
     front: usize,
     back: usize,
 ) -> BitPlace
-    requires { ⌜ (length (now s) ≤ 65536) × (length (now table) ≡ 16384) × (own < 64) × (back ≤ length (now out))
-        × ToWrite (now s) levels (at .0) front back ⌝ }
-    ensures { λ r. ⌜ ((w : ToWrite (now (s .entry)) levels (at .0) front back) →
+    requires { ⌜ (length (now s) ≤ 65536) × (back ≤ length (now out))
+        × ToWrite (now s) (now marks) levels (at .0) front back ⌝ }
+    ensures { λ r. ⌜ ((w : ToWrite (now (s .entry)) (now (marks .entry)) levels (at .0) front back) →
         (r .0 ≡ w .past) × (now (out .exit) ≡ sets (now (out .entry)) front (flat (w .code)))) ⌝ }
 {
     let mut here = at;
     let mut f = front;
     let mut b = back;
     loop {
-        if lists::shape_of(fields::bits_at(s, here, 5)) == 0 {
+        let code = fields::bits_at(s, here, 5);
+        let shape = lists::shape_of(code);
+        if shape == 0 {
             return here.past(5);
         }
-        let one = write_instr(s, table, own, here, levels, out, f, b);
+        let one = write_instr(s, marks, here, levels, code, shape, out, f, b);
         let next = one.next;
         here = next;
         f = one.front;

@@ -14,5 +14,6 @@ pub mod Valid
 pub mod EntriesRead
 pub mod RowFilled
 pub mod Filled
+pub mod Room
 pub mod Outcome
 pub mod laws

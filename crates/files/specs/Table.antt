@@ -1,6 +1,6 @@
--- What a run keeps of an accepted file, so that an instruction costs constant time: a table of 64 rows of 256 numbers. Slot 0 of a
--- template's row is where its code begins (003 keeps index 0 for the code), in a linear file with the code's length above 32 bits; slot n
--- is what entry n says; other slots are 0.
+-- What a run keeps of an accepted file, so that an instruction costs constant time: a table with a row of 256 numbers for each template. Slot 0
+-- of a template's row is where its code begins (003 keeps index 0 for the code), in a linear file with the code's length above 32 bits; slot n
+-- is what entry n says; other slots are 0, and so is the table's rest.
 use Prim.Native.Nat.{ℕ, _+_, _*_, _-_}
 use mathlib.Core.Bool.{cond}
 use mathlib.Core.List.{List, [], _∷_, _++_, map}
@@ -40,5 +40,6 @@ linearRows (t ∷ ts) = rowOf (t .start + 0x100000000 * length (t .code)) (t .en
 unfoldable pub treeTable : List Template → List ℕ
 treeTable ts = padTo 16384 (treeRows ts)
 
-unfoldable pub linearTable : List Linear → List ℕ
-linearTable ts = padTo 16384 (linearRows ts)
+-- a table of n numbers
+unfoldable pub linearTable : ℕ → List Linear → List ℕ
+linearTable n ts = padTo n (linearRows ts)

@@ -12,4 +12,5 @@ pub mod EntriesRead
 pub mod EntriesSteps
 pub mod PaddingSteps
 pub mod RowFilled
+pub mod RoomLaws
 pub mod Rows

@@ -7,6 +7,7 @@ ghost use lib.ListN.{length};
 ghost use lib.Seq.{sets};
 ghost use Rattle.files.specs.Entries.{kindAt, constantAt, entryAt, entriesAt, zeroBits, nothingMore};
 ghost use Rattle.files.specs.EntriesRead.{entryTold, entriesTold, paddingTold, slotsAt};
+ghost use Rattle.files.specs.Room.{countOf};
 
 // What a function that fills an output answers: how many bytes it wrote, or a refusal's number and place.
 pub enum Outcome {
@@ -112,7 +113,7 @@ pub fn read_entries(
     n: usize,
     at: BitPlace,
 ) -> Entries
-    requires { ⌜ (length (now s) ≤ 262144) × ((length (now table) ≡ 16384) × ((own < 64) × ((count ≤ 64) × (n < 256)))) ⌝ }
+    requires { ⌜ (length (now s) ≤ 262144) × ((256 * own + 256 ≤ length (now table)) × ((count ≤ 64) × (n < 256))) ⌝ }
     ensures { λ r. ⌜ r ≡ entriesTold (entriesAt (now (s .entry)) own count n (at .0)) ⌝ }
     ensures { λ _. ⌜ now (table .exit) ≡ sets (now (table .entry)) (256 * own + 1) (slotsAt (now (s .entry)) own count n (at .0)) ⌝ }
 {
@@ -160,4 +161,17 @@ pub fn nothing_more(s: &[u8], at: BitPlace) -> Padding
         return Padding::Zero(at);
     }
     Padding::Refused(at)
+}
+
+// The number of templates that a file begins with, 0 where none is read.
+pub fn count_of(s: &[u8]) -> usize
+    ensures { λ r. ⌜ r ≡ countOf (now (s .entry)) ⌝ }
+{
+    if 262144 < s.len() {
+        return 0;
+    }
+    match fields::read_field(s, BitPlace(0), 8) {
+        Field::Read(count, _) => count as usize,
+        Field::Cut => 0,
+    }
 }

@@ -1,10 +1,11 @@
 // The flattener (document 01, 'Flattening').
 use cells::BitPlace;
 use files::Outcome;
+use lists::Keep;
 use tree::Judged;
 ghost use mathlib.Core.Path.{_≡_};
 ghost use Prim.Native.Nat.{_+_, _*_, _-_, _/_, _≤_, _<_};
-ghost use lib.ListN.{length};
+ghost use lib.ListN.{length, replicate};
 ghost use lib.Seq.{sets};
 ghost use Rattle.files.specs.Linear.{byteOf, bytesOf, threeBytes, templatesBytes};
 ghost use Rattle.flatten.specs.Flatten.{flattened};
@@ -58,39 +59,41 @@ fn put_length(out: &mut [u8], at: usize, n: usize)
 fn write_template(
     s: &[u8],
     table: &[u64],
+    marks: &[u32],
     own: usize,
     at: BitPlace,
     out: &mut [u8],
     front: usize,
 ) -> Past
     requires { ⌜ (length (now s) ≤ 65536) × (length (now table) ≡ 16384) × (own < 64)
-        × TemplateToWrite (now s) (now table) own (at .0) front (length (now out)) ⌝ }
-    ensures { λ r. ⌜ ((w : TemplateToWrite (now (s .entry)) (now (table .entry)) own (at .0) front (length (now (out .entry))))
+        × TemplateToWrite (now s) (now table) (now marks) own (at .0) front (length (now out)) ⌝ }
+    ensures { λ r. ⌜ ((w : TemplateToWrite (now (s .entry)) (now (table .entry)) (now (marks .entry)) own (at .0) front (length (now (out .entry))))
         → TemplateDone w r (now (out .entry)) (now (out .exit))) ⌝ }
 {
     let start = BitPlace::from_slot(table[256 * own]);
-    let size = emit::measure(s, table, own, start, 15).size;
+    let size = emit::measure(marks, start).size;
     out[front] = fields::bits_at(s, at, 8) as u8;
     let entries = at.past(8);
     write_bits(s, entries, start, out, front + 1);
     let f = front + 1 + (start.since(entries) + 7) / 8;
     put_length(out, f, size);
     let end = f + 3 + size;
-    let next = emit::write_list(s, table, own, start, 15, out, f + 3, end);
+    let next = emit::write_list(s, marks, start, 15, out, f + 3, end);
     Past { next, front: end }
 }
 
 // The `count` templates, which stand from bit 8 on, into the bytes from 1 on.
-fn write_templates(s: &[u8], table: &[u64], count: usize, out: &mut [u8])
-    requires { ⌜ (length (now s) ≤ 65536) × (length (now table) ≡ 16384) × TemplatesToWrite (now s) (now table) count 0 8 1 (length (now out)) ⌝ }
-    ensures { λ _. ⌜ ((w : TemplatesToWrite (now (s .entry)) (now (table .entry)) count 0 8 1 (length (now (out .entry))))
+fn write_templates(s: &[u8], table: &[u64], marks: &[u32], count: usize, out: &mut [u8])
+    requires { ⌜ (length (now s) ≤ 65536) × (length (now table) ≡ 16384)
+        × TemplatesToWrite (now s) (now table) (now marks) count 0 8 1 (length (now out)) ⌝ }
+    ensures { λ _. ⌜ ((w : TemplatesToWrite (now (s .entry)) (now (table .entry)) (now (marks .entry)) count 0 8 1 (length (now (out .entry))))
         → now (out .exit) ≡ sets (now (out .entry)) 1 (templatesBytes (w .templates))) ⌝ }
 {
     let mut own: usize = 0;
     let mut here = BitPlace(8);
     let mut front: usize = 1;
     while own < count {
-        let past = write_template(s, table, own, here, out, front);
+        let past = write_template(s, table, marks, own, here, out, front);
         let next = past.next;
         here = next;
         front = past.front;
@@ -98,13 +101,13 @@ fn write_templates(s: &[u8], table: &[u64], count: usize, out: &mut [u8])
     }
 }
 
-// Flattens a tree file into an output.
-pub fn flatten(s: &[u8], out: &mut [u8]) -> Outcome
+// Flattens a tree file into an output, with a table of zeros and marks for it to fill.
+fn flatten_marked(s: &[u8], table: &mut [u64], marks: &mut [u32], out: &mut [u8]) -> Outcome
+    requires { ⌜ (now table ≡ replicate 16384 0) × (length (now s) ≤ 65536 → 8 * length (now s) ≤ 5 * length (now marks)) ⌝ }
     ensures { λ r. ⌜ r ≡ answered (flattened (now (s .entry)) (length (now (out .entry)))) ⌝ }
     ensures { λ _. ⌜ now (out .exit) ≡ written (now (out .entry)) (flattened (now (s .entry)) (length (now (out .entry)))) ⌝ }
 {
-    let mut table = [0u64; 16384];
-    match tree::read_accepted(s, &mut table) {
+    match tree::read_accepted(s, table, Keep::Sizes, marks) {
         Judged::Accepted(sum) => {
             if sum.far < 64 {
                 return Outcome::Refused(8, sum.far as usize);
@@ -115,9 +118,54 @@ pub fn flatten(s: &[u8], out: &mut [u8]) -> Outcome
             }
             let count = sum.count;
             out[0] = count;
-            write_templates(s, &table, count as usize, out);
+            write_templates(s, table, marks, count as usize, out);
             Outcome::Written(size)
         }
         Judged::Refused(no, place) => Outcome::Refused(no, place),
     }
+}
+
+// The same with marks of its own, one for each 5 bits, for a file of at most 512 bytes, ..
+fn flatten_short(s: &[u8], table: &mut [u64], out: &mut [u8]) -> Outcome
+    requires { ⌜ (now table ≡ replicate 16384 0) × (length (now s) ≤ 512) ⌝ }
+    ensures { λ r. ⌜ r ≡ answered (flattened (now (s .entry)) (length (now (out .entry)))) ⌝ }
+    ensures { λ _. ⌜ now (out .exit) ≡ written (now (out .entry)) (flattened (now (s .entry)) (length (now (out .entry)))) ⌝ }
+{
+    let mut marks = [0u32; 820];
+    flatten_marked(s, table, &mut marks, out)
+}
+
+// .. of at most 4,096 bytes, ..
+fn flatten_middle(s: &[u8], table: &mut [u64], out: &mut [u8]) -> Outcome
+    requires { ⌜ (now table ≡ replicate 16384 0) × (length (now s) ≤ 4096) ⌝ }
+    ensures { λ r. ⌜ r ≡ answered (flattened (now (s .entry)) (length (now (out .entry)))) ⌝ }
+    ensures { λ _. ⌜ now (out .exit) ≡ written (now (out .entry)) (flattened (now (s .entry)) (length (now (out .entry)))) ⌝ }
+{
+    let mut marks = [0u32; 6554];
+    flatten_marked(s, table, &mut marks, out)
+}
+
+// .. for any file. Zeroing the marks of the longest for a short file would cost more than the rest.
+fn flatten_long(s: &[u8], table: &mut [u64], out: &mut [u8]) -> Outcome
+    requires { ⌜ (now table ≡ replicate 16384 0) ⌝ }
+    ensures { λ r. ⌜ r ≡ answered (flattened (now (s .entry)) (length (now (out .entry)))) ⌝ }
+    ensures { λ _. ⌜ now (out .exit) ≡ written (now (out .entry)) (flattened (now (s .entry)) (length (now (out .entry)))) ⌝ }
+{
+    let mut marks = [0u32; 104858];
+    flatten_marked(s, table, &mut marks, out)
+}
+
+// Flattens a tree file into an output.
+pub fn flatten(s: &[u8], out: &mut [u8]) -> Outcome
+    ensures { λ r. ⌜ r ≡ answered (flattened (now (s .entry)) (length (now (out .entry)))) ⌝ }
+    ensures { λ _. ⌜ now (out .exit) ≡ written (now (out .entry)) (flattened (now (s .entry)) (length (now (out .entry)))) ⌝ }
+{
+    let mut table = [0u64; 16384];
+    if s.len() <= 512 {
+        return flatten_short(s, &mut table, out);
+    }
+    if s.len() <= 4096 {
+        return flatten_middle(s, &mut table, out);
+    }
+    flatten_long(s, &mut table, out)
 }

@@ -1,6 +1,7 @@
 // Joining a prologue and a file (document 02, request 10).
 use cells::BitPlace;
 use files::Outcome;
+use lists::Keep;
 use lists::Listed;
 use tree::Judged;
 use tree::TreeFile;
@@ -9,6 +10,8 @@ ghost use mathlib.Core.List.{_++_};
 ghost use Prim.Native.Nat.{ℕ, _+_, _*_, _-_, _≤_, _<_};
 ghost use lib.ListN.{length, getD, replicate};
 ghost use lib.Dec.{leb};
+ghost use Rattle.files.specs.Code.{Code};
+ghost use Rattle.files.specs.Reading.{got, listAt};
 ghost use Rattle.tree.specs.Summary.{judgedTold};
 ghost use Rattle.tree.specs.Filled.{treeFilled};
 ghost use Rattle.bit_writer.specs.Put.{putBits};
@@ -49,7 +52,8 @@ fn is_prologue(s: &[u8], table: &[u64], count: u8) -> bool
     if count != 1 {
         return false;
     }
-    match lists::read_list(s, table, 0, BitPlace::from_slot(table[0]), 15) {
+    let mut none = [0u32; 1];
+    match lists::read_list(s, table, 0, BitPlace::from_slot(table[0]), 15, Keep::Pasts, &mut none) {
         Listed::Done(_, facts) => facts.class == 1,
         Listed::Refused(_, _) => false,
     }
@@ -72,7 +76,8 @@ fn read_prologue(s: &[u8], table: &mut [u64]) -> Judged
     ensures { λ r. ⌜ r ≡ judgedTold (prologueChecked (now (s .entry))) ⌝ }
     ensures { λ _. ⌜ now (table .exit) ≡ treeFilled (now (s .entry)) ⌝ }
 {
-    match tree::read_tree(s, table) {
+    let mut none = [0u32; 1];
+    match tree::read_tree(s, table, Keep::Pasts, &mut none) {
         TreeFile::Read(sum) => {
             if is_prologue(s, table, sum.count) {
                 if sum.misnamed < 64 {
@@ -92,7 +97,8 @@ fn read_second(s: &[u8], table: &mut [u64]) -> Judged
     ensures { λ r. ⌜ r ≡ judgedTold (secondChecked (now (s .entry))) ⌝ }
     ensures { λ _. ⌜ now (table .exit) ≡ treeFilled (now (s .entry)) ⌝ }
 {
-    match tree::read_tree(s, table) {
+    let mut none = [0u32; 1];
+    match tree::read_tree(s, table, Keep::Pasts, &mut none) {
         TreeFile::Read(sum) => {
             if is_open(s, table, sum.count, sum.unclosed) {
                 if sum.misnamed < 64 {
@@ -114,13 +120,24 @@ fn read_second(s: &[u8], table: &mut [u64]) -> Judged
 
 // ---- where things stand
 
+// The place past a list that is known to be read.
+fn past_list(s: &[u8], table: &[u64], own: usize, at: BitPlace, levels: usize) -> BitPlace
+    requires { ⌜ (length (now s) ≤ 65536) × (length (now table) ≡ 16384) × (own < 64) ⌝ }
+    ensures { λ r. ⌜ ((c : Code) (q : ℕ) → listAt (now (s .entry)) levels (at .0) ≡ got c q → r .0 ≡ q) ⌝ }
+{
+    let mut none = [0u32; 1];
+    match lists::read_list(s, table, own, at, levels, Keep::Pasts, &mut none) {
+        Listed::Done(next, _) => next,
+        Listed::Refused(_, next) => next,
+    }
+}
+
 fn first_template(s: &[u8], table: &[u64], count: u8) -> First
     requires { ⌜ (length (now table) ≡ 16384) × Operand (now s) (now table) count ⌝ }
     ensures { λ r. ⌜ ((w : Operand (now (s .entry)) (now (table .entry)) count) → r ≡ firstOf (w .templates)) ⌝ }
 {
     let start = BitPlace::from_slot(table[0]);
-    let list = emit::measure(s, table, 0, start, 15);
-    let past = list.next;
+    let past = past_list(s, table, 0, start, 15);
     let entries = fields::bits_at(s, BitPlace(8), 8) as usize;
     First {
         entries,
@@ -136,9 +153,7 @@ fn file_end(s: &[u8], table: &[u64], count: u8) -> BitPlace
 {
     let own = count as usize - 1;
     let slot = 256 * own;
-    let list = emit::measure(s, table, own, BitPlace::from_slot(table[slot]), 15);
-    let next = list.next;
-    next
+    past_list(s, table, own, BitPlace::from_slot(table[slot]), 15)
 }
 
 // The same where the first template is known: no list is read again where it is the only one.
@@ -163,11 +178,8 @@ fn turn_at(s: &[u8], table: &[u64], here: BitPlace, levels: usize) -> Turn
     match shape {
         0 => Turn::There,
         4 => {
-            let first = emit::measure(s, table, 0, here.past(5), levels - 1);
-            let mid = first.next;
-            let second = emit::measure(s, table, 0, mid, levels - 1);
-            let next = second.next;
-            Turn::Past(next)
+            let mid = past_list(s, table, 0, here.past(5), levels - 1);
+            Turn::Past(past_list(s, table, 0, mid, levels - 1))
         }
         5 => Turn::Within(here.past(13)),
         _ => Turn::Past(here.past(5 + 8 * (shape - 1) as usize)),
@@ -205,7 +217,8 @@ fn levels_fit(s: &[u8], table: &[u64], at: BitPlace, most: usize) -> bool
     requires { ⌜ (length (now s) ≤ 65536) × (length (now table) ≡ 16384) × (most ≤ 15) ⌝ }
     ensures { λ r. ⌜ ((w : CodeAt (now (s .entry)) 15 (at .0)) → r ≡ leb (levels (w .code)) most) ⌝ }
 {
-    match lists::read_list(s, table, 0, at, most) {
+    let mut none = [0u32; 1];
+    match lists::read_list(s, table, 0, at, most, Keep::Pasts, &mut none) {
         Listed::Done(_, _) => true,
         Listed::Refused(_, _) => false,
     }

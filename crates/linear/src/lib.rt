@@ -5,10 +5,11 @@ use files::Entries;
 use files::Padding;
 ghost use mathlib.Core.Path.{_≡_};
 ghost use mathlib.Core.List.{List};
-ghost use Prim.Native.Nat.{_+_, _*_, _≤_, _<_};
+ghost use Prim.Native.Nat.{_+_, _*_, _≤_};
 ghost use lib.ListN.{length};
 ghost use Rattle.files.specs.Entries.{Entry};
 ghost use Rattle.files.specs.Linear.{linearTemplateAt, linearTemplatesAt, linearRead};
+ghost use Rattle.files.specs.Room.{RoomFor};
 ghost use Rattle.linear.specs.Filled.{partTold, linearTold, checkedTold, paddedCode, codeFilled, templateFilled, templatesFilled, linearFilled};
 
 // What reading a part of the file finds: the place past it, or a refusal's number and place.
@@ -31,7 +32,7 @@ pub enum Checked {
 
 // What follows a template's entries: padding, the code's length, the code. Where the code begins, and its length, go to slot 0 of row `own`.
 fn read_code(s: &[u8], table: &mut [u64], own: usize, at: BitPlace) -> Part
-    requires { ⌜ (length (now s) ≤ 262144) × ((length (now table) ≡ 16384) × ((own < 64) × (at .0 ≤ 8 * length (now s)))) ⌝ }
+    requires { ⌜ (length (now s) ≤ 262144) × ((256 * own + 256 ≤ length (now table)) × (at .0 ≤ 8 * length (now s))) ⌝ }
     ensures { λ r. ⌜ ((es : List Entry) → r ≡ partTold (paddedCode (now (s .entry)) es (at .0))) ⌝ }
     ensures { λ _. ⌜ ((es : List Entry) → now (table .exit) ≡ codeFilled own (paddedCode (now (s .entry)) es (at .0)) (now (table .entry))) ⌝ }
 {
@@ -53,7 +54,7 @@ fn read_code(s: &[u8], table: &mut [u64], own: usize, at: BitPlace) -> Part
 
 // Template `own` of `count`: E, the entries, what follows them.
 fn read_template(s: &[u8], table: &mut [u64], own: usize, count: usize, at: BitPlace) -> Part
-    requires { ⌜ (length (now s) ≤ 262144) × ((length (now table) ≡ 16384) × ((own < 64) × (count ≤ 64))) ⌝ }
+    requires { ⌜ (length (now s) ≤ 262144) × ((256 * own + 256 ≤ length (now table)) × (count ≤ 64)) ⌝ }
     ensures { λ r. ⌜ r ≡ partTold (linearTemplateAt (now (s .entry)) own count (at .0)) ⌝ }
     ensures { λ _. ⌜ now (table .exit) ≡ templateFilled (now (s .entry)) own count (at .0) (now (table .entry)) ⌝ }
 {
@@ -68,7 +69,7 @@ fn read_template(s: &[u8], table: &mut [u64], own: usize, count: usize, at: BitP
 
 // The `count` templates, from `at` on.
 fn read_templates(s: &[u8], table: &mut [u64], count: usize, at: BitPlace) -> Part
-    requires { ⌜ (length (now s) ≤ 262144) × ((length (now table) ≡ 16384) × (count ≤ 64)) ⌝ }
+    requires { ⌜ (length (now s) ≤ 262144) × ((256 * count ≤ length (now table)) × (count ≤ 64)) ⌝ }
     ensures { λ r. ⌜ r ≡ partTold (linearTemplatesAt (now (s .entry)) count 0 count (at .0)) ⌝ }
     ensures { λ _. ⌜ now (table .exit) ≡ templatesFilled (now (s .entry)) count 0 count (at .0) (now (table .entry)) ⌝ }
 {
@@ -88,9 +89,9 @@ fn read_templates(s: &[u8], table: &mut [u64], count: usize, at: BitPlace) -> Pa
     Part::Read(here)
 }
 
-// Reads a linear file, and fills a run's table.
+// Reads a linear file, and fills a run's table, which has a row for each template.
 pub fn read_linear(s: &[u8], table: &mut [u64]) -> LinearFile
-    requires { ⌜ length (now table) ≡ 16384 ⌝ }
+    requires { ⌜ RoomFor (now s) (length (now table)) ⌝ }
     ensures { λ r. ⌜ r ≡ linearTold (linearRead (now (s .entry))) ⌝ }
     ensures { λ _. ⌜ now (table .exit) ≡ linearFilled (now (s .entry)) (now (table .entry)) ⌝ }
 {

@@ -8,6 +8,7 @@ use Rattle.cells.specs.laws.Laws.{clash}
 use Rattle.cells.specs.declared.BitPlace.{BitPlace}
 use Rattle.files.specs.Reading.{Got, got, refused}
 use Rattle.files.specs.Linear.{Linear, linearRead}
+use Rattle.files.specs.Room.{RoomFor}
 use Rattle.files.specs.Table.{linearTable}
 use Rattle.linear.specs.Filled.{linearTold, linearFilled}
 use Rattle.linear.specs.laws.LinearTable.{linear-table}
@@ -24,7 +25,7 @@ use Rattle.machines.specs.laws.Steps.{whole-budget}
 use Rattle.machines.specs.declared.Run.{Run}
 use Rattle.linear_code.specs.Bytes.{bytesProgram, AllBytes, AllWithin}
 use Rattle.linear_code.specs.laws.ProgramLaws.{table-within, program-is}
-use Rattle.linear_machine.specs.Again.{TableOf}
+use Rattle.linear_machine.specs.Again.{ZerosFor, TableOf}
 
 -- ---- what reading answered
 record WasRead (g : Got (List Linear)) : Type 0 where
@@ -42,36 +43,39 @@ unfolding linearTold
 was-refused (got ts q) n p e = clash (cc)
 was-refused (refused m q) n p e = let k : _≡_ {A = BitPlace} p (record { 0 = q }) = cc in let i : n ≡ m = cc in rw (i, k)
 
-pub table-long : (table : List ℕ) → table ≡ zeros 16384 → length table ≡ 16384
-table-long table e = ap length e ∙ zeros-length 16384
+pub table-room : (s table : List ℕ) → ZerosFor s table → RoomFor s (length table)
+table-room s table z few = let l = ap length (z .zero) ∙ zeros-length (z .size) in rw l (z .room few)
 
 -- ---- a file s that was read, x the answer; table is what the table was before and table′ after
-module _ (s table table′ : List ℕ) (x : LinearFile) (asked : x ≡ linearTold (linearRead s)) (was : table ≡ zeros 16384) (filled : table′ ≡ linearFilled s table) (n : ℕ)
+module _ (s table table′ : List ℕ) (x : LinearFile) (asked : x ≡ linearTold (linearRead s)) (was : ZerosFor s table) (filled : table′ ≡ linearFilled s table) (n : ℕ)
     (there : x ≡ Read n) where
   file : WasRead (linearRead s)
   file = was-read (linearRead s) n (sym there ∙ asked)
 
-  table-is : table′ ≡ linearTable (file .templates)
+  table-is : table′ ≡ linearTable (was .size) (file .templates)
   unfolding zeros
-  table-is = filled ∙ ap (linearFilled s) was ∙ linear-table s (file .is)
+  table-is = filled ∙ ap (linearFilled s) (was .zero) ∙ linear-table s (was .size) (was .room) (file .is)
 
   pub file-within : AllWithin s table′
-  file-within = rw table-is (table-within s (file .is))
+  file-within = rw table-is (table-within s (was .size) (file .is))
 
   pub file-ran : (o : Owner) (b : ℕ) (m : Memory) (r : Ran) → AllBytes s → r ≡ ranFrom o (bytesProgram s table′) b 0 (startState (m .globals) 0)
       → r ≡ onLinear o b m (linearRead s)
   unfolding onLinear programRun
   file-ran o b m r bytes h =
-      h ∙ rw (table-is, file .is, program-is s (file .is) bytes) (whole-budget o (linearProgram (file .templates)) b (startState (m .globals) 0))
+      h ∙ rw (table-is, file .is, program-is s (was .size) (file .is) bytes) (whole-budget o (linearProgram (file .templates)) b (startState (m .globals) 0))
 
 -- ---- a file that was read before
+all-rows : (s : List ℕ) → ZerosFor s (zeros 16384)
+all-rows s = record { size = 16384; room = λ few. omega arith; zero = refl }
+
 module _ (s table : List ℕ) (t : TableOf s table) where
   pub again-within : AllWithin s table
-  again-within = file-within s (zeros 16384) table (Read (t .count)) (sym (t .read)) refl (t .filled) (t .count) refl
+  again-within = file-within s (zeros 16384) table (Read (t .count)) (sym (t .read)) (all-rows s) (t .filled) (t .count) refl
 
   pub again-ran : (o : Owner) (b : ℕ) (m : Memory) (r : Ran) → AllBytes s → r ≡ ranFrom o (bytesProgram s table) b 0 (startState (m .globals) 0)
       → r ≡ onLinear o b m (linearRead s)
-  again-ran = file-ran s (zeros 16384) table (Read (t .count)) (sym (t .read)) refl (t .filled) (t .count) refl
+  again-ran = file-ran s (zeros 16384) table (Read (t .count)) (sym (t .read)) (all-rows s) (t .filled) (t .count) refl
 
 -- ---- a file that is refused
 pub file-refused : (s : List ℕ) (x : LinearFile) (o : Owner) (b : ℕ) (m : Memory) (n : ℕ) (p : BitPlace) (r : Run) → x ≡ linearTold (linearRead s) → x ≡ Refused n p → r ≡ refusal n (p .0)

@@ -6,12 +6,14 @@ use machines::Run;
 use machines::Start;
 use owners::Owner;
 ghost use mathlib.Core.Path.{_≡_};
+ghost use Prim.Native.Nat.{_*_, _≤_};
 ghost use Rattle.files.specs.Linear.{linearRead};
+ghost use Rattle.files.specs.Room.{RoomFor};
 ghost use Rattle.machines.specs.Runs.{lent, ran, startState, onLinear, linearRun};
-ghost use Rattle.machines.specs.Start.{zeros, MayStart, startRefusal};
+ghost use Rattle.machines.specs.Start.{MayStart, startRefusal};
 ghost use Rattle.machines.specs.Steps.{ranFrom};
 ghost use Rattle.linear_code.specs.Bytes.{bytesProgram, AllWithin};
-ghost use Rattle.linear_machine.specs.Again.{TableOf};
+ghost use Rattle.linear_machine.specs.Again.{ZerosFor, TableOf};
 
 // The run of a file that is read, where the table is its table. Linear code has no links.
 fn run_read(
@@ -44,7 +46,7 @@ fn run_read(
     )
 }
 
-// The run of a file, with a table of zeros for it to fill.
+// The run of a file, with a table of zeros for it to fill, which has a row for each of its templates.
 fn run_file(
     file: &[u8],
     table: &mut [u64],
@@ -55,7 +57,7 @@ fn run_file(
     store: &mut [u64],
     frames: &mut [u64],
 ) -> Run
-    requires { ⌜ MayStart 2000000 budget (lent globals stack store frames) × (now table ≡ zeros 16384) ⌝ }
+    requires { ⌜ MayStart 2000000 budget (lent globals stack store frames) × ZerosFor (now file) (now table) ⌝ }
     ensures { λ x. ⌜ ran x (lent (globals .exit) (stack .exit) (store .exit) (frames .exit))
         ≡ onLinear owner budget (lent (globals .entry) (stack .entry) (store .entry) (frames .entry)) (linearRead (now (file .entry))) ⌝ }
 {
@@ -65,8 +67,62 @@ fn run_file(
     }
 }
 
-// The run of a file where 20, 21, 31 and 22 are not given.
-fn run_accepted(
+// The same with a table of its own, for a file of at most 4 templates. Most files have few, and zeroing 64 rows would cost more than their runs.
+fn run_4(
+    file: &[u8],
+    budget: u64,
+    owner: Owner,
+    globals: &mut [u64],
+    stack: &mut [u64],
+    store: &mut [u64],
+    frames: &mut [u64],
+) -> Run
+    requires { ⌜ MayStart 2000000 budget (lent globals stack store frames) × RoomFor (now file) 1024 ⌝ }
+    ensures { λ x. ⌜ ran x (lent (globals .exit) (stack .exit) (store .exit) (frames .exit))
+        ≡ onLinear owner budget (lent (globals .entry) (stack .entry) (store .entry) (frames .entry)) (linearRead (now (file .entry))) ⌝ }
+{
+    let mut table = [0u64; 1024];
+    run_file(
+        file,
+        &mut table,
+        budget,
+        owner,
+        globals,
+        stack,
+        store,
+        frames,
+    )
+}
+
+// For a file of at most 16.
+fn run_16(
+    file: &[u8],
+    budget: u64,
+    owner: Owner,
+    globals: &mut [u64],
+    stack: &mut [u64],
+    store: &mut [u64],
+    frames: &mut [u64],
+) -> Run
+    requires { ⌜ MayStart 2000000 budget (lent globals stack store frames) × RoomFor (now file) 4096 ⌝ }
+    ensures { λ x. ⌜ ran x (lent (globals .exit) (stack .exit) (store .exit) (frames .exit))
+        ≡ onLinear owner budget (lent (globals .entry) (stack .entry) (store .entry) (frames .entry)) (linearRead (now (file .entry))) ⌝ }
+{
+    let mut table = [0u64; 4096];
+    run_file(
+        file,
+        &mut table,
+        budget,
+        owner,
+        globals,
+        stack,
+        store,
+        frames,
+    )
+}
+
+// For any file.
+fn run_64(
     file: &[u8],
     budget: u64,
     owner: Owner,
@@ -92,6 +148,53 @@ fn run_accepted(
     )
 }
 
+// How many rows a table for the file has: 4, 16 or 64.
+fn rows_for(file: &[u8]) -> usize
+    ensures { λ r. ⌜ (1 ≤ r) × RoomFor (now (file .entry)) (256 * r) ⌝ }
+{
+    let count = files::count_of(file);
+    if count <= 4 {
+        return 4;
+    }
+    if count <= 16 {
+        return 16;
+    }
+    64
+}
+
+// The run of a file where 20, 21, 31 and 22 are not given, with a table of `rows` rows, where 0 are as many as it takes. That it calls itself keeps
+// the three tables out of one frame.
+fn run_rows(
+    file: &[u8],
+    rows: usize,
+    budget: u64,
+    owner: Owner,
+    globals: &mut [u64],
+    stack: &mut [u64],
+    store: &mut [u64],
+    frames: &mut [u64],
+) -> Run
+    requires { ⌜ MayStart 2000000 budget (lent globals stack store frames) × (1 ≤ rows → RoomFor (now file) (256 * rows)) ⌝ }
+    ensures { λ x. ⌜ ran x (lent (globals .exit) (stack .exit) (store .exit) (frames .exit))
+        ≡ onLinear owner budget (lent (globals .entry) (stack .entry) (store .entry) (frames .entry)) (linearRead (now (file .entry))) ⌝ }
+{
+    match rows {
+        0 => run_rows(
+            file,
+            rows_for(file),
+            budget,
+            owner,
+            globals,
+            stack,
+            store,
+            frames,
+        ),
+        4 => run_4(file, budget, owner, globals, stack, store, frames),
+        16 => run_16(file, budget, owner, globals, stack, store, frames),
+        _ => run_64(file, budget, owner, globals, stack, store, frames),
+    }
+}
+
 pub fn run_linear(
     file: &[u8],
     budget: u64,
@@ -107,7 +210,7 @@ pub fn run_linear(
     match machines::start_refusal(globals, stack, store, frames, budget, 2_000_000, owner) {
         Start::Go => {
             let whose = owners::owner_of(owner);
-            run_accepted(file, budget, whose, globals, stack, store, frames)
+            run_rows(file, 0, budget, whose, globals, stack, store, frames)
         }
         Start::Refused(number, place) => machines::refused(number, place),
     }

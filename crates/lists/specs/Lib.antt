@@ -2,4 +2,5 @@
 pub mod Sets
 pub mod Facts
 pub mod Pass
+pub mod Marks
 pub mod laws

@@ -1,9 +1,10 @@
 -- The facts of a list in one pass: what each instruction adds, from the first to the last.
-use Prim.Native.Nat.{ℕ, _+_}
+use Prim.Native.Nat.{ℕ, zero, suc, _+_}
 use mathlib.Core.Bool.{Bool, true, false, cond, _&&_, _||_}
-use mathlib.Core.List.{List}
+use mathlib.Core.List.{List, [], _∷_}
 use lib.ListN.{length, getD}
 use lib.Dec.{leb, ltb, eqb}
+use Rattle.fields.specs.Field.{fieldAt}
 use Rattle.files.specs.Code.{Code, done, neutral, return, call, unless-false, make-cont, Instr, neutral-i, return-i, call-i, unless-i, cont-i}
 use Rattle.files.specs.Reading.{Got, got, refused, Head, stop, item, bad, bottom, below, shaped, listAt}
 use Rattle.files.specs.Flat.{fitsOffset, armsFit}
@@ -138,3 +139,8 @@ simpleAt s v q k = shaped s bottom 0 v q k
 
 abbrev pub deepAt : List ℕ → ℕ → ℕ → ℕ → Head
 deepAt s levels q k = shaped s (below (listAt s levels)) 0 0 q k
+
+-- n operands from p on
+unfoldable pub operandsAt : List ℕ → ℕ → ℕ → List ℕ
+operandsAt s p zero = []
+operandsAt s p (suc n) = fieldAt s p 8 ∷ operandsAt s (p + 8) n

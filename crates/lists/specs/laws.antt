@@ -3,5 +3,8 @@ pub mod SetsLaws
 pub mod Each
 pub mod PassLaws
 pub mod ReadLaws
+pub mod MarksLaws
+pub mod MarkSteps
+pub mod Known
 pub mod SlotLaws
 pub mod Rows

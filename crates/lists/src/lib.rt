@@ -11,6 +11,7 @@ ghost use Rattle.files.specs.Flat.{armsFit};
 ghost use Rattle.files.specs.Reading.{headAt, deepOf, listAt};
 ghost use Rattle.lists.specs.Sets.{unite};
 ghost use Rattle.lists.specs.Facts.{slotFits, slotNamed, slotCloses, listed};
+ghost use Rattle.lists.specs.Marks.{sizeMark, markBy, markAt, mark, headMarked, listMarked};
 ghost use Rattle.lists.specs.Pass.{classesAfter, isSave, stateAfter, begun, finish, simpleAdded, conditionalKind, conditionalSize, conditionalAdded};
 ghost use Rattle.lists.specs.Pass.{saveKind, saveAdded, simpleAt, deepAt, itemed};
 
@@ -28,6 +29,12 @@ pub struct Facts {
 pub enum Listed {
     Done(BitPlace, Facts),
     Refused(u8, BitPlace),
+}
+
+// What reading keeps of each list, by the place where it begins: twice the size of its flat code and 1 if it is closed, or the place past it.
+pub enum Keep {
+    Sizes,
+    Pasts,
 }
 
 // What an instruction does to the class of the list that it begins.
@@ -396,6 +403,48 @@ fn finished(st: State) -> Facts
     }
 }
 
+// ---- marks
+
+// Twice a size, and 1 more for a closed list.
+fn size_mark(closed: bool, size: usize) -> u32
+    requires { ⌜ size ≤ 1048576 ⌝ }
+    ensures { λ r. ⌜ r ≡ sizeMark closed size ⌝ }
+{
+    let twice = 2 * size as u32;
+    if closed { twice + 1 } else { twice }
+}
+
+// The mark of a list with these facts and a place past it.
+fn mark_of(keep: Keep, facts: Facts, past: BitPlace) -> u32
+    requires { ⌜ (facts .size ≤ 1048576) × (past .0 ≤ 524288) ⌝ }
+    ensures { λ r. ⌜ r ≡ markBy keep facts (past .0) ⌝ }
+{
+    match keep {
+        Keep::Sizes => size_mark(facts.class == 2, facts.size),
+        Keep::Pasts => past.to_link(),
+    }
+}
+
+// A mark past the end is not kept.
+fn set_mark(marks: &mut [u32], at: BitPlace, value: u32)
+    ensures { λ _. ⌜ now (marks .exit) ≡ mark (now (marks .entry)) (at .0) value ⌝ }
+{
+    let i = at.link_index();
+    if i < marks.len() {
+        marks[i] = value;
+    }
+}
+
+// The mark of a place, 0 where there is none.
+pub fn mark_at(marks: &[u32], at: BitPlace) -> u32
+    ensures { λ r. ⌜ r ≡ markAt (now (marks .entry)) (at .0) ⌝ }
+{
+    let i = at.link_index();
+    if i < marks.len() { marks[i] } else { 0 }
+}
+
+// ---- reading
+
 // An instruction without lists whose code ends at a place, by its code's shape.
 fn read_simple(s: &[u8], table: &[u64], own: usize, at: BitPlace, code: u32, shape: u8) -> Item
     requires { ⌜ (length (now s) ≤ 65536) × (length (now table) ≡ 16384) × (own < 64) × (shapeOf code ≡ shape) × (1 ≤ shape) × (shape ≤ 3) ⌝ }
@@ -417,12 +466,21 @@ fn read_simple(s: &[u8], table: &[u64], own: usize, at: BitPlace, code: u32, sha
 }
 
 // An unless-false whose code ends at a place, with `levels` levels left below its arms.
-fn read_conditional(s: &[u8], table: &[u64], own: usize, at: BitPlace, levels: usize) -> Item
+fn read_conditional(
+    s: &[u8],
+    table: &[u64],
+    own: usize,
+    at: BitPlace,
+    levels: usize,
+    keep: Keep,
+    marks: &mut [u32],
+) -> Item
     requires { ⌜ (length (now s) ≤ 65536) × (length (now table) ≡ 16384) × (own < 64) ⌝ }
     ensures { λ r. ⌜ r ≡ itemed (now (table .entry)) own (deepAt (now (s .entry)) levels (at .0) 4) ⌝ }
+    ensures { λ _. ⌜ headMarked keep (now (marks .entry)) (now (marks .exit)) (at .0) (deepAt (now (s .entry)) levels (at .0) 4) ⌝ }
 {
-    match read_list(s, table, own, at, levels) {
-        Listed::Done(mid, x) => match read_list(s, table, own, mid, levels) {
+    match read_list(s, table, own, at, levels, keep, marks) {
+        Listed::Done(mid, x) => match read_list(s, table, own, mid, levels, keep, marks) {
             Listed::Done(last, y) => Item::More(last, conditional_added(x, y)),
             Listed::Refused(no, place) => Item::Bad(no, place),
         },
@@ -431,23 +489,41 @@ fn read_conditional(s: &[u8], table: &[u64], own: usize, at: BitPlace, levels: u
 }
 
 // A make-cont whose code ends at a place, with `levels` levels left below its saved list.
-fn read_make_cont(s: &[u8], table: &[u64], own: usize, at: BitPlace, levels: usize) -> Item
+fn read_make_cont(
+    s: &[u8],
+    table: &[u64],
+    own: usize,
+    at: BitPlace,
+    levels: usize,
+    keep: Keep,
+    marks: &mut [u32],
+) -> Item
     requires { ⌜ (length (now s) ≤ 65536) × (length (now table) ≡ 16384) × (own < 64) ⌝ }
     ensures { λ r. ⌜ r ≡ itemed (now (table .entry)) own (deepAt (now (s .entry)) levels (at .0) 5) ⌝ }
+    ensures { λ _. ⌜ headMarked keep (now (marks .entry)) (now (marks .exit)) (at .0) (deepAt (now (s .entry)) levels (at .0) 5) ⌝ }
 {
     let Field::Read(_, saved) = fields::read_field(s, at, 8) else {
         return Item::Bad(2, at);
     };
-    match read_list(s, table, own, saved, levels) {
+    match read_list(s, table, own, saved, levels, keep, marks) {
         Listed::Done(last, x) => Item::More(last, save_added(x)),
         Listed::Refused(no, place) => Item::Bad(no, place),
     }
 }
 
 // What begins the list at a place, with `levels` levels left below it.
-fn read_instr(s: &[u8], table: &[u64], own: usize, at: BitPlace, levels: usize) -> Item
+fn read_instr(
+    s: &[u8],
+    table: &[u64],
+    own: usize,
+    at: BitPlace,
+    levels: usize,
+    keep: Keep,
+    marks: &mut [u32],
+) -> Item
     requires { ⌜ (length (now s) ≤ 65536) × (length (now table) ≡ 16384) × (own < 64) ⌝ }
     ensures { λ r. ⌜ r ≡ itemed (now (table .entry)) own (headAt (now (s .entry)) (deepOf (now (s .entry)) levels) (at .0)) ⌝ }
+    ensures { λ _. ⌜ headMarked keep (now (marks .entry)) (now (marks .exit)) (at .0 + 5) (headAt (now (s .entry)) (deepOf (now (s .entry)) levels) (at .0)) ⌝ }
 {
     let Field::Read(code, next) = fields::read_field(s, at, 5) else {
         return Item::Bad(2, at);
@@ -461,9 +537,9 @@ fn read_instr(s: &[u8], table: &[u64], own: usize, at: BitPlace, levels: usize) 
                 return Item::Bad(4, at);
             }
             if shape == 4 {
-                read_conditional(s, table, own, next, levels - 1)
+                read_conditional(s, table, own, next, levels - 1, keep, marks)
             } else {
-                read_make_cont(s, table, own, next, levels - 1)
+                read_make_cont(s, table, own, next, levels - 1, keep, marks)
             }
         }
         _ => Item::Bad(3, at),
@@ -471,17 +547,28 @@ fn read_instr(s: &[u8], table: &[u64], own: usize, at: BitPlace, levels: usize) 
 }
 
 // The list at a place of template `own`, with `levels` levels left below it. `table` is the run's table, whose row `own` has the
-// template's entries.
-pub fn read_list(s: &[u8], table: &[u64], own: usize, at: BitPlace, levels: usize) -> Listed
+// template's entries. Of each list that is read it keeps a mark, where `marks` has room for it: at the list's first place (`link_index`).
+pub fn read_list(
+    s: &[u8],
+    table: &[u64],
+    own: usize,
+    at: BitPlace,
+    levels: usize,
+    keep: Keep,
+    marks: &mut [u32],
+) -> Listed
     requires { ⌜ (length (now s) ≤ 65536) × (length (now table) ≡ 16384) × (own < 64) ⌝ }
     ensures { λ r. ⌜ r ≡ listed (now (table .entry)) own (listAt (now (s .entry)) levels (at .0)) ⌝ }
+    ensures { λ _. ⌜ listMarked keep (now (marks .entry)) (now (marks .exit)) (at .0) (listAt (now (s .entry)) levels (at .0)) ⌝ }
 {
     let mut here = at;
     let mut st = begin();
     loop {
-        match read_instr(s, table, own, here, levels) {
+        match read_instr(s, table, own, here, levels, keep, marks) {
             Item::End(next) => {
-                return Listed::Done(next, finished(st));
+                let facts = finished(st);
+                set_mark(marks, at, mark_of(keep, facts, next));
+                return Listed::Done(next, facts);
             }
             Item::More(next, more) => {
                 here = next;

@@ -1,4 +1,5 @@
 -- The specs of the crate tree.
 pub mod Summary
 pub mod Filled
+pub mod Marked
 pub mod laws

@@ -4,4 +4,6 @@ pub mod SummaryLaws
 pub mod FilledLaws
 pub mod TemplateSteps
 pub mod TreeSteps
+pub mod MarkedSteps
+pub mod Laid
 pub mod Judged

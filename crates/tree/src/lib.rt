@@ -5,6 +5,7 @@ use fields::Field;
 use files::Entries;
 use files::Padding;
 use lists::Facts;
+use lists::Keep;
 use lists::Listed;
 ghost use mathlib.Core.Path.{_≡_};
 ghost use Prim.Native.Nat.{_+_, _*_, _-_, _/_, _≤_, _<_};
@@ -14,6 +15,7 @@ ghost use Rattle.files.specs.Accepted.{treeChecked, treeAccepted};
 ghost use Rattle.files.specs.EntriesRead.{paddingTold};
 ghost use Rattle.files.specs.RowFilled.{Unfilled};
 ghost use Rattle.tree.specs.Summary.{lower, reportBy, summaryAfter, templateTold, templatesTold, treeTold, lowestMissing, judgedTold, checkedTold};
+ghost use Rattle.tree.specs.Marked.{templateMarked, templatesMarked};
 ghost use Rattle.tree.specs.Filled.{templateFilled, templatesFilled, treeFilled};
 
 // What is to be known of a template: whether its list is closed, its instructions name fit indices, its offsets fit; how many bytes it
@@ -115,10 +117,13 @@ fn read_template(
     own: usize,
     count: usize,
     at: BitPlace,
+    keep: Keep,
+    marks: &mut [u32],
 ) -> TemplateRead
     requires { ⌜ (length (now s) ≤ 65536) × ((own < 64) × ((count ≤ 64) × Unfilled own (now table))) ⌝ }
     ensures { λ r. ⌜ r ≡ templateTold (templateAt (now (s .entry)) own count (at .0)) ⌝ }
     ensures { λ _. ⌜ now (table .exit) ≡ templateFilled (now (s .entry)) own count (at .0) (now (table .entry)) ⌝ }
+    ensures { λ _. ⌜ templateMarked keep (now (marks .entry)) (now (marks .exit)) (templateAt (now (s .entry)) own count (at .0)) ⌝ }
 {
     let Field::Read(n, first) = fields::read_field(s, at, 8) else {
         return TemplateRead::Refused(2, at);
@@ -126,7 +131,7 @@ fn read_template(
     match files::read_entries(s, table, own, count, n as usize, first) {
         Entries::Read(start) => {
             table[256 * own] = start.to_slot();
-            match lists::read_list(s, table, own, start, 15) {
+            match lists::read_list(s, table, own, start, 15, keep, marks) {
                 Listed::Done(past, facts) => {
                     TemplateRead::Done(past, report_by(facts, start.since(first)))
                 }
@@ -138,10 +143,18 @@ fn read_template(
 }
 
 // The `count` templates, from `at` on.
-fn read_templates(s: &[u8], table: &mut [u64], count: usize, at: BitPlace) -> TemplatesRead
+fn read_templates(
+    s: &[u8],
+    table: &mut [u64],
+    count: usize,
+    at: BitPlace,
+    keep: Keep,
+    marks: &mut [u32],
+) -> TemplatesRead
     requires { ⌜ (length (now s) ≤ 65536) × ((count ≤ 64) × Unfilled 0 (now table)) ⌝ }
     ensures { λ r. ⌜ r ≡ templatesTold (templatesAt (now (s .entry)) count 0 count (at .0)) ⌝ }
     ensures { λ _. ⌜ now (table .exit) ≡ templatesFilled (now (s .entry)) count 0 count (at .0) (now (table .entry)) ⌝ }
+    ensures { λ _. ⌜ templatesMarked keep (now (marks .entry)) (now (marks .exit)) (templatesAt (now (s .entry)) count 0 count (at .0)) ⌝ }
 {
     let mut own: usize = 0;
     let mut here = at;
@@ -154,7 +167,7 @@ fn read_templates(s: &[u8], table: &mut [u64], count: usize, at: BitPlace) -> Te
         closes: 0,
     };
     while own < count {
-        match read_template(s, table, own, count, here) {
+        match read_template(s, table, own, count, here, keep, marks) {
             TemplateRead::Done(past, report) => {
                 here = past;
                 sum = summary_after(own as u8, report, sum);
@@ -179,11 +192,12 @@ fn read_end(s: &[u8], at: BitPlace) -> Padding
     }
 }
 
-// Reads a tree file, and fills a run's table.
-pub fn read_tree(s: &[u8], table: &mut [u64]) -> TreeFile
+// Reads a tree file, fills a run's table, and marks its lists as far as there is room.
+pub fn read_tree(s: &[u8], table: &mut [u64], keep: Keep, marks: &mut [u32]) -> TreeFile
     requires { ⌜ now table ≡ replicate 16384 0 ⌝ }
     ensures { λ r. ⌜ r ≡ treeTold (treeRead (now (s .entry))) ⌝ }
     ensures { λ _. ⌜ now (table .exit) ≡ treeFilled (now (s .entry)) ⌝ }
+    ensures { λ _. ⌜ templatesMarked keep (now (marks .entry)) (now (marks .exit)) (treeRead (now (s .entry))) ⌝ }
 {
     if 65536 < s.len() {
         return TreeFile::Refused(1, BitPlace(0));
@@ -197,7 +211,7 @@ pub fn read_tree(s: &[u8], table: &mut [u64]) -> TreeFile
     if 64 < count {
         return TreeFile::Refused(3, BitPlace(0));
     }
-    match read_templates(s, table, count as usize, first) {
+    match read_templates(s, table, count as usize, first, keep, marks) {
         TemplatesRead::Done(past, sum) => match read_end(s, past) {
             Padding::Zero(_) => TreeFile::Read(sum),
             Padding::Refused(place) => TreeFile::Refused(5, place),
@@ -223,12 +237,13 @@ fn lowest_missing(set: u64, count: u8) -> u8
 }
 
 // Reads and judges a file, 1 to 7, and fills a run's table.
-pub fn read_checked(s: &[u8], table: &mut [u64]) -> Judged
+pub fn read_checked(s: &[u8], table: &mut [u64], keep: Keep, marks: &mut [u32]) -> Judged
     requires { ⌜ now table ≡ replicate 16384 0 ⌝ }
     ensures { λ r. ⌜ r ≡ judgedTold (treeChecked (now (s .entry))) ⌝ }
     ensures { λ _. ⌜ now (table .exit) ≡ treeFilled (now (s .entry)) ⌝ }
+    ensures { λ _. ⌜ templatesMarked keep (now (marks .entry)) (now (marks .exit)) (treeRead (now (s .entry))) ⌝ }
 {
-    match read_tree(s, table) {
+    match read_tree(s, table, keep, marks) {
         TreeFile::Read(sum) => {
             if sum.unclosed < 64 {
                 return Judged::Refused(6, sum.unclosed as usize);
@@ -243,12 +258,13 @@ pub fn read_checked(s: &[u8], table: &mut [u64]) -> Judged
 }
 
 // The same with 24.
-pub fn read_accepted(s: &[u8], table: &mut [u64]) -> Judged
+pub fn read_accepted(s: &[u8], table: &mut [u64], keep: Keep, marks: &mut [u32]) -> Judged
     requires { ⌜ now table ≡ replicate 16384 0 ⌝ }
     ensures { λ r. ⌜ r ≡ judgedTold (treeAccepted (now (s .entry))) ⌝ }
     ensures { λ _. ⌜ now (table .exit) ≡ treeFilled (now (s .entry)) ⌝ }
+    ensures { λ _. ⌜ templatesMarked keep (now (marks .entry)) (now (marks .exit)) (treeRead (now (s .entry))) ⌝ }
 {
-    match read_checked(s, table) {
+    match read_checked(s, table, keep, marks) {
         Judged::Accepted(sum) => {
             let orphan = lowest_missing(sum.closes, sum.count);
             if orphan < 64 {
@@ -265,7 +281,8 @@ pub fn check_tree(s: &[u8]) -> Checked
     ensures { λ r. ⌜ r ≡ checkedTold (treeAccepted (now (s .entry))) ⌝ }
 {
     let mut table = [0u64; 16384];
-    match read_accepted(s, &mut table) {
+    let mut no_marks = [0u32; 1];
+    match read_accepted(s, &mut table, Keep::Sizes, &mut no_marks) {
         Judged::Accepted(_) => Checked::Accepted,
         Judged::Refused(no, place) => Checked::Refused(no, place),
     }

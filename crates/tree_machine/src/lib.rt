@@ -1,5 +1,6 @@
 // The machine of tree code (document 01, 'Rules').
 use cells::BitPlace;
+use lists::Keep;
 use machines::CodePlace;
 use machines::Run;
 use machines::Start;
@@ -10,11 +11,11 @@ ghost use Prim.Native.Nat.{_*_, _≤_};
 ghost use lib.ListN.{length};
 ghost use Rattle.files.specs.Tree.{treeRead};
 ghost use Rattle.files.specs.Accepted.{treeAccepted};
-ghost use Rattle.links.specs.TreeSteps.{FileReady};
+ghost use Rattle.links.specs.TreeSteps.{FileReady, FileMarked};
 ghost use Rattle.machines.specs.Runs.{lent, ran, onTree, treeRun};
 ghost use Rattle.machines.specs.Start.{zeros, MayStart};
 
-// The run of a file that is accepted, where the table is its table and has `count` templates, with links of zeros for it to fill.
+// The run of a file that is accepted, where the table is its table and has `count` templates, and the links are what reading kept of its lists.
 fn run_linked(
     file: &[u8],
     table: &[u64],
@@ -28,7 +29,7 @@ fn run_linked(
     frames: &mut [u64],
 ) -> Run
     requires { ⌜ MayStart 1000000 budget (lent globals stack store frames) × FileReady (now file) (now table) count × (length (now table) ≡ 16384)
-        × (treeAccepted (now file) ≡ treeRead (now file)) × (8 * length (now file) ≤ 5 * length (now links)) ⌝ }
+        × (treeAccepted (now file) ≡ treeRead (now file)) × (8 * length (now file) ≤ 5 * length (now links)) × FileMarked (now file) (now links) ⌝ }
     ensures { λ x. ⌜ ran x (lent (globals .exit) (stack .exit) (store .exit) (frames .exit))
         ≡ onTree owner budget (lent (globals .entry) (stack .entry) (store .entry) (frames .entry)) (treeAccepted (now (file .entry))) ⌝ }
 {
@@ -48,12 +49,11 @@ fn run_linked(
     )
 }
 
-// The same, with links of its own: one for each 5 bits. Most sheets are short, and zeroing the links of the longest would cost more than
-// their runs.
-fn run_read(
+// The run of a file where 20, 21, 31 and 22 are not given. The table is zeros; the links are for it to fill.
+fn run_marked(
     file: &[u8],
-    table: &[u64],
-    count: usize,
+    table: &mut [u64],
+    links: &mut [u32],
     budget: u64,
     owner: Owner,
     globals: &mut [u64],
@@ -61,43 +61,30 @@ fn run_read(
     store: &mut [u64],
     frames: &mut [u64],
 ) -> Run
-    requires { ⌜ MayStart 1000000 budget (lent globals stack store frames) × FileReady (now file) (now table) count × (length (now table) ≡ 16384)
-        × (treeAccepted (now file) ≡ treeRead (now file)) ⌝ }
+    requires { ⌜ MayStart 1000000 budget (lent globals stack store frames) × (now table ≡ zeros 16384)
+        × (length (now file) ≤ 65536 → 8 * length (now file) ≤ 5 * length (now links)) ⌝ }
     ensures { λ x. ⌜ ran x (lent (globals .exit) (stack .exit) (store .exit) (frames .exit))
         ≡ onTree owner budget (lent (globals .entry) (stack .entry) (store .entry) (frames .entry)) (treeAccepted (now (file .entry))) ⌝ }
 {
-    if file.len() <= 4096 {
-        let mut links = [0u32; 6554];
-        run_linked(
+    match tree::read_accepted(file, table, Keep::Pasts, links) {
+        Judged::Accepted(sum) => run_linked(
             file,
             table,
-            count,
-            &mut links,
+            sum.count as usize,
+            links,
             budget,
             owner,
             globals,
             stack,
             store,
             frames,
-        )
-    } else {
-        let mut links = [0u32; 104858];
-        run_linked(
-            file,
-            table,
-            count,
-            &mut links,
-            budget,
-            owner,
-            globals,
-            stack,
-            store,
-            frames,
-        )
+        ),
+        Judged::Refused(number, place) => machines::refused(number, place),
     }
 }
 
-// The run of a file where 20, 21, 31 and 22 are not given. The table is zeros.
+// The same, with links of its own: one for each 5 bits. Most sheets are short, and zeroing the links of the longest would cost more than
+// their runs.
 fn run_file(
     file: &[u8],
     table: &mut [u64],
@@ -112,19 +99,32 @@ fn run_file(
     ensures { λ x. ⌜ ran x (lent (globals .exit) (stack .exit) (store .exit) (frames .exit))
         ≡ onTree owner budget (lent (globals .entry) (stack .entry) (store .entry) (frames .entry)) (treeAccepted (now (file .entry))) ⌝ }
 {
-    match tree::read_accepted(file, table) {
-        Judged::Accepted(sum) => run_read(
+    if file.len() <= 4096 {
+        let mut links = [0u32; 6554];
+        run_marked(
             file,
             table,
-            sum.count as usize,
+            &mut links,
             budget,
             owner,
             globals,
             stack,
             store,
             frames,
-        ),
-        Judged::Refused(number, place) => machines::refused(number, place),
+        )
+    } else {
+        let mut links = [0u32; 104858];
+        run_marked(
+            file,
+            table,
+            &mut links,
+            budget,
+            owner,
+            globals,
+            stack,
+            store,
+            frames,
+        )
     }
 }
 

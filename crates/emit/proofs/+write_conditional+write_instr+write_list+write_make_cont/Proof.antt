@@ -3,7 +3,7 @@
 use lib.ListN.{length-set}
 use Rattle.fields.specs.laws.Laws.{field-small}
 use Rattle.files.specs.Codes.{shapeOf}
-use Rattle.emit.specs.laws.Known.{head-within}
+use Rattle.lists.specs.laws.Known.{head-within}
 use Rattle.emit.specs.laws.Steps.{deeper-arms, item-arms, arms-item, deeper-saved, item-saved, saved-item, plain, plain-room, plain-item}
 use Rattle.emit.specs.laws.Steps.{saved-size, saved-cut, saved-rest, saved-to-write, saved-done}
 use Rattle.emit.specs.laws.Steps.{left-all, left-within, left-none, left-item, left-less, next-is, back-less, left-next}
@@ -11,7 +11,7 @@ use Prim.Native.Nat.{_+_, _*_, _-_, _≤_}
 use native.Mathlib.Omega.{arith}
 use mathlib.Core.Path.{_≡_, refl, sym, ap, _∙_}
 use lib.ListN.{length}
-use Rattle.emit.specs.laws.Steps.{arms-room, arms-near, jump-near, first-to-write, second-to-write, arms-done}
+use Rattle.emit.specs.laws.Steps.{first-room, arms-room, arms-near, jump-near, first-to-write, second-to-write, arms-done}
 use Rattle.emit.specs.laws.Steps.{Left}
 use borrow.Author.Needs.{needs}
 use Prim.Native.Nat.{ℕ, _<_}
@@ -41,16 +41,16 @@ use Rattle.emit.proofs.+write_conditional+write_instr+write_list+write_
 use Rattle.emit.proofs.+write_conditional+write_instr+write_list+write_make_cont.Tie.{close}
 
 abbrev μ-write-conditional : Measures 3 write-conditional-kinds.ps ℕ
-μ-write-conditional κs a = 3 * a .1 .1 .1 .1 .0 + 3
+μ-write-conditional κs a = 3 * a .1 .1 .1 .0 + 3
 
 abbrev μ-write-instr : Measures 3 write-instr-kinds.ps ℕ
-μ-write-instr κs a = 3 * a .1 .1 .1 .1 .0 + 1
+μ-write-instr κs a = 3 * a .1 .1 .1 .0 + 1
 
 abbrev μ-write-list : Measures 3 write-list-kinds.ps ℕ
-μ-write-list κs a = 3 * a .1 .1 .1 .1 .0 + 2
+μ-write-list κs a = 3 * a .1 .1 .1 .0 + 2
 
 abbrev μ-write-make-cont : Measures 3 write-make-cont-kinds.ps ℕ
-μ-write-make-cont κs a = 3 * a .1 .1 .1 .1 .0 + 3
+μ-write-make-cont κs a = 3 * a .1 .1 .1 .0 + 3
 
 abbrev write-conditional-at : ℕ → In 3 write-conditional-kinds.ps
 write-conditional-at t =
@@ -104,7 +104,7 @@ abbrev write-conditional-calls : ℕ → write-conditional-lts.Claims
 write-conditional-calls t = (measure-reads.Asked, measure-reads.Learnt, gap-reads.Asked, gap-reads.Learnt, put-offset-reads.Asked, put-offset-reads.Learnt, write-list-below t, write-list.Post, put-jump-reads.Asked, put-jump-reads.Learnt)
 
 abbrev write-instr-calls : ℕ → write-instr-lts.Claims
-write-instr-calls t = (bits-at-reads.Asked, bits-at-reads.Learnt, shape-of-reads.Asked, shape-of-reads.Learnt, past-reads.Asked, past-reads.Learnt, write-conditional-below t, write-conditional.Post, write-make-cont-below t, write-make-cont.Post, write-simple-reads.Asked, write-simple-reads.Learnt)
+write-instr-calls t = (past-reads.Asked, past-reads.Learnt, write-conditional-below t, write-conditional.Post, bits-at-reads.Asked, bits-at-reads.Learnt, write-make-cont-below t, write-make-cont.Post, write-simple-reads.Asked, write-simple-reads.Learnt)
 
 abbrev write-list-calls : ℕ → write-list-lts.Claims
 write-list-calls t = (bits-at-reads.Asked, bits-at-reads.Learnt, shape-of-reads.Asked, shape-of-reads.Learnt, past-reads.Asked, past-reads.Learnt, write-instr-below t, write-instr.Post)
@@ -113,199 +113,184 @@ abbrev write-make-cont-calls : ℕ → write-make-cont-lts.Claims
 write-make-cont-calls t = (measure-reads.Asked, measure-reads.Learnt, put-offset-reads.Asked, put-offset-reads.Learnt, write-list-below t, write-list.Post)
 
 write-conditional-measure-requires : (t : ℕ) → write-conditional-lts.Need-measure-requires (write-conditional-calls t) (write-conditional-at t) write-conditional.Post
-write-conditional-measure-requires t c κs = (c .before .before .before .pre .1 .0, c .before .before .before .pre .1 .1, c .before .before .before .pre .1 .2)
+write-conditional-measure-requires t c κs = search needs
 
 write-conditional-measure-requires-2 : (t : ℕ) → write-conditional-lts.Need-measure-requires-2 (write-conditional-calls t) (write-conditional-at t) write-conditional.Post
-write-conditional-measure-requires-2 t c κs = (c .before .before .before .before .before .pre .1 .0, c .before .before .before .before .before .pre .1 .1, c .before .before .before .before .before .pre .1 .2)
+write-conditional-measure-requires-2 t c κs = search needs
 
 write-conditional-gap-requires : (t : ℕ) → write-conditional-lts.Need-gap-requires (write-conditional-calls t) (write-conditional-at t) write-conditional.Post
 write-conditional-gap-requires t c κs = search needs
 
 write-conditional-add-turn : (t : ℕ) → write-conditional-lts.Need-add-turn (write-conditional-calls t) (write-conditional-at t) write-conditional.Post
-write-conditional-add-turn t c = omega (arith, arms-room (c .before .before .before .before .before .before .before .pre .1 .4) _ _ _ (c .before .before .before .measure .ensures) (c .before .measure2 .ensures) (c .gap .ensures), c .before .before .before .before .before .before .before .pre .1 .4 .room, c .before .before .before .before .before .before .before .pre .1 .3)
+write-conditional-add-turn t c = omega (arith, first-room (c .before .before .before .before .before .pre .1 .2) _ _ (c .before .measure .ensures) (c .gap .ensures), c .before .before .before .before .before .pre .1 .2 .room, c .before .before .before .before .before .pre .1 .1)
 
 write-conditional-add-turn-2 : (t : ℕ) → write-conditional-lts.Need-add-turn-2 (write-conditional-calls t) (write-conditional-at t) write-conditional.Post
-write-conditional-add-turn-2 t c = omega (arith, arms-room (c .before .before .before .before .before .before .before .before .pre .1 .4) _ _ _ (c .before .before .before .before .measure .ensures) (c .before .before .measure2 .ensures) (c .before .gap .ensures), c .before .before .before .before .before .before .before .before .pre .1 .4 .room, c .before .before .before .before .before .before .before .before .pre .1 .3)
+write-conditional-add-turn-2 t c = omega (arith, first-room (c .before .before .before .before .before .before .pre .1 .2) _ _ (c .before .before .measure .ensures) (c .before .gap .ensures), c .before .before .before .before .before .before .pre .1 .2 .room, c .before .before .before .before .before .before .pre .1 .1)
 
 write-conditional-add-end : (t : ℕ) → write-conditional-lts.Need-add-end (write-conditional-calls t) (write-conditional-at t) write-conditional.Post
-write-conditional-add-end t c = omega (arith, arms-room (c .before .before .before .before .before .before .before .before .pre .1 .4) _ _ _ (c .before .before .before .before .measure .ensures) (c .before .before .measure2 .ensures) (c .before .gap .ensures), c .before .before .before .before .before .before .before .before .pre .1 .4 .room, c .before .before .before .before .before .before .before .before .pre .1 .3)
+write-conditional-add-end t c = omega (arith, arms-room (c .before .before .before .before .before .before .before .before .before .before .before .before .before .before .before .before .pre .1 .2) _ _ (c .before .before .before .before .before .before .before .before .before .before .before .before .measure .ensures) (c .before .before .before .before .before .before .before .before .before .before .before .gap .ensures) (c .before .before .before .write-list .ensures (first-to-write (c .before .before .before .before .before .before .before .before .before .before .before .before .before .before .before .before .pre .1 .2) _ _ (c .before .before .before .before .before .before .before .before .before .before .before .before .measure .ensures) (c .before .before .before .before .before .before .before .before .before .before .before .gap .ensures)) .0) _ (c .measure2 .ensures), c .before .before .before .before .before .before .before .before .before .before .before .before .before .before .before .before .pre .1 .2 .room, c .before .before .before .before .before .before .before .before .before .before .before .before .before .before .before .before .pre .1 .1)
 
 write-conditional-add-end-2 : (t : ℕ) → write-conditional-lts.Need-add-end-2 (write-conditional-calls t) (write-conditional-at t) write-conditional.Post
-write-conditional-add-end-2 t c = omega (arith, arms-room (c .before .before .before .before .before .before .before .before .before .pre .1 .4) _ _ _ (c .before .before .before .before .before .measure .ensures) (c .before .before .before .measure2 .ensures) (c .before .before .gap .ensures), c .before .before .before .before .before .before .before .before .before .pre .1 .4 .room, c .before .before .before .before .before .before .before .before .before .pre .1 .3)
+write-conditional-add-end-2 t c = omega (arith, arms-room (c .before .before .before .before .before .before .before .before .before .before .before .before .before .before .before .before .before .pre .1 .2) _ _ (c .before .before .before .before .before .before .before .before .before .before .before .before .before .measure .ensures) (c .before .before .before .before .before .before .before .before .before .before .before .before .gap .ensures) (c .before .before .before .before .write-list .ensures (first-to-write (c .before .before .before .before .before .before .before .before .before .before .before .before .before .before .before .before .before .pre .1 .2) _ _ (c .before .before .before .before .before .before .before .before .before .before .before .before .before .measure .ensures) (c .before .before .before .before .before .before .before .before .before .before .before .before .gap .ensures)) .0) _ (c .before .measure2 .ensures), c .before .before .before .before .before .before .before .before .before .before .before .before .before .before .before .before .before .pre .1 .2 .room, c .before .before .before .before .before .before .before .before .before .before .before .before .before .before .before .before .before .pre .1 .1)
 
 write-conditional-add-put-offset : (t : ℕ) → write-conditional-lts.Need-add-put-offset (write-conditional-calls t) (write-conditional-at t) write-conditional.Post
-write-conditional-add-put-offset t c = omega (arith, arms-near (c .before .before .before .before .before .before .before .before .before .before .before .pre .1 .4) _ _ _ (c .before .before .before .before .before .before .before .measure .ensures) (c .before .before .before .before .before .measure2 .ensures) (c .before .before .before .before .gap .ensures))
+write-conditional-add-put-offset t c = omega (arith, arms-near (c .before .before .before .before .before .before .before .before .pre .1 .2) _ _ (c .before .before .before .before .measure .ensures) (c .before .before .before .gap .ensures))
 
 write-conditional-put-offset-requires : (t : ℕ) → write-conditional-lts.Need-put-offset-requires (write-conditional-calls t) (write-conditional-at t) write-conditional.Post
-write-conditional-put-offset-requires t c κs = (omega (arith, arms-room (c .before .before .before .before .before .before .before .before .before .before .before .pre .1 .4) _ _ _ (c .before .before .before .before .before .before .before .measure .ensures) (c .before .before .before .before .before .measure2 .ensures) (c .before .before .before .before .gap .ensures), c .before .before .before .before .before .before .before .before .before .before .before .pre .1 .4 .room, c .before .before .before .before .before .before .before .before .before .before .before .pre .1 .3), omega (arith, arms-near (c .before .before .before .before .before .before .before .before .before .before .before .pre .1 .4) _ _ _ (c .before .before .before .before .before .before .before .measure .ensures) (c .before .before .before .before .before .measure2 .ensures) (c .before .before .before .before .gap .ensures)))
+write-conditional-put-offset-requires t c κs = (omega (arith, first-room (c .before .before .before .before .before .before .before .before .pre .1 .2) _ _ (c .before .before .before .before .measure .ensures) (c .before .before .before .gap .ensures), c .before .before .before .before .before .before .before .before .pre .1 .2 .room, c .before .before .before .before .before .before .before .before .pre .1 .1), omega (arith, arms-near (c .before .before .before .before .before .before .before .before .pre .1 .2) _ _ (c .before .before .before .before .measure .ensures) (c .before .before .before .gap .ensures)))
 
 write-conditional-add-write-list : (t : ℕ) → write-conditional-lts.Need-add-write-list (write-conditional-calls t) (write-conditional-at t) write-conditional.Post
-write-conditional-add-write-list t c = omega (arith, arms-room (c .before .before .before .before .before .before .before .before .before .before .before .before .before .before .before .pre .1 .4) _ _ _ (c .before .before .before .before .before .before .before .before .before .before .before .measure .ensures) (c .before .before .before .before .before .before .before .before .before .measure2 .ensures) (c .before .before .before .before .before .before .before .before .gap .ensures), c .before .before .before .before .before .before .before .before .before .before .before .before .before .before .before .pre .1 .4 .room, c .before .before .before .before .before .before .before .before .before .before .before .before .before .before .before .pre .1 .3)
+write-conditional-add-write-list t c = omega (arith, first-room (c .before .before .before .before .before .before .before .before .before .before .before .before .pre .1 .2) _ _ (c .before .before .before .before .before .before .before .before .measure .ensures) (c .before .before .before .before .before .before .before .gap .ensures), c .before .before .before .before .before .before .before .before .before .before .before .before .pre .1 .2 .room, c .before .before .before .before .before .before .before .before .before .before .before .before .pre .1 .1)
 
 write-conditional-write-list-requires : (t : ℕ) → write-conditional-lts.Need-write-list-requires (write-conditional-calls t) (write-conditional-at t) write-conditional.Post
-write-conditional-write-list-requires t c κs = (omega (arith, c .before .before .before .before .before .before .before .before .before .before .before .before .before .before .before .pre .0), (c .before .before .before .before .before .before .before .before .before .before .before .before .before .before .before .pre .1 .0, c .before .before .before .before .before .before .before .before .before .before .before .before .before .before .before .pre .1 .1, c .before .before .before .before .before .before .before .before .before .before .before .before .before .before .before .pre .1 .2, omega (arith, arms-room (c .before .before .before .before .before .before .before .before .before .before .before .before .before .before .before .pre .1 .4) _ _ _ (c .before .before .before .before .before .before .before .before .before .before .before .measure .ensures) (c .before .before .before .before .before .before .before .before .before .measure2 .ensures) (c .before .before .before .before .before .before .before .before .gap .ensures), c .before .before .before .before .before .before .before .before .before .before .before .before .before .before .before .pre .1 .4 .room, c .before .before .before .before .before .before .before .before .before .before .before .before .before .before .before .pre .1 .3, c .before .before .before .put-offset .kept .0), first-to-write (c .before .before .before .before .before .before .before .before .before .before .before .before .before .before .before .pre .1 .4) _ _ _ (c .before .before .before .before .before .before .before .before .before .before .before .measure .ensures) (c .before .before .before .before .before .before .before .before .before .measure2 .ensures) (c .before .before .before .before .before .before .before .before .gap .ensures)))
+write-conditional-write-list-requires t c κs = (omega (arith, c .before .before .before .before .before .before .before .before .before .before .before .before .pre .0), (c .before .before .before .before .before .before .before .before .before .before .before .before .pre .1 .0, omega (arith, first-room (c .before .before .before .before .before .before .before .before .before .before .before .before .pre .1 .2) _ _ (c .before .before .before .before .before .before .before .before .measure .ensures) (c .before .before .before .before .before .before .before .gap .ensures), c .before .before .before .before .before .before .before .before .before .before .before .before .pre .1 .2 .room, c .before .before .before .before .before .before .before .before .before .before .before .before .pre .1 .1, c .before .before .before .put-offset .kept .0), first-to-write (c .before .before .before .before .before .before .before .before .before .before .before .before .pre .1 .2) _ _ (c .before .before .before .before .before .before .before .before .measure .ensures) (c .before .before .before .before .before .before .before .gap .ensures)))
 
 write-conditional-put-jump-requires : (t : ℕ) → write-conditional-lts.Need-put-jump-requires (write-conditional-calls t) (write-conditional-at t) write-conditional.Post
-write-conditional-put-jump-requires t c κs = (omega (arith, arms-room (c .before .before .before .before .before .before .before .before .before .before .before .before .before .before .before .before .before .before .before .pre .1 .4) _ _ _ (c .before .before .before .before .before .before .before .before .before .before .before .before .before .before .before .measure .ensures) (c .before .before .before .before .before .before .before .before .before .before .before .before .before .measure2 .ensures) (c .before .before .before .before .before .before .before .before .before .before .before .before .gap .ensures), c .before .before .before .before .before .before .before .before .before .before .before .before .before .before .before .before .before .before .before .pre .1 .4 .room, c .before .before .before .before .before .before .before .before .before .before .before .before .before .before .before .before .before .before .before .pre .1 .3, c .before .before .before .before .before .before .before .before .before .before .before .before .gap .ensures, c .before .before .before .before .before .before .before .put-offset .kept .0, c .before .before .before .write-list .kept .1 .1 .1 .1 .1 .0), jump-near (c .before .before .before .before .before .before .before .before .before .before .before .before .before .before .before .before .before .before .before .pre .1 .4) _ _ _ (c .before .before .before .before .before .before .before .before .before .before .before .before .before .before .before .measure .ensures) (c .before .before .before .before .before .before .before .before .before .before .before .before .before .measure2 .ensures) (c .before .before .before .before .before .before .before .before .before .before .before .before .gap .ensures))
+write-conditional-put-jump-requires t c κs = (omega (arith, arms-room (c .before .before .before .before .before .before .before .before .before .before .before .before .before .before .before .before .before .before .pre .1 .2) _ _ (c .before .before .before .before .before .before .before .before .before .before .before .before .before .before .measure .ensures) (c .before .before .before .before .before .before .before .before .before .before .before .before .before .gap .ensures) (c .before .before .before .before .before .write-list .ensures (first-to-write (c .before .before .before .before .before .before .before .before .before .before .before .before .before .before .before .before .before .before .pre .1 .2) _ _ (c .before .before .before .before .before .before .before .before .before .before .before .before .before .before .measure .ensures) (c .before .before .before .before .before .before .before .before .before .before .before .before .before .gap .ensures)) .0) _ (c .before .before .measure2 .ensures), c .before .before .before .before .before .before .before .before .before .before .before .before .before .before .before .before .before .before .pre .1 .2 .room, c .before .before .before .before .before .before .before .before .before .before .before .before .before .before .before .before .before .before .pre .1 .1, c .before .before .before .before .before .before .before .before .before .before .before .before .before .gap .ensures, c .before .before .before .before .before .before .before .before .before .put-offset .kept .0, c .before .before .before .before .before .write-list .kept .1 .1 .1 .1 .0), jump-near (c .before .before .before .before .before .before .before .before .before .before .before .before .before .before .before .before .before .before .pre .1 .2) _ _ (c .before .before .before .before .before .before .before .before .before .before .before .before .before .before .measure .ensures) (c .before .before .before .before .before .before .before .before .before .before .before .before .before .gap .ensures) (c .before .before .before .before .before .write-list .ensures (first-to-write (c .before .before .before .before .before .before .before .before .before .before .before .before .before .before .before .before .before .before .pre .1 .2) _ _ (c .before .before .before .before .before .before .before .before .before .before .before .before .before .before .measure .ensures) (c .before .before .before .before .before .before .before .before .before .before .before .before .before .gap .ensures)) .0) _ (c .before .before .measure2 .ensures))
 
 write-conditional-add-write-list-2 : (t : ℕ) → write-conditional-lts.Need-add-write-list-2 (write-conditional-calls t) (write-conditional-at t) write-conditional.Post
-write-conditional-add-write-list-2 t c = omega (arith, arms-room (c .before .before .before .before .before .before .before .before .before .before .before .before .before .before .before .before .before .before .before .before .before .before .before .pre .1 .4) _ _ _ (c .before .before .before .before .before .before .before .before .before .before .before .before .before .before .before .before .before .before .before .measure .ensures) (c .before .before .before .before .before .before .before .before .before .before .before .before .before .before .before .before .before .measure2 .ensures) (c .before .before .before .before .before .before .before .before .before .before .before .before .before .before .before .before .gap .ensures), c .before .before .before .before .before .before .before .before .before .before .before .before .before .before .before .before .before .before .before .before .before .before .before .pre .1 .4 .room, c .before .before .before .before .before .before .before .before .before .before .before .before .before .before .before .before .before .before .before .before .before .before .before .pre .1 .3, c .before .before .before .before .before .before .before .before .before .before .before .before .before .before .before .before .before .before .before .before .before .before .before .good)
+write-conditional-add-write-list-2 t c = omega (arith, arms-room (c .before .before .before .before .before .before .before .before .before .before .before .before .before .before .before .before .before .before .before .before .before .before .pre .1 .2) _ _ (c .before .before .before .before .before .before .before .before .before .before .before .before .before .before .before .before .before .before .measure .ensures) (c .before .before .before .before .before .before .before .before .before .before .before .before .before .before .before .before .before .gap .ensures) (c .before .before .before .before .before .before .before .before .before .write-list .ensures (first-to-write (c .before .before .before .before .before .before .before .before .before .before .before .before .before .before .before .before .before .before .before .before .before .before .pre .1 .2) _ _ (c .before .before .before .before .before .before .before .before .before .before .before .before .before .before .before .before .before .before .measure .ensures) (c .before .before .before .before .before .before .before .before .before .before .before .before .before .before .before .before .before .gap .ensures)) .0) _ (c .before .before .before .before .before .before .measure2 .ensures), c .before .before .before .before .before .before .before .before .before .before .before .before .before .before .before .before .before .before .before .before .before .before .pre .1 .2 .room, c .before .before .before .before .before .before .before .before .before .before .before .before .before .before .before .before .before .before .before .before .before .before .pre .1 .1, c .before .before .before .before .before .before .before .before .before .before .before .before .before .before .before .before .before .before .before .before .before .before .good)
 
-write-conditional-write-list-requires-2 :
-    (t : ℕ) → write-conditional-lts.Need-write-list-requires-2 (
-      measure-reads.Asked,
-      measure-reads.Learnt,
-      gap-reads.Asked,
-      gap-reads.Learnt,
-      put-offset-reads.Asked,
-      put-offset-reads.Learnt,
-      write-list-below t,
-      write-list.Post,
-      put-jump-reads.Asked,
-      put-jump-reads.Learnt,
-    ) (write-conditional-at t) write-conditional.Post
-write-conditional-write-list-requires-2 t c κs = (omega (arith, c .before .before .before .before .before .before .before .before .before .before .before .before .before .before .before .before .before .before .before .before .before .before .before .pre .0), (c .before .before .before .before .before .before .before .before .before .before .before .before .before .before .before .before .before .before .before .before .before .before .before .pre .1 .0, c .before .before .before .before .before .before .before .before .before .before .before .before .before .before .before .before .before .before .before .before .before .before .before .pre .1 .1, c .before .before .before .before .before .before .before .before .before .before .before .before .before .before .before .before .before .before .before .before .before .before .before .pre .1 .2, omega (arith, arms-room (c .before .before .before .before .before .before .before .before .before .before .before .before .before .before .before .before .before .before .before .before .before .before .before .pre .1 .4) _ _ _ (c .before .before .before .before .before .before .before .before .before .before .before .before .before .before .before .before .before .before .before .measure .ensures) (c .before .before .before .before .before .before .before .before .before .before .before .before .before .before .before .before .before .measure2 .ensures) (c .before .before .before .before .before .before .before .before .before .before .before .before .before .before .before .before .gap .ensures), c .before .before .before .before .before .before .before .before .before .before .before .before .before .before .before .before .before .before .before .before .before .before .before .pre .1 .4 .room, c .before .before .before .before .before .before .before .before .before .before .before .before .before .before .before .before .before .before .before .before .before .before .before .pre .1 .3, c .before .before .before .before .before .before .before .before .before .before .before .put-offset .kept .0, c .before .before .before .before .before .before .before .write-list .kept .1 .1 .1 .1 .1 .0, c .before .before .before .put-jump .kept .0), second-to-write (c .before .before .before .before .before .before .before .before .before .before .before .before .before .before .before .before .before .before .before .before .before .before .before .pre .1 .4) _ _ _ (c .before .before .before .before .before .before .before .before .before .before .before .before .before .before .before .before .before .before .before .measure .ensures) (c .before .before .before .before .before .before .before .before .before .before .before .before .before .before .before .before .before .measure2 .ensures) (c .before .before .before .before .before .before .before .before .before .before .before .before .before .before .before .before .gap .ensures)))
+write-conditional-write-list-requires-2 : (t : ℕ) → write-conditional-lts.Need-write-list-requires-2 (write-conditional-calls t) (write-conditional-at t) write-conditional.Post
+write-conditional-write-list-requires-2 t c κs = (omega (arith, c .before .before .before .before .before .before .before .before .before .before .before .before .before .before .before .before .before .before .before .before .before .before .pre .0), (c .before .before .before .before .before .before .before .before .before .before .before .before .before .before .before .before .before .before .before .before .before .before .pre .1 .0, omega (arith, arms-room (c .before .before .before .before .before .before .before .before .before .before .before .before .before .before .before .before .before .before .before .before .before .before .pre .1 .2) _ _ (c .before .before .before .before .before .before .before .before .before .before .before .before .before .before .before .before .before .before .measure .ensures) (c .before .before .before .before .before .before .before .before .before .before .before .before .before .before .before .before .before .gap .ensures) (c .before .before .before .before .before .before .before .before .before .write-list .ensures (first-to-write (c .before .before .before .before .before .before .before .before .before .before .before .before .before .before .before .before .before .before .before .before .before .before .pre .1 .2) _ _ (c .before .before .before .before .before .before .before .before .before .before .before .before .before .before .before .before .before .before .measure .ensures) (c .before .before .before .before .before .before .before .before .before .before .before .before .before .before .before .before .before .gap .ensures)) .0) _ (c .before .before .before .before .before .before .measure2 .ensures), c .before .before .before .before .before .before .before .before .before .before .before .before .before .before .before .before .before .before .before .before .before .before .pre .1 .2 .room, c .before .before .before .before .before .before .before .before .before .before .before .before .before .before .before .before .before .before .before .before .before .before .pre .1 .1, c .before .before .before .before .before .before .before .before .before .before .before .before .before .put-offset .kept .0, c .before .before .before .before .before .before .before .before .before .write-list .kept .1 .1 .1 .1 .0, c .before .before .before .put-jump .kept .0), second-to-write (c .before .before .before .before .before .before .before .before .before .before .before .before .before .before .before .before .before .before .before .before .before .before .pre .1 .2) _ _ (c .before .before .before .before .before .before .before .before .before .before .before .before .before .before .before .before .before .before .measure .ensures) (c .before .before .before .before .before .before .before .before .before .before .before .before .before .before .before .before .before .gap .ensures) (c .before .before .before .before .before .before .before .before .before .write-list .ensures (first-to-write (c .before .before .before .before .before .before .before .before .before .before .before .before .before .before .before .before .before .before .before .before .before .before .pre .1 .2) _ _ (c .before .before .before .before .before .before .before .before .before .before .before .before .before .before .before .before .before .before .measure .ensures) (c .before .before .before .before .before .before .before .before .before .before .before .before .before .before .before .before .before .gap .ensures)) .0) _ (c .before .before .before .before .before .before .measure2 .ensures)))
 
 write-conditional-same-length : (t : ℕ) → write-conditional-lts.Need-same-length (write-conditional-calls t) (write-conditional-at t) write-conditional.Post
-write-conditional-same-length t c = c .before .before .write-list2 .kept .1 .1 .1 .1 .1 .0 ∙ c .before .before .before .before .before .before .put-jump .kept .0 ∙ c .before .before .before .before .before .before .before .before .before .before .write-list .kept .1 .1 .1 .1 .1 .0 ∙ c .before .before .before .before .before .before .before .before .before .before .before .before .before .before .put-offset .kept .0
+write-conditional-same-length t c = c .before .before .write-list2 .kept .1 .1 .1 .1 .0 ∙ c .before .before .before .before .before .before .put-jump .kept .0 ∙ c .before .before .before .before .before .before .before .before .before .before .before .before .write-list .kept .1 .1 .1 .1 .0 ∙ c .before .before .before .before .before .before .before .before .before .before .before .before .before .before .before .before .put-offset .kept .0
 
 write-conditional-returns : (t : ℕ) → write-conditional-lts.Need-returns (write-conditional-calls t) (write-conditional-at t) write-conditional.Post
-write-conditional-returns t c = λ w. arms-done (w) _ _ _ (c .before .before .before .before .before .before .before .before .before .before .before .before .before .before .before .before .before .before .before .before .before .before .measure .ensures) (c .before .before .before .before .before .before .before .before .before .before .before .before .before .before .before .before .before .before .before .before .measure2 .ensures) (c .before .before .before .before .before .before .before .before .before .before .before .before .before .before .before .before .before .before .before .gap .ensures) _ (c .before .before .before .before .before .before .before .before .before .before .before .before .before .before .put-offset .ensures) (c .before .before .before .before .before .before .before .before .before .before .write-list .ensures (first-to-write (w) _ _ _ (c .before .before .before .before .before .before .before .before .before .before .before .before .before .before .before .before .before .before .before .before .before .before .measure .ensures) (c .before .before .before .before .before .before .before .before .before .before .before .before .before .before .before .before .before .before .before .before .measure2 .ensures) (c .before .before .before .before .before .before .before .before .before .before .before .before .before .before .before .before .before .before .before .gap .ensures)) .1) (c .before .before .before .before .before .before .put-jump .ensures) (c .before .before .write-list2 .ensures (second-to-write (w) _ _ _ (c .before .before .before .before .before .before .before .before .before .before .before .before .before .before .before .before .before .before .before .before .before .before .measure .ensures) (c .before .before .before .before .before .before .before .before .before .before .before .before .before .before .before .before .before .before .before .before .measure2 .ensures) (c .before .before .before .before .before .before .before .before .before .before .before .before .before .before .before .before .before .before .before .gap .ensures)))
+write-conditional-returns t c = λ w. arms-done w _ _ (c .before .before .before .before .before .before .before .before .before .before .before .before .before .before .before .before .before .before .before .before .before .measure .ensures) (c .before .before .before .before .before .before .before .before .before .before .before .before .before .before .before .before .before .before .before .before .gap .ensures) (c .before .before .before .before .before .before .before .before .before .before .before .before .write-list .ensures (first-to-write w _ _ (c .before .before .before .before .before .before .before .before .before .before .before .before .before .before .before .before .before .before .before .before .before .measure .ensures) (c .before .before .before .before .before .before .before .before .before .before .before .before .before .before .before .before .before .before .before .before .gap .ensures)) .0) _ (c .before .before .before .before .before .before .before .before .before .measure2 .ensures) _ (c .before .before .before .before .before .before .before .before .before .before .before .before .before .before .before .before .put-offset .ensures) (c .before .before .before .before .before .before .before .before .before .before .before .before .write-list .ensures (first-to-write w _ _ (c .before .before .before .before .before .before .before .before .before .before .before .before .before .before .before .before .before .before .before .before .before .measure .ensures) (c .before .before .before .before .before .before .before .before .before .before .before .before .before .before .before .before .before .before .before .before .gap .ensures)) .1) (c .before .before .before .before .before .before .put-jump .ensures) (c .before .before .write-list2 .ensures (second-to-write w _ _ (c .before .before .before .before .before .before .before .before .before .before .before .before .before .before .before .before .before .before .before .before .before .measure .ensures) (c .before .before .before .before .before .before .before .before .before .before .before .before .before .before .before .before .before .before .before .before .gap .ensures) (c .before .before .before .before .before .before .before .before .before .before .before .before .write-list .ensures (first-to-write w _ _ (c .before .before .before .before .before .before .before .before .before .before .before .before .before .before .before .before .before .before .before .before .before .measure .ensures) (c .before .before .before .before .before .before .before .before .before .before .before .before .before .before .before .before .before .before .before .before .gap .ensures)) .0) _ (c .before .before .before .before .before .before .before .before .before .measure2 .ensures)))
 
 write-instr-bits-at-requires : (t : ℕ) → write-instr-lts.Need-bits-at-requires (write-instr-calls t) (write-instr-at t) write-instr.Post
-write-instr-bits-at-requires t c κs = (omega (arith, c .before .before .before .pre .1 .0), (search needs, head-within _ _ _ (c .before .before .before .pre .1 .4 .read)))
-
-write-instr-shape-of-requires : (t : ℕ) → write-instr-lts.Need-shape-of-requires (write-instr-calls t) (write-instr-at t) write-instr.Post
-write-instr-shape-of-requires t c κs = rw (c .bits-at .ensures .0) (field-small _ _ 5)
+write-instr-bits-at-requires t c κs = let k = deeper-saved (c .before .before .before .before .before .pre .1 .4) (ap shapeOf (sym (c .before .before .before .before .before .pre .1 .2)) ∙ sym (c .before .before .before .before .before .pre .1 .3) ∙ c .before .match .keys2) in (omega (arith, c .before .before .before .before .before .pre .1 .0), (search needs, omega (arith, c .past2 .ensures)))
 
 write-instr-past-requires : (t : ℕ) → write-instr-lts.Need-past-requires (write-instr-calls t) (write-instr-at t) write-instr.Post
-write-instr-past-requires t c κs = omega (arith, c .before .before .before .before .before .before .pre .1 .0, head-within _ _ _ (c .before .before .before .before .before .before .pre .1 .4 .read))
+write-instr-past-requires t c κs = omega (arith, c .before .before .before .before .pre .1 .0, head-within _ _ _ (c .before .before .before .before .pre .1 .4 .read))
 
 write-instr-sub-write-conditional : (t : ℕ) → write-instr-lts.Need-sub-write-conditional (write-instr-calls t) (write-instr-at t) write-instr.Post
-write-instr-sub-write-conditional t c = let k = deeper-arms (c .before .before .before .before .before .before .before .pre .1 .4) (ap shapeOf (sym (c .before .before .before .bits-at .ensures .0)) ∙ sym (c .before .before .shape-of .ensures) ∙ c .before .match .keys1) in omega arith
+write-instr-sub-write-conditional t c = let k = deeper-arms (c .before .before .before .before .before .pre .1 .4) (ap shapeOf (sym (c .before .before .before .before .before .pre .1 .2)) ∙ sym (c .before .before .before .before .before .pre .1 .3) ∙ c .before .match .keys1) in omega arith
 
 write-instr-write-conditional-requires : (t : ℕ) → write-instr-lts.Need-write-conditional-requires (write-instr-calls t) (write-instr-at t) write-instr.Post
-write-instr-write-conditional-requires t c κs = let k = deeper-arms (c .before .before .before .before .before .before .before .before .pre .1 .4) (ap shapeOf (sym (c .before .before .before .before .bits-at .ensures .0)) ∙ sym (c .before .before .before .shape-of .ensures) ∙ c .before .before .match .keys1) in (omega (arith, c .before .before .before .before .before .before .before .before .pre .0), (c .before .before .before .before .before .before .before .before .pre .1 .0, c .before .before .before .before .before .before .before .before .pre .1 .1, c .before .before .before .before .before .before .before .before .pre .1 .2, c .before .before .before .before .before .before .before .before .pre .1 .3, rw (c .before .past .ensures) (item-arms (c .before .before .before .before .before .before .before .before .pre .1 .4) (ap shapeOf (sym (c .before .before .before .before .bits-at .ensures .0)) ∙ sym (c .before .before .before .shape-of .ensures) ∙ c .before .before .match .keys1))))
+write-instr-write-conditional-requires t c κs = let k = deeper-arms (c .before .before .before .before .before .before .pre .1 .4) (ap shapeOf (sym (c .before .before .before .before .before .before .pre .1 .2)) ∙ sym (c .before .before .before .before .before .before .pre .1 .3) ∙ c .before .before .match .keys1) in (omega (arith, c .before .before .before .before .before .before .pre .0), (c .before .before .before .before .before .before .pre .1 .0, c .before .before .before .before .before .before .pre .1 .1, rw (c .before .past .ensures) (item-arms (c .before .before .before .before .before .before .pre .1 .4) (ap shapeOf (sym (c .before .before .before .before .before .before .pre .1 .2)) ∙ sym (c .before .before .before .before .before .before .pre .1 .3) ∙ c .before .before .match .keys1))))
 
 write-instr-past-requires-2 : (t : ℕ) → write-instr-lts.Need-past-requires-2 (write-instr-calls t) (write-instr-at t) write-instr.Post
-write-instr-past-requires-2 t c κs = omega (arith, c .before .before .before .before .before .before .pre .1 .0, head-within _ _ _ (c .before .before .before .before .before .before .pre .1 .4 .read))
-
-write-instr-bits-at-requires-2 : (t : ℕ) → write-instr-lts.Need-bits-at-requires-2 (write-instr-calls t) (write-instr-at t) write-instr.Post
-write-instr-bits-at-requires-2 t c κs = let k = deeper-saved (c .before .before .before .before .before .before .before .pre .1 .4) (ap shapeOf (sym (c .before .before .before .bits-at .ensures .0)) ∙ sym (c .before .before .shape-of .ensures) ∙ c .before .match .keys2) in (omega (arith, c .before .before .before .before .before .before .before .pre .1 .0), (search needs, omega (arith, c .past2 .ensures)))
+write-instr-past-requires-2 t c κs = omega (arith, c .before .before .before .before .pre .1 .0, head-within _ _ _ (c .before .before .before .before .pre .1 .4 .read))
 
 write-instr-past-requires-3 : (t : ℕ) → write-instr-lts.Need-past-requires-3 (write-instr-calls t) (write-instr-at t) write-instr.Post
-write-instr-past-requires-3 t c κs = let k = deeper-saved (c .before .before .before .before .before .before .before .before .pre .1 .4) (ap shapeOf (sym (c .before .before .before .before .bits-at .ensures .0)) ∙ sym (c .before .before .before .shape-of .ensures) ∙ c .before .before .match .keys2) in omega (arith, c .before .before .before .before .before .before .before .before .pre .1 .0)
+write-instr-past-requires-3 t c κs = let k = deeper-saved (c .before .before .before .before .before .before .pre .1 .4) (ap shapeOf (sym (c .before .before .before .before .before .before .pre .1 .2)) ∙ sym (c .before .before .before .before .before .before .pre .1 .3) ∙ c .before .before .match .keys2) in omega (arith, c .before .before .before .before .before .before .pre .1 .0)
 
 write-instr-sub-write-make-cont : (t : ℕ) → write-instr-lts.Need-sub-write-make-cont (write-instr-calls t) (write-instr-at t) write-instr.Post
-write-instr-sub-write-make-cont t c = let k = deeper-saved (c .before .before .before .before .before .before .before .before .before .pre .1 .4) (ap shapeOf (sym (c .before .before .before .before .before .bits-at .ensures .0)) ∙ sym (c .before .before .before .before .shape-of .ensures) ∙ c .before .before .before .match .keys2) .0 in omega arith
+write-instr-sub-write-make-cont t c = let k = deeper-saved (c .before .before .before .before .before .before .before .pre .1 .4) (ap shapeOf (sym (c .before .before .before .before .before .before .before .pre .1 .2)) ∙ sym (c .before .before .before .before .before .before .before .pre .1 .3) ∙ c .before .before .before .match .keys2) .0 in omega arith
 
 write-instr-write-make-cont-requires : (t : ℕ) → write-instr-lts.Need-write-make-cont-requires (write-instr-calls t) (write-instr-at t) write-instr.Post
-write-instr-write-make-cont-requires t c κs = let k = deeper-saved (c .before .before .before .before .before .before .before .before .before .before .pre .1 .4) (ap shapeOf (sym (c .before .before .before .before .before .before .bits-at .ensures .0)) ∙ sym (c .before .before .before .before .before .shape-of .ensures) ∙ c .before .before .before .before .match .keys2) .0 in (omega (arith, c .before .before .before .before .before .before .before .before .before .before .pre .0), (c .before .before .before .before .before .before .before .before .before .before .pre .1 .0, c .before .before .before .before .before .before .before .before .before .before .pre .1 .1, c .before .before .before .before .before .before .before .before .before .before .pre .1 .2, c .before .before .bits-at2 .ensures .1, c .before .before .before .before .before .before .before .before .before .before .pre .1 .3, rw (c .before .past3 .ensures) (item-saved (c .before .before .before .before .before .before .before .before .before .before .pre .1 .4) (ap shapeOf (sym (c .before .before .before .before .before .before .bits-at .ensures .0)) ∙ sym (c .before .before .before .before .before .shape-of .ensures) ∙ c .before .before .before .before .match .keys2))))
+write-instr-write-make-cont-requires t c κs = let k = deeper-saved (c .before .before .before .before .before .before .before .before .pre .1 .4) (ap shapeOf (sym (c .before .before .before .before .before .before .before .before .pre .1 .2)) ∙ sym (c .before .before .before .before .before .before .before .before .pre .1 .3) ∙ c .before .before .before .before .match .keys2) .0 in (omega (arith, c .before .before .before .before .before .before .before .before .pre .0), (c .before .before .before .before .before .before .before .before .pre .1 .0, c .before .before .bits-at .ensures .1, c .before .before .before .before .before .before .before .before .pre .1 .1, rw (c .before .past3 .ensures) (item-saved (c .before .before .before .before .before .before .before .before .pre .1 .4) (ap shapeOf (sym (c .before .before .before .before .before .before .before .before .pre .1 .2)) ∙ sym (c .before .before .before .before .before .before .before .before .pre .1 .3) ∙ c .before .before .before .before .match .keys2))))
 
 write-instr-sub-n : (t : ℕ) → write-instr-lts.Need-sub-n (write-instr-calls t) (write-instr-at t) write-instr.Post
-write-instr-sub-n t c = let k = plain (c .before .before .before .before .before .before .pre .1 .4) (λ e. c .match .rest .0 .1 (c .before .shape-of .ensures ∙ ap shapeOf (c .before .before .bits-at .ensures .0) ∙ e)) (λ e. c .match .rest .1 (c .before .shape-of .ensures ∙ ap shapeOf (c .before .before .bits-at .ensures .0) ∙ e)) in let e = c .before .shape-of .ensures ∙ ap shapeOf (c .before .before .bits-at .ensures .0) in omega arith
+write-instr-sub-n t c = let k = plain (c .before .before .before .before .pre .1 .4) (λ e. c .match .rest .0 .1 (c .before .before .before .before .pre .1 .3 ∙ ap shapeOf (c .before .before .before .before .pre .1 .2) ∙ e)) (λ e. c .match .rest .1 (c .before .before .before .before .pre .1 .3 ∙ ap shapeOf (c .before .before .before .before .pre .1 .2) ∙ e)) in let e = c .before .before .before .before .pre .1 .3 ∙ ap shapeOf (c .before .before .before .before .pre .1 .2) in let r = plain-room (c .before .before .before .before .pre .1 .4) (λ e. c .match .rest .0 .1 (c .before .before .before .before .pre .1 .3 ∙ ap shapeOf (c .before .before .before .before .pre .1 .2) ∙ e)) (λ e. c .match .rest .1 (c .before .before .before .before .pre .1 .3 ∙ ap shapeOf (c .before .before .before .before .pre .1 .2) ∙ e)) in omega arith
 
 write-instr-cast-n : (t : ℕ) → write-instr-lts.Need-cast-n (write-instr-calls t) (write-instr-at t) write-instr.Post
 write-instr-cast-n t c = search needs
 
 write-instr-write-simple-requires : (t : ℕ) → write-instr-lts.Need-write-simple-requires (write-instr-calls t) (write-instr-at t) write-instr.Post
-write-instr-write-simple-requires t c κs = let k = plain (c .before .before .before .before .before .before .before .pre .1 .4) (λ e. c .before .match .rest .0 .1 (c .before .before .shape-of .ensures ∙ ap shapeOf (c .before .before .before .bits-at .ensures .0) ∙ e)) (λ e. c .before .match .rest .1 (c .before .before .shape-of .ensures ∙ ap shapeOf (c .before .before .before .bits-at .ensures .0) ∙ e)) in let e = c .before .before .shape-of .ensures ∙ ap shapeOf (c .before .before .before .bits-at .ensures .0) in let r = plain-room (c .before .before .before .before .before .before .before .pre .1 .4) (λ e. c .before .match .rest .0 .1 (c .before .before .shape-of .ensures ∙ ap shapeOf (c .before .before .before .bits-at .ensures .0) ∙ e)) (λ e. c .before .match .rest .1 (c .before .before .shape-of .ensures ∙ ap shapeOf (c .before .before .before .bits-at .ensures .0) ∙ e)) in (c .before .before .before .before .before .before .before .pre .1 .0, omega (arith), omega (arith, c .before .before .before .before .before .before .before .pre .1 .3))
+write-instr-write-simple-requires t c κs = let k = plain (c .before .before .before .before .before .before .pre .1 .4) (λ e. c .before .before .match .rest .0 .1 (c .before .before .before .before .before .before .pre .1 .3 ∙ ap shapeOf (c .before .before .before .before .before .before .pre .1 .2) ∙ e)) (λ e. c .before .before .match .rest .1 (c .before .before .before .before .before .before .pre .1 .3 ∙ ap shapeOf (c .before .before .before .before .before .before .pre .1 .2) ∙ e)) in let e = c .before .before .before .before .before .before .pre .1 .3 ∙ ap shapeOf (c .before .before .before .before .before .before .pre .1 .2) in let r = plain-room (c .before .before .before .before .before .before .pre .1 .4) (λ e. c .before .before .match .rest .0 .1 (c .before .before .before .before .before .before .pre .1 .3 ∙ ap shapeOf (c .before .before .before .before .before .before .pre .1 .2) ∙ e)) (λ e. c .before .before .match .rest .1 (c .before .before .before .before .before .before .pre .1 .3 ∙ ap shapeOf (c .before .before .before .before .before .before .pre .1 .2) ∙ e)) in (c .before .before .before .before .before .before .pre .1 .0, omega arith, omega (arith, c .before .past4 .ensures), omega (arith, c .before .before .before .before .before .before .pre .1 .2, field-small (c .before .before .before .before .before .before .args .s .now) (c .before .before .before .before .before .before .args .at .0) 5), omega (arith, c .before .before .before .before .before .before .pre .1 .1))
 
 write-instr-mul-past : (t : ℕ) → write-instr-lts.Need-mul-past (write-instr-calls t) (write-instr-at t) write-instr.Post
-write-instr-mul-past t c = let k = plain (c .before .before .before .before .before .before .before .before .before .before .pre .1 .4) (λ e. c .before .before .before .before .match .rest .0 .1 (c .before .before .before .before .before .shape-of .ensures ∙ ap shapeOf (c .before .before .before .before .before .before .bits-at .ensures .0) ∙ e)) (λ e. c .before .before .before .before .match .rest .1 (c .before .before .before .before .before .shape-of .ensures ∙ ap shapeOf (c .before .before .before .before .before .before .bits-at .ensures .0) ∙ e)) in let e = c .before .before .before .before .before .shape-of .ensures ∙ ap shapeOf (c .before .before .before .before .before .before .bits-at .ensures .0) in let r = plain-room (c .before .before .before .before .before .before .before .before .before .before .pre .1 .4) (λ e. c .before .before .before .before .match .rest .0 .1 (c .before .before .before .before .before .shape-of .ensures ∙ ap shapeOf (c .before .before .before .before .before .before .bits-at .ensures .0) ∙ e)) (λ e. c .before .before .before .before .match .rest .1 (c .before .before .before .before .before .shape-of .ensures ∙ ap shapeOf (c .before .before .before .before .before .before .bits-at .ensures .0) ∙ e)) in omega (arith, c .before .before .before .before .before .before .before .before .before .before .pre .1, c .before .before .before .before .before .before .before .before .before .before .good)
+write-instr-mul-past t c = let k = plain (c .before .before .before .before .before .before .before .before .before .pre .1 .4) (λ e. c .before .before .before .before .before .match .rest .0 .1 (c .before .before .before .before .before .before .before .before .before .pre .1 .3 ∙ ap shapeOf (c .before .before .before .before .before .before .before .before .before .pre .1 .2) ∙ e)) (λ e. c .before .before .before .before .before .match .rest .1 (c .before .before .before .before .before .before .before .before .before .pre .1 .3 ∙ ap shapeOf (c .before .before .before .before .before .before .before .before .before .pre .1 .2) ∙ e)) in let e = c .before .before .before .before .before .before .before .before .before .pre .1 .3 ∙ ap shapeOf (c .before .before .before .before .before .before .before .before .before .pre .1 .2) in let r = plain-room (c .before .before .before .before .before .before .before .before .before .pre .1 .4) (λ e. c .before .before .before .before .before .match .rest .0 .1 (c .before .before .before .before .before .before .before .before .before .pre .1 .3 ∙ ap shapeOf (c .before .before .before .before .before .before .before .before .before .pre .1 .2) ∙ e)) (λ e. c .before .before .before .before .before .match .rest .1 (c .before .before .before .before .before .before .before .before .before .pre .1 .3 ∙ ap shapeOf (c .before .before .before .before .before .before .before .before .before .pre .1 .2) ∙ e)) in omega (arith, c .before .before .before .before .before .before .before .before .before .pre .1, c .before .before .before .before .before .before .before .before .before .good)
 
 write-instr-add-past : (t : ℕ) → write-instr-lts.Need-add-past (write-instr-calls t) (write-instr-at t) write-instr.Post
-write-instr-add-past t c = let k = plain (c .before .before .before .before .before .before .before .before .before .before .pre .1 .4) (λ e. c .before .before .before .before .match .rest .0 .1 (c .before .before .before .before .before .shape-of .ensures ∙ ap shapeOf (c .before .before .before .before .before .before .bits-at .ensures .0) ∙ e)) (λ e. c .before .before .before .before .match .rest .1 (c .before .before .before .before .before .shape-of .ensures ∙ ap shapeOf (c .before .before .before .before .before .before .bits-at .ensures .0) ∙ e)) in let e = c .before .before .before .before .before .shape-of .ensures ∙ ap shapeOf (c .before .before .before .before .before .before .bits-at .ensures .0) in let r = plain-room (c .before .before .before .before .before .before .before .before .before .before .pre .1 .4) (λ e. c .before .before .before .before .match .rest .0 .1 (c .before .before .before .before .before .shape-of .ensures ∙ ap shapeOf (c .before .before .before .before .before .before .bits-at .ensures .0) ∙ e)) (λ e. c .before .before .before .before .match .rest .1 (c .before .before .before .before .before .shape-of .ensures ∙ ap shapeOf (c .before .before .before .before .before .before .bits-at .ensures .0) ∙ e)) in omega (arith, c .before .before .before .before .before .before .before .before .before .before .pre .1, c .before .before .before .before .before .before .before .before .before .before .good)
+write-instr-add-past t c = let k = plain (c .before .before .before .before .before .before .before .before .before .pre .1 .4) (λ e. c .before .before .before .before .before .match .rest .0 .1 (c .before .before .before .before .before .before .before .before .before .pre .1 .3 ∙ ap shapeOf (c .before .before .before .before .before .before .before .before .before .pre .1 .2) ∙ e)) (λ e. c .before .before .before .before .before .match .rest .1 (c .before .before .before .before .before .before .before .before .before .pre .1 .3 ∙ ap shapeOf (c .before .before .before .before .before .before .before .before .before .pre .1 .2) ∙ e)) in let e = c .before .before .before .before .before .before .before .before .before .pre .1 .3 ∙ ap shapeOf (c .before .before .before .before .before .before .before .before .before .pre .1 .2) in let r = plain-room (c .before .before .before .before .before .before .before .before .before .pre .1 .4) (λ e. c .before .before .before .before .before .match .rest .0 .1 (c .before .before .before .before .before .before .before .before .before .pre .1 .3 ∙ ap shapeOf (c .before .before .before .before .before .before .before .before .before .pre .1 .2) ∙ e)) (λ e. c .before .before .before .before .before .match .rest .1 (c .before .before .before .before .before .before .before .before .before .pre .1 .3 ∙ ap shapeOf (c .before .before .before .before .before .before .before .before .before .pre .1 .2) ∙ e)) in omega (arith, c .before .before .before .before .before .before .before .before .before .pre .1, c .before .before .before .before .before .before .before .before .before .good)
 
 write-instr-past-requires-4 : (t : ℕ) → write-instr-lts.Need-past-requires-4 (write-instr-calls t) (write-instr-at t) write-instr.Post
-write-instr-past-requires-4 t c κs = let k = plain (c .before .before .before .before .before .before .before .before .before .before .pre .1 .4) (λ e. c .before .before .before .before .match .rest .0 .1 (c .before .before .before .before .before .shape-of .ensures ∙ ap shapeOf (c .before .before .before .before .before .before .bits-at .ensures .0) ∙ e)) (λ e. c .before .before .before .before .match .rest .1 (c .before .before .before .before .before .shape-of .ensures ∙ ap shapeOf (c .before .before .before .before .before .before .bits-at .ensures .0) ∙ e)) in let e = c .before .before .before .before .before .shape-of .ensures ∙ ap shapeOf (c .before .before .before .before .before .before .bits-at .ensures .0) in let r = plain-room (c .before .before .before .before .before .before .before .before .before .before .pre .1 .4) (λ e. c .before .before .before .before .match .rest .0 .1 (c .before .before .before .before .before .shape-of .ensures ∙ ap shapeOf (c .before .before .before .before .before .before .bits-at .ensures .0) ∙ e)) (λ e. c .before .before .before .before .match .rest .1 (c .before .before .before .before .before .shape-of .ensures ∙ ap shapeOf (c .before .before .before .before .before .before .bits-at .ensures .0) ∙ e)) in omega (arith, c .before .before .before .before .before .before .before .before .before .before .pre .1, c .before .before .before .before .before .before .before .before .before .before .good)
+write-instr-past-requires-4 t c κs = omega (arith, c .before .before .before .before .pre .1 .0, head-within _ _ _ (c .before .before .before .before .pre .1 .4 .read))
+
+write-instr-past-requires-5 : (t : ℕ) → write-instr-lts.Need-past-requires-5 (write-instr-calls t) (write-instr-at t) write-instr.Post
+write-instr-past-requires-5 t c κs = let k = plain (c .before .before .before .before .before .before .before .before .before .pre .1 .4) (λ e. c .before .before .before .before .before .match .rest .0 .1 (c .before .before .before .before .before .before .before .before .before .pre .1 .3 ∙ ap shapeOf (c .before .before .before .before .before .before .before .before .before .pre .1 .2) ∙ e)) (λ e. c .before .before .before .before .before .match .rest .1 (c .before .before .before .before .before .before .before .before .before .pre .1 .3 ∙ ap shapeOf (c .before .before .before .before .before .before .before .before .before .pre .1 .2) ∙ e)) in let e = c .before .before .before .before .before .before .before .before .before .pre .1 .3 ∙ ap shapeOf (c .before .before .before .before .before .before .before .before .before .pre .1 .2) in let r = plain-room (c .before .before .before .before .before .before .before .before .before .pre .1 .4) (λ e. c .before .before .before .before .before .match .rest .0 .1 (c .before .before .before .before .before .before .before .before .before .pre .1 .3 ∙ ap shapeOf (c .before .before .before .before .before .before .before .before .before .pre .1 .2) ∙ e)) (λ e. c .before .before .before .before .before .match .rest .1 (c .before .before .before .before .before .before .before .before .before .pre .1 .3 ∙ ap shapeOf (c .before .before .before .before .before .before .before .before .before .pre .1 .2) ∙ e)) in omega (arith, c .before .before .before .before .before .before .before .before .before .pre .1, c .before .before .before .before .before .before .before .before .before .good)
+
+write-instr-add-t28 : (t : ℕ) → write-instr-lts.Need-add-t28 (write-instr-calls t) (write-instr-at t) write-instr.Post
+write-instr-add-t28 t c = let k = plain (c .before .before .before .before .before .before .before .before .before .before .pre .1 .4) (λ e. c .before .before .before .before .before .before .match .rest .0 .1 (c .before .before .before .before .before .before .before .before .before .before .pre .1 .3 ∙ ap shapeOf (c .before .before .before .before .before .before .before .before .before .before .pre .1 .2) ∙ e)) (λ e. c .before .before .before .before .before .before .match .rest .1 (c .before .before .before .before .before .before .before .before .before .before .pre .1 .3 ∙ ap shapeOf (c .before .before .before .before .before .before .before .before .before .before .pre .1 .2) ∙ e)) in let e = c .before .before .before .before .before .before .before .before .before .before .pre .1 .3 ∙ ap shapeOf (c .before .before .before .before .before .before .before .before .before .before .pre .1 .2) in let r = plain-room (c .before .before .before .before .before .before .before .before .before .before .pre .1 .4) (λ e. c .before .before .before .before .before .before .match .rest .0 .1 (c .before .before .before .before .before .before .before .before .before .before .pre .1 .3 ∙ ap shapeOf (c .before .before .before .before .before .before .before .before .before .before .pre .1 .2) ∙ e)) (λ e. c .before .before .before .before .before .before .match .rest .1 (c .before .before .before .before .before .before .before .before .before .before .pre .1 .3 ∙ ap shapeOf (c .before .before .before .before .before .before .before .before .before .before .pre .1 .2) ∙ e)) in omega (arith, c .before .before .before .before .before .before .before .before .before .before .pre .1, c .before .before .before .before .before .before .before .before .before .before .good)
 
 write-instr-add-t29 : (t : ℕ) → write-instr-lts.Need-add-t29 (write-instr-calls t) (write-instr-at t) write-instr.Post
-write-instr-add-t29 t c = let k = plain (c .before .before .before .before .before .before .before .before .before .before .before .pre .1 .4) (λ e. c .before .before .before .before .before .match .rest .0 .1 (c .before .before .before .before .before .before .shape-of .ensures ∙ ap shapeOf (c .before .before .before .before .before .before .before .bits-at .ensures .0) ∙ e)) (λ e. c .before .before .before .before .before .match .rest .1 (c .before .before .before .before .before .before .shape-of .ensures ∙ ap shapeOf (c .before .before .before .before .before .before .before .bits-at .ensures .0) ∙ e)) in let e = c .before .before .before .before .before .before .shape-of .ensures ∙ ap shapeOf (c .before .before .before .before .before .before .before .bits-at .ensures .0) in let r = plain-room (c .before .before .before .before .before .before .before .before .before .before .before .pre .1 .4) (λ e. c .before .before .before .before .before .match .rest .0 .1 (c .before .before .before .before .before .before .shape-of .ensures ∙ ap shapeOf (c .before .before .before .before .before .before .before .bits-at .ensures .0) ∙ e)) (λ e. c .before .before .before .before .before .match .rest .1 (c .before .before .before .before .before .before .shape-of .ensures ∙ ap shapeOf (c .before .before .before .before .before .before .before .bits-at .ensures .0) ∙ e)) in omega (arith, c .before .before .before .before .before .before .before .before .before .before .before .pre .1, c .before .before .before .before .before .before .before .before .before .before .before .good)
-
-write-instr-add-t30 : (t : ℕ) → write-instr-lts.Need-add-t30 (write-instr-calls t) (write-instr-at t) write-instr.Post
-write-instr-add-t30 t c = let k = plain (c .before .before .before .before .before .before .before .before .before .before .before .pre .1 .4) (λ e. c .before .before .before .before .before .match .rest .0 .1 (c .before .before .before .before .before .before .shape-of .ensures ∙ ap shapeOf (c .before .before .before .before .before .before .before .bits-at .ensures .0) ∙ e)) (λ e. c .before .before .before .before .before .match .rest .1 (c .before .before .before .before .before .before .shape-of .ensures ∙ ap shapeOf (c .before .before .before .before .before .before .before .bits-at .ensures .0) ∙ e)) in let e = c .before .before .before .before .before .before .shape-of .ensures ∙ ap shapeOf (c .before .before .before .before .before .before .before .bits-at .ensures .0) in let r = plain-room (c .before .before .before .before .before .before .before .before .before .before .before .pre .1 .4) (λ e. c .before .before .before .before .before .match .rest .0 .1 (c .before .before .before .before .before .before .shape-of .ensures ∙ ap shapeOf (c .before .before .before .before .before .before .before .bits-at .ensures .0) ∙ e)) (λ e. c .before .before .before .before .before .match .rest .1 (c .before .before .before .before .before .before .shape-of .ensures ∙ ap shapeOf (c .before .before .before .before .before .before .before .bits-at .ensures .0) ∙ e)) in omega (arith, c .before .before .before .before .before .before .before .before .before .before .before .pre .1, c .before .before .before .before .before .before .before .before .before .before .before .good)
+write-instr-add-t29 t c = let k = plain (c .before .before .before .before .before .before .before .before .before .before .pre .1 .4) (λ e. c .before .before .before .before .before .before .match .rest .0 .1 (c .before .before .before .before .before .before .before .before .before .before .pre .1 .3 ∙ ap shapeOf (c .before .before .before .before .before .before .before .before .before .before .pre .1 .2) ∙ e)) (λ e. c .before .before .before .before .before .before .match .rest .1 (c .before .before .before .before .before .before .before .before .before .before .pre .1 .3 ∙ ap shapeOf (c .before .before .before .before .before .before .before .before .before .before .pre .1 .2) ∙ e)) in let e = c .before .before .before .before .before .before .before .before .before .before .pre .1 .3 ∙ ap shapeOf (c .before .before .before .before .before .before .before .before .before .before .pre .1 .2) in let r = plain-room (c .before .before .before .before .before .before .before .before .before .before .pre .1 .4) (λ e. c .before .before .before .before .before .before .match .rest .0 .1 (c .before .before .before .before .before .before .before .before .before .before .pre .1 .3 ∙ ap shapeOf (c .before .before .before .before .before .before .before .before .before .before .pre .1 .2) ∙ e)) (λ e. c .before .before .before .before .before .before .match .rest .1 (c .before .before .before .before .before .before .before .before .before .before .pre .1 .3 ∙ ap shapeOf (c .before .before .before .before .before .before .before .before .before .before .pre .1 .2) ∙ e)) in omega (arith, c .before .before .before .before .before .before .before .before .before .before .pre .1, c .before .before .before .before .before .before .before .before .before .before .good)
 
 write-instr-same-length : (t : ℕ) → write-instr-lts.Need-same-length (write-instr-calls t) (write-instr-at t) write-instr.Post
-write-instr-same-length t c = c .before .before .write-conditional .kept .1 .1 .1 .1 .1 .0
+write-instr-same-length t c = c .before .before .write-conditional .kept .1 .1 .1 .1 .0
 
 write-instr-returns : (t : ℕ) → write-instr-lts.Need-returns (write-instr-calls t) (write-instr-at t) write-instr.Post
-write-instr-returns t c = λ w. arms-item w (ap shapeOf (sym (c .before .before .before .before .before .before .before .bits-at .ensures .0)) ∙ sym (c .before .before .before .before .before .before .shape-of .ensures) ∙ c .before .before .before .before .before .match .keys1) _ (c .before .before .before .before .past .ensures) (c .before .before .write-conditional .ensures)
+write-instr-returns t c = λ w. arms-item w (ap shapeOf (sym (c .before .before .before .before .before .before .before .before .before .pre .1 .2)) ∙ sym (c .before .before .before .before .before .before .before .before .before .pre .1 .3) ∙ c .before .before .before .before .before .match .keys1) _ (c .before .before .before .before .past .ensures) (c .before .before .write-conditional .ensures)
 
 write-instr-same-length-2 : (t : ℕ) → write-instr-lts.Need-same-length-2 (write-instr-calls t) (write-instr-at t) write-instr.Post
-write-instr-same-length-2 t c = c .before .before .write-make-cont .kept .1 .1 .1 .1 .1 .0
+write-instr-same-length-2 t c = c .before .before .write-make-cont .kept .1 .1 .1 .1 .0
 
 write-instr-returns-2 : (t : ℕ) → write-instr-lts.Need-returns-2 (write-instr-calls t) (write-instr-at t) write-instr.Post
-write-instr-returns-2 t c = λ w. saved-item w (ap shapeOf (sym (c .before .before .before .before .before .before .before .before .before .bits-at .ensures .0)) ∙ sym (c .before .before .before .before .before .before .before .before .shape-of .ensures) ∙ c .before .before .before .before .before .before .before .match .keys2) _ (rw (c .before .before .before .before .before .before .past2 .ensures) at (c .before .before .before .before .before .bits-at2 .ensures .0)) (c .before .before .before .before .past3 .ensures) (c .before .before .write-make-cont .ensures)
+write-instr-returns-2 t c = λ w. saved-item w (ap shapeOf (sym (c .before .before .before .before .before .before .before .before .before .before .before .pre .1 .2)) ∙ sym (c .before .before .before .before .before .before .before .before .before .before .before .pre .1 .3) ∙ c .before .before .before .before .before .before .before .match .keys2) _ (rw (c .before .before .before .before .before .before .past2 .ensures) at (c .before .before .before .before .before .bits-at .ensures .0)) (c .before .before .before .before .past3 .ensures) (c .before .before .write-make-cont .ensures)
 
 write-instr-same-length-3 : (t : ℕ) → write-instr-lts.Need-same-length-3 (write-instr-calls t) (write-instr-at t) write-instr.Post
-write-instr-same-length-3 t c = c .before .before .before .write-simple .kept .1 .1 .1 .0
+write-instr-same-length-3 t c = c .before .before .before .write-simple .kept .1 .1 .1 .1 .0
 
 write-instr-returns-3 : (t : ℕ) → write-instr-lts.Need-returns-3 (write-instr-calls t) (write-instr-at t) write-instr.Post
-write-instr-returns-3 t c = λ w. plain-item w (λ e. c .before .before .before .before .before .match .rest .0 .1 (c .before .before .before .before .before .before .shape-of .ensures ∙ ap shapeOf (c .before .before .before .before .before .before .before .bits-at .ensures .0) ∙ e)) (λ e. c .before .before .before .before .before .match .rest .1 (c .before .before .before .before .before .before .shape-of .ensures ∙ ap shapeOf (c .before .before .before .before .before .before .before .bits-at .ensures .0) ∙ e)) _ (ap (λ (n : ℕ). n - 1) (c .before .before .before .before .before .before .shape-of .ensures ∙ ap shapeOf (c .before .before .before .before .before .before .before .bits-at .ensures .0))) (c .past4 .ensures) (c .before .before .before .write-simple .ensures)
+write-instr-returns-3 t c = λ w. plain-item w (λ e. c .before .before .before .before .before .before .match .rest .0 .1 (c .before .before .before .before .before .before .before .before .before .before .pre .1 .3 ∙ ap shapeOf (c .before .before .before .before .before .before .before .before .before .before .pre .1 .2) ∙ e)) (λ e. c .before .before .before .before .before .before .match .rest .1 (c .before .before .before .before .before .before .before .before .before .before .pre .1 .3 ∙ ap shapeOf (c .before .before .before .before .before .before .before .before .before .before .pre .1 .2) ∙ e)) _ (ap (λ (n : ℕ). n - 1) (c .before .before .before .before .before .before .before .before .before .before .pre .1 .3 ∙ ap shapeOf (c .before .before .before .before .before .before .before .before .before .before .pre .1 .2))) (c .past5 .ensures) (c .before .before .before .before .before .before .before .before .before .before .pre .1 .2) (c .before .before .before .before .before .past4 .ensures) (c .before .before .before .write-simple .ensures)
 
 abbrev write-list-Inv-loop : write-list-lts.InvT-loop
-write-list-Inv-loop s table own levels out₀ front back here₀ f₀ b₀ out here f b = (b ≤ length out) × (length out ≡ length out₀) × Left s levels (here₀ .0) front back (here .0) f b out₀ out
+write-list-Inv-loop s marks levels out₀ front back here₀ f₀ b₀ out here f b = (b ≤ length out) × (length out ≡ length out₀) × Left s marks levels (here₀ .0) front back (here .0) f b out₀ out
 
 abbrev write-list-μ-loop : write-list-lts.MeasureT-loop
-write-list-μ-loop s table own levels out₀ front back here₀ f₀ b₀ out here f b = 8 * length s - here .0
+write-list-μ-loop s marks levels out₀ front back here₀ f₀ b₀ out here f b = 8 * length s - here .0
 
 write-list-loop-holds : (t : ℕ) → write-list-lts.Need-loop-holds (write-list-calls t) (write-list-at t) write-list.Post write-list-Inv-loop write-list-μ-loop
-write-list-loop-holds t c = (c .before .before .before .pre .1 .3, refl, left-all _ _ _ _ _ _ (c .before .before .before .pre .1 .4))
+write-list-loop-holds t c = (c .before .before .before .pre .1 .1, refl, left-all _ _ _ _ _ _ _ (c .before .before .before .pre .1 .2))
 
 write-list-bits-at-requires : (t : ℕ) → write-list-lts.Need-bits-at-requires (write-list-calls t) (write-list-at t) write-list.Post write-list-Inv-loop write-list-μ-loop
-write-list-bits-at-requires t c κs = (omega (arith, c .before .before .before .before .pre .1 .0), (search needs, left-within _ _ _ _ _ _ _ _ _ _ (c .loop .inv .2)))
+write-list-bits-at-requires t c κs = (omega (arith, c .before .before .before .before .pre .1 .0), (search needs, left-within _ _ _ _ _ _ _ _ _ _ _ (c .loop .inv .2)))
 
 write-list-shape-of-requires : (t : ℕ) → write-list-lts.Need-shape-of-requires (write-list-calls t) (write-list-at t) write-list.Post write-list-Inv-loop write-list-μ-loop
 write-list-shape-of-requires t c κs = rw (c .bits-at .ensures .0) (field-small _ _ 5)
 
 write-list-past-requires : (t : ℕ) → write-list-lts.Need-past-requires (write-list-calls t) (write-list-at t) write-list.Post write-list-Inv-loop write-list-μ-loop
-write-list-past-requires t c κs = omega (arith, c .before .before .before .before .before .before .before .pre .1 .0, left-within _ _ _ _ _ _ _ _ _ _ (c .before .before .before .loop .inv .2))
+write-list-past-requires t c κs = omega (arith, c .before .before .before .before .before .before .before .pre .1 .0, left-within _ _ _ _ _ _ _ _ _ _ _ (c .before .before .before .loop .inv .2))
 
 write-list-same-length : (t : ℕ) → write-list-lts.Need-same-length (write-list-calls t) (write-list-at t) write-list.Post write-list-Inv-loop write-list-μ-loop
 write-list-same-length t c = c .before .before .before .before .loop .inv .1
 
 write-list-returns : (t : ℕ) → write-list-lts.Need-returns (write-list-calls t) (write-list-at t) write-list.Post write-list-Inv-loop write-list-μ-loop
-write-list-returns t c = λ w. let l = left-none _ _ _ _ _ _ _ _ _ _ (c .before .before .before .before .loop .inv .2) (ap shapeOf (sym (c .before .before .before .bits-at .ensures .0)) ∙ sym (c .before .before .shape-of .ensures) ∙ c .before .if1 .taken) w in (c .past .ensures ∙ l .0, l .1)
+write-list-returns t c = λ w. let l = left-none _ _ _ _ _ _ _ _ _ _ _ (c .before .before .before .before .loop .inv .2) (ap shapeOf (sym (c .before .before .before .bits-at .ensures .0)) ∙ sym (c .before .before .shape-of .ensures) ∙ c .before .if1 .taken) w in (c .past .ensures ∙ l .0, l .1)
 
 write-list-write-instr-requires : (t : ℕ) → write-list-lts.Need-write-instr-requires (write-list-calls t) (write-list-at t) write-list.Post write-list-Inv-loop write-list-μ-loop
-write-list-write-instr-requires t c κs = (omega (arith, c .before .before .before .before .before .before .before .before .pre .0), (c .before .before .before .before .before .before .before .before .pre .1 .0, c .before .before .before .before .before .before .before .before .pre .1 .1, c .before .before .before .before .before .before .before .before .pre .1 .2, c .before .before .before .before .loop .inv .0, left-item _ _ _ _ _ _ _ _ _ _ (c .before .before .before .before .loop .inv .2) (λ e. c .before .if1 .left (c .before .before .shape-of .ensures ∙ ap shapeOf (c .before .before .before .bits-at .ensures .0) ∙ e))))
+write-list-write-instr-requires t c κs = (omega (arith, c .before .before .before .before .before .before .before .before .pre .0), (c .before .before .before .before .before .before .before .before .pre .1 .0, c .before .before .before .before .loop .inv .0, c .before .before .before .bits-at .ensures .0, c .before .before .shape-of .ensures, left-item _ _ _ _ _ _ _ _ _ _ _ (c .before .before .before .before .loop .inv .2) (λ e. c .before .if1 .left (c .before .before .shape-of .ensures ∙ ap shapeOf (c .before .before .before .bits-at .ensures .0) ∙ e))))
 
 write-list-loop-less : (t : ℕ) → write-list-lts.Need-loop-less (write-list-calls t) (write-list-at t) write-list.Post write-list-Inv-loop write-list-μ-loop
-write-list-loop-less t c = omega (arith, left-less _ _ _ _ _ _ _ _ _ _ (c .before .before .before .before .before .before .before .before .loop .inv .2) (λ e. c .before .before .before .before .before .if1 .left (c .before .before .before .before .before .before .shape-of .ensures ∙ ap shapeOf (c .before .before .before .before .before .before .before .bits-at .ensures .0) ∙ e)), next-is _ _ _ _ _ _ _ _ _ _ (c .before .before .before .before .before .before .before .before .loop .inv .2) (λ e. c .before .before .before .before .before .if1 .left (c .before .before .before .before .before .before .shape-of .ensures ∙ ap shapeOf (c .before .before .before .before .before .before .before .bits-at .ensures .0) ∙ e)) (c .before .before .before .write-instr .ensures (left-item _ _ _ _ _ _ _ _ _ _ (c .before .before .before .before .before .before .before .before .loop .inv .2) (λ e. c .before .before .before .before .before .if1 .left (c .before .before .before .before .before .before .shape-of .ensures ∙ ap shapeOf (c .before .before .before .before .before .before .before .bits-at .ensures .0) ∙ e)))))
+write-list-loop-less t c = omega (arith, left-less _ _ _ _ _ _ _ _ _ _ _ (c .before .before .before .before .before .before .before .before .loop .inv .2) (λ e. c .before .before .before .before .before .if1 .left (c .before .before .before .before .before .before .shape-of .ensures ∙ ap shapeOf (c .before .before .before .before .before .before .before .bits-at .ensures .0) ∙ e)), next-is _ _ _ _ _ _ _ _ _ _ _ (c .before .before .before .before .before .before .before .before .loop .inv .2) (λ e. c .before .before .before .before .before .if1 .left (c .before .before .before .before .before .before .shape-of .ensures ∙ ap shapeOf (c .before .before .before .before .before .before .before .bits-at .ensures .0) ∙ e)) (c .before .before .before .write-instr .ensures (left-item _ _ _ _ _ _ _ _ _ _ _ (c .before .before .before .before .before .before .before .before .loop .inv .2) (λ e. c .before .before .before .before .before .if1 .left (c .before .before .before .before .before .before .shape-of .ensures ∙ ap shapeOf (c .before .before .before .before .before .before .before .bits-at .ensures .0) ∙ e)))))
 
 write-list-loop-again : (t : ℕ) → write-list-lts.Need-loop-again (write-list-calls t) (write-list-at t) write-list.Post write-list-Inv-loop write-list-μ-loop
-write-list-loop-again t c = (omega (arith, c .before .before .before .before .before .before .before .before .loop .inv .0, c .before .before .before .write-instr .kept .1 .1 .1 .1 .1 .0, back-less _ _ _ _ _ _ _ _ _ _ (c .before .before .before .before .before .before .before .before .loop .inv .2) (λ e. c .before .before .before .before .before .if1 .left (c .before .before .before .before .before .before .shape-of .ensures ∙ ap shapeOf (c .before .before .before .before .before .before .before .bits-at .ensures .0) ∙ e)) (c .before .before .before .write-instr .ensures (left-item _ _ _ _ _ _ _ _ _ _ (c .before .before .before .before .before .before .before .before .loop .inv .2) (λ e. c .before .before .before .before .before .if1 .left (c .before .before .before .before .before .before .shape-of .ensures ∙ ap shapeOf (c .before .before .before .before .before .before .before .bits-at .ensures .0) ∙ e))))), c .before .before .before .write-instr .kept .1 .1 .1 .1 .1 .0 ∙ c .before .before .before .before .before .before .before .before .loop .inv .1, left-next _ _ _ _ _ _ _ _ _ _ (c .before .before .before .before .before .before .before .before .loop .inv .2) (λ e. c .before .before .before .before .before .if1 .left (c .before .before .before .before .before .before .shape-of .ensures ∙ ap shapeOf (c .before .before .before .before .before .before .before .bits-at .ensures .0) ∙ e)) (c .before .before .before .write-instr .ensures (left-item _ _ _ _ _ _ _ _ _ _ (c .before .before .before .before .before .before .before .before .loop .inv .2) (λ e. c .before .before .before .before .before .if1 .left (c .before .before .before .before .before .before .shape-of .ensures ∙ ap shapeOf (c .before .before .before .before .before .before .before .bits-at .ensures .0) ∙ e)))))
+write-list-loop-again t c = (omega (arith, c .before .before .before .before .before .before .before .before .loop .inv .0, c .before .before .before .write-instr .kept .1 .1 .1 .1 .1 .1 .0, back-less _ _ _ _ _ _ _ _ _ _ _ (c .before .before .before .before .before .before .before .before .loop .inv .2) (λ e. c .before .before .before .before .before .if1 .left (c .before .before .before .before .before .before .shape-of .ensures ∙ ap shapeOf (c .before .before .before .before .before .before .before .bits-at .ensures .0) ∙ e)) (c .before .before .before .write-instr .ensures (left-item _ _ _ _ _ _ _ _ _ _ _ (c .before .before .before .before .before .before .before .before .loop .inv .2) (λ e. c .before .before .before .before .before .if1 .left (c .before .before .before .before .before .before .shape-of .ensures ∙ ap shapeOf (c .before .before .before .before .before .before .before .bits-at .ensures .0) ∙ e))))), c .before .before .before .write-instr .kept .1 .1 .1 .1 .1 .1 .0 ∙ c .before .before .before .before .before .before .before .before .loop .inv .1, left-next _ _ _ _ _ _ _ _ _ _ _ (c .before .before .before .before .before .before .before .before .loop .inv .2) (λ e. c .before .before .before .before .before .if1 .left (c .before .before .before .before .before .before .shape-of .ensures ∙ ap shapeOf (c .before .before .before .before .before .before .before .bits-at .ensures .0) ∙ e)) (c .before .before .before .write-instr .ensures (left-item _ _ _ _ _ _ _ _ _ _ _ (c .before .before .before .before .before .before .before .before .loop .inv .2) (λ e. c .before .before .before .before .before .if1 .left (c .before .before .before .before .before .before .shape-of .ensures ∙ ap shapeOf (c .before .before .before .before .before .before .before .bits-at .ensures .0) ∙ e)))))
 
 write-make-cont-measure-requires : (t : ℕ) → write-make-cont-lts.Need-measure-requires (write-make-cont-calls t) (write-make-cont-at t) write-make-cont.Post
-write-make-cont-measure-requires t c κs = (c .before .before .before .pre .1 .0, c .before .before .before .pre .1 .1, c .before .before .before .pre .1 .2)
+write-make-cont-measure-requires t c κs = search needs
 
 write-make-cont-sub-cut : (t : ℕ) → write-make-cont-lts.Need-sub-cut (write-make-cont-calls t) (write-make-cont-at t) write-make-cont.Post
-write-make-cont-sub-cut t c = omega (arith, saved-cut (c .before .before .before .before .before .pre .1 .5) _ (c .before .measure .ensures), saved-size (c .before .before .before .before .before .pre .1 .5) _ (c .before .measure .ensures), c .before .before .before .before .before .pre .1 .5 .room, c .before .before .before .before .before .pre .1 .4)
+write-make-cont-sub-cut t c = omega (arith, saved-cut (c .before .before .before .before .before .pre .1 .3) _ (c .before .measure .ensures), saved-size (c .before .before .before .before .before .pre .1 .3) _ (c .before .measure .ensures), c .before .before .before .before .before .pre .1 .3 .room, c .before .before .before .before .before .pre .1 .2)
 
 write-make-cont-add-rest : (t : ℕ) → write-make-cont-lts.Need-add-rest (write-make-cont-calls t) (write-make-cont-at t) write-make-cont.Post
-write-make-cont-add-rest t c = omega (arith, saved-cut (c .before .before .before .before .before .pre .1 .5) _ (c .before .measure .ensures), saved-size (c .before .before .before .before .before .pre .1 .5) _ (c .before .measure .ensures), c .before .before .before .before .before .pre .1 .5 .room, c .before .before .before .before .before .pre .1 .4)
+write-make-cont-add-rest t c = omega (arith, saved-cut (c .before .before .before .before .before .pre .1 .3) _ (c .before .measure .ensures), saved-size (c .before .before .before .before .before .pre .1 .3) _ (c .before .measure .ensures), c .before .before .before .before .before .pre .1 .3 .room, c .before .before .before .before .before .pre .1 .2)
 
 write-make-cont-sub-put-offset : (t : ℕ) → write-make-cont-lts.Need-sub-put-offset (write-make-cont-calls t) (write-make-cont-at t) write-make-cont.Post
-write-make-cont-sub-put-offset t c = omega (arith, saved-cut (c .before .before .before .before .before .before .pre .1 .5) _ (c .before .before .measure .ensures), saved-size (c .before .before .before .before .before .before .pre .1 .5) _ (c .before .before .measure .ensures), c .before .before .before .before .before .before .pre .1 .5 .room, c .before .before .before .before .before .before .pre .1 .4)
+write-make-cont-sub-put-offset t c = omega (arith, saved-cut (c .before .before .before .before .before .before .pre .1 .3) _ (c .before .before .measure .ensures), saved-size (c .before .before .before .before .before .before .pre .1 .3) _ (c .before .before .measure .ensures), c .before .before .before .before .before .before .pre .1 .3 .room, c .before .before .before .before .before .before .pre .1 .2)
 
 write-make-cont-put-offset-requires : (t : ℕ) → write-make-cont-lts.Need-put-offset-requires (write-make-cont-calls t) (write-make-cont-at t) write-make-cont.Post
-write-make-cont-put-offset-requires t c κs = (omega (arith, saved-cut (c .before .before .before .before .before .before .pre .1 .5) _ (c .before .before .measure .ensures), saved-size (c .before .before .before .before .before .before .pre .1 .5) _ (c .before .before .measure .ensures), c .before .before .before .before .before .before .pre .1 .5 .room, c .before .before .before .before .before .before .pre .1 .4), omega (arith, saved-rest (c .before .before .before .before .before .before .pre .1 .5) _ (c .before .before .measure .ensures), c .before .before .before .before .before .before .pre .1 .5 .fits))
+write-make-cont-put-offset-requires t c κs = (omega (arith, saved-cut (c .before .before .before .before .before .before .pre .1 .3) _ (c .before .before .measure .ensures), saved-size (c .before .before .before .before .before .before .pre .1 .3) _ (c .before .before .measure .ensures), c .before .before .before .before .before .before .pre .1 .3 .room, c .before .before .before .before .before .before .pre .1 .2), omega (arith, saved-rest (c .before .before .before .before .before .before .pre .1 .3) _ (c .before .before .measure .ensures), c .before .before .before .before .before .before .pre .1 .3 .fits))
 
 write-make-cont-cast-out : (t : ℕ) → write-make-cont-lts.Need-cast-out (write-make-cont-calls t) (write-make-cont-at t) write-make-cont.Post
 write-make-cont-cast-out t c = search needs
 
 write-make-cont-add-out : (t : ℕ) → write-make-cont-lts.Need-add-out (write-make-cont-calls t) (write-make-cont-at t) write-make-cont.Post
-write-make-cont-add-out t c = omega (arith, saved-cut (c .before .before .before .before .before .before .before .before .before .pre .1 .5) _ (c .before .before .before .before .before .measure .ensures), saved-size (c .before .before .before .before .before .before .before .before .before .pre .1 .5) _ (c .before .before .before .before .before .measure .ensures), c .before .before .before .before .before .before .before .before .before .pre .1 .5 .room, c .before .before .before .before .before .before .before .before .before .pre .1 .4)
+write-make-cont-add-out t c = omega (arith, saved-cut (c .before .before .before .before .before .before .before .before .before .pre .1 .3) _ (c .before .before .before .before .before .measure .ensures), saved-size (c .before .before .before .before .before .before .before .before .before .pre .1 .3) _ (c .before .before .before .before .before .measure .ensures), c .before .before .before .before .before .before .before .before .before .pre .1 .3 .room, c .before .before .before .before .before .before .before .before .before .pre .1 .2)
 
 write-make-cont-slice-write-out : (t : ℕ) → write-make-cont-lts.Need-slice-write-out (write-make-cont-calls t) (write-make-cont-at t) write-make-cont.Post
-write-make-cont-slice-write-out t c = omega (arith, saved-cut (c .before .before .before .before .before .before .before .before .before .pre .1 .5) _ (c .before .before .before .before .before .measure .ensures), saved-size (c .before .before .before .before .before .before .before .before .before .pre .1 .5) _ (c .before .before .before .before .before .measure .ensures), c .before .before .before .before .before .before .before .before .before .pre .1 .5 .room, c .before .before .before .before .before .before .before .before .before .pre .1 .4, c .before .before .put-offset .kept .0)
+write-make-cont-slice-write-out t c = omega (arith, saved-cut (c .before .before .before .before .before .before .before .before .before .pre .1 .3) _ (c .before .before .before .before .before .measure .ensures), saved-size (c .before .before .before .before .before .before .before .before .before .pre .1 .3) _ (c .before .before .before .before .before .measure .ensures), c .before .before .before .before .before .before .before .before .before .pre .1 .3 .room, c .before .before .before .before .before .before .before .before .before .pre .1 .2, c .before .before .put-offset .kept .0)
 
 write-make-cont-write-list-requires : (t : ℕ) → write-make-cont-lts.Need-write-list-requires (write-make-cont-calls t) (write-make-cont-at t) write-make-cont.Post
-write-make-cont-write-list-requires t c κs = (omega (arith, c .before .before .before .before .before .before .before .before .before .before .pre .0), (c .before .before .before .before .before .before .before .before .before .before .pre .1 .0, c .before .before .before .before .before .before .before .before .before .before .pre .1 .1, c .before .before .before .before .before .before .before .before .before .before .pre .1 .2, simp length-set (omega (arith, c .before .before .before .before .before .before .before .before .before .before .pre .1 .4, c .before .before .before .put-offset .kept .0)), saved-to-write (c .before .before .before .before .before .before .before .before .before .before .pre .1 .5) _ (c .before .before .before .before .before .before .measure .ensures)))
+write-make-cont-write-list-requires t c κs = (omega (arith, c .before .before .before .before .before .before .before .before .before .before .pre .0), (c .before .before .before .before .before .before .before .before .before .before .pre .1 .0, simp length-set (omega (arith, c .before .before .before .before .before .before .before .before .before .before .pre .1 .2, c .before .before .before .put-offset .kept .0)), saved-to-write (c .before .before .before .before .before .before .before .before .before .before .pre .1 .3) _ (c .before .before .before .before .before .before .measure .ensures)))
 
 write-make-cont-same-length : (t : ℕ) → write-make-cont-lts.Need-same-length (write-make-cont-calls t) (write-make-cont-at t) write-make-cont.Post
-write-make-cont-same-length t c = c .before .before .write-list .kept .1 .1 .1 .1 .1 .0 ∙ (simp length-set (c .before .before .before .before .before .before .put-offset .kept .0))
+write-make-cont-same-length t c = c .before .before .write-list .kept .1 .1 .1 .1 .0 ∙ (simp length-set (c .before .before .before .before .before .before .put-offset .kept .0))
 
 write-make-cont-returns : (t : ℕ) → write-make-cont-lts.Need-returns (write-make-cont-calls t) (write-make-cont-at t) write-make-cont.Post
 write-make-cont-returns t c = λ w. saved-done (w) _ (c .before .before .before .before .before .before .before .before .before .measure .ensures) _ _ (c .before .before .before .before .before .before .put-offset .ensures) (c .before .before .write-list .ensures (saved-to-write (w) _ (c .before .before .before .before .before .before .before .before .before .measure .ensures)))
@@ -321,16 +306,16 @@ pub +write-conditional+write-instr+write-list+write-make-cont-spec : {M : Type 1
     (write-conditional-at t)
     write-conditional.Post
     (write-conditional-measure-requires t)
-    (write-conditional-measure-requires-2 t)
     (write-conditional-gap-requires t)
     (write-conditional-add-turn t)
     (write-conditional-add-turn-2 t)
-    (write-conditional-add-end t)
-    (write-conditional-add-end-2 t)
     (write-conditional-add-put-offset t)
     (write-conditional-put-offset-requires t)
     (write-conditional-add-write-list t)
     (write-conditional-write-list-requires t)
+    (write-conditional-measure-requires-2 t)
+    (write-conditional-add-end t)
+    (write-conditional-add-end-2 t)
     (write-conditional-put-jump-requires t)
     (write-conditional-add-write-list-2 t)
     (write-conditional-write-list-requires-2 t)
@@ -339,24 +324,23 @@ pub +write-conditional+write-instr+write-list+write-make-cont-spec : {M : Type 1
     (λ t. write-instr-lts.spec (write-instr-calls t)
     (write-instr-at t)
     write-instr.Post
-    (write-instr-bits-at-requires t)
-    (write-instr-shape-of-requires t)
     (write-instr-past-requires t)
     (write-instr-sub-write-conditional t)
     (write-instr-write-conditional-requires t)
     (write-instr-past-requires-2 t)
-    (write-instr-bits-at-requires-2 t)
+    (write-instr-bits-at-requires t)
     (write-instr-past-requires-3 t)
     (write-instr-sub-write-make-cont t)
     (write-instr-write-make-cont-requires t)
     (write-instr-sub-n t)
     (write-instr-cast-n t)
+    (write-instr-past-requires-4 t)
     (write-instr-write-simple-requires t)
     (write-instr-mul-past t)
     (write-instr-add-past t)
-    (write-instr-past-requires-4 t)
+    (write-instr-past-requires-5 t)
+    (write-instr-add-t28 t)
     (write-instr-add-t29 t)
-    (write-instr-add-t30 t)
     (write-instr-same-length t)
     (write-instr-returns t)
     (write-instr-same-length-2 t)

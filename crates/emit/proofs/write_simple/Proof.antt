@@ -1,90 +1,81 @@
--- `emit::write_simple` meets its contract: the loop's invariant: what is left of the operands goes into what is left of the output. Assumes nothing.
-use Prim.Native.Nat.{_+_, _*_, _-_, _≤_}
-use native.Mathlib.Nat.{add-sub-cancel-left}
+-- `emit::write_simple` meets its contract: by how many operands there are. Assumes nothing.
 use native.Mathlib.Omega.{arith}
-use mathlib.Core.Path.{_≡_, refl, _∙_}
-use lib.ListN.{length, length-set}
-use lib.Seq.{sets}
-use Rattle.emit.specs.Written.{operandsAt}
-use Rattle.emit.specs.laws.Stores.{operands-none, operands-on, simple-written}
+use mathlib.Core.Path.{sym}
+use lib.ListN.{length-set}
+use Rattle.emit.specs.laws.Stores.{none-written, one-written, two-written}
 use borrow.Author.Needs.{needs}
 use Rattle.emit.proofs.write_simple.Statement.{statement}
 use Rattle.emit.proofs.write_simple.Tie as tie
 
-abbrev Inv-loop : tie.InvT-loop
-Inv-loop s n out₀ front here₀ f₀ end out here f = (f ≤ end) × (end ≤ length out) × (here .0 + 8 * (end - f) ≤ 8 * length s) × (length out ≡ length out₀)
-    × (sets out₀ f₀ (operandsAt s (here₀ .0) n) ≡ sets out f (operandsAt s (here .0) (end - f)))
+slice-write-out-2 : tie.Need-slice-write-out-2
+slice-write-out-2 c = let n = c .before .if1 .left in simp length-set (omega arith)
 
-abbrev μ-loop : tie.MeasureT-loop
-μ-loop s n out₀ front here₀ f₀ end out here f = end - f
+slice-write-out-3 : tie.Need-slice-write-out-3
+slice-write-out-3 c = simp length-set (omega arith)
 
-bits-at-requires : tie.Need-bits-at-requires Inv-loop μ-loop
-bits-at-requires c κs = search needs
+returns : tie.Need-returns
+returns c = let a = c .before .before .before .args in none-written (a .s .now) (a .at .0) (a .n) (a .code) (a .front) (a .out .now) (c .if1 .taken)
 
-cast-out : tie.Need-cast-out Inv-loop μ-loop
+returns-2 : tie.Need-returns-2
+returns-2 c = let a = c .before .before .before .before .before .before .before .args in two-written (a .s .now) (a .at .0) (a .n) (a .code) _ _ (a .front) (a .out .now) (c .before .before .if2 .taken) (c .before .before .before .bits-at .ensures .0) (rw (c .before .past .ensures) at (c .bits-at2 .ensures .0))
+
+returns-3 : tie.Need-returns-3
+returns-3 c = let n = c .before .before .if1 .left in let m = c .if2 .left in let a = c .before .before .before .before .before .args in one-written (a .s .now) (a .at .0) (a .n) (a .code) _ (a .front) (a .out .now) (omega arith) (c .before .bits-at .ensures .0)
+
+cast-out : tie.Need-cast-out
 cast-out c = search needs
 
-slice-write-out : tie.Need-slice-write-out Inv-loop μ-loop
+slice-write-out : tie.Need-slice-write-out
 slice-write-out c = search needs
 
-past-requires : tie.Need-past-requires Inv-loop μ-loop
-past-requires c κs = search needs
+same-length : tie.Need-same-length
+same-length c = search needs
 
-add-f : tie.Need-add-f Inv-loop μ-loop
-add-f c = search needs
+bits-at-requires : tie.Need-bits-at-requires
+bits-at-requires c κs = search needs
 
-add-end : tie.Need-add-end Inv-loop μ-loop
-add-end c = search needs
-
-loop-holds : tie.Need-loop-holds Inv-loop μ-loop
-loop-holds c = (search needs, simp length-set (omega arith), omega arith, refl, rw (add-sub-cancel-left) refl)
-
-bits-at-requires-2 : tie.Need-bits-at-requires-2 Inv-loop μ-loop
-bits-at-requires-2 c κs = search needs
-
-cast-out-2 : tie.Need-cast-out-2 Inv-loop μ-loop
+cast-out-2 : tie.Need-cast-out-2
 cast-out-2 c = search needs
 
-slice-write-out-2 : tie.Need-slice-write-out-2 Inv-loop μ-loop
-slice-write-out-2 c = search needs
+add-out : tie.Need-add-out
+add-out c = search needs
 
-past-requires-2 : tie.Need-past-requires-2 Inv-loop μ-loop
-past-requires-2 c κs = search needs
+past-requires : tie.Need-past-requires
+past-requires c κs = search needs
 
-add-f-2 : tie.Need-add-f-2 Inv-loop μ-loop
-add-f-2 c = search needs
+bits-at-requires-2 : tie.Need-bits-at-requires-2
+bits-at-requires-2 c κs = search needs
 
-loop-less : tie.Need-loop-less Inv-loop μ-loop
-loop-less c = search needs
+cast-out-3 : tie.Need-cast-out-3
+cast-out-3 c = search needs
 
-loop-again : tie.Need-loop-again Inv-loop μ-loop
-loop-again c = let i = c .before .before .before .loop .inv in (search needs, search needs, omega arith, simp length-set (simp length-set at (i .3)), rw (c .past2 .ensures) (i .4 ∙ operands-on _ _ _ _ _ _ (c .before .before .loop-test .taken) (c .before .bits-at2 .ensures .0)))
+add-out-2 : tie.Need-add-out-2
+add-out-2 c = search needs
 
-same-length : tie.Need-same-length Inv-loop μ-loop
-same-length c = simp length-set at (c .before .loop .inv .3)
+same-length-2 : tie.Need-same-length-2
+same-length-2 c = search needs
 
-returns : tie.Need-returns Inv-loop μ-loop
-returns c = let i = c .before .loop .inv in let a = c .before .before .before .before .before .before .args in simple-written (operandsAt (a .s .now) (a .at .0 + 5) (a .n)) (a .out .now) _ (a .front) (c .before .before .before .bits-at .ensures .0) (rw (← c .before .before .past .ensures) (i .4 ∙ rw (operands-none _ _ _ _ (c .loop-test .left)) refl))
+same-length-3 : tie.Need-same-length-3
+same-length-3 c = search needs
 
 pub write-simple-spec : {M : Type 1} → statement M
 write-simple-spec =
     tie.close
     (tie.spec
-    Inv-loop
-    μ-loop
-    bits-at-requires
     cast-out
     slice-write-out
-    past-requires
-    add-f
-    add-end
-    loop-holds
-    bits-at-requires-2
-    cast-out-2
-    slice-write-out-2
-    past-requires-2
-    add-f-2
-    loop-less
-    loop-again
     same-length
-    returns)
+    returns
+    bits-at-requires
+    cast-out-2
+    add-out
+    slice-write-out-2
+    past-requires
+    bits-at-requires-2
+    cast-out-3
+    add-out-2
+    slice-write-out-3
+    same-length-2
+    returns-2
+    same-length-3
+    returns-3)

@@ -1,7 +1,7 @@
 -- Runs of stores, and what an instruction leaves of a list's flat code to write. Assumes nothing.
 use Prim.Native.Nat.{ℕ, zero, suc, _+_, _-_, _≤_, _<_}
 use native.Mathlib.Nat.{add-zero, zero-add, add-suc, suc-add}
-use native.Mathlib.Numerals.{add-one}
+use native.Mathlib.Numerals.{add-one, add-two}
 use native.Mathlib.Omega.{arith}
 use mathlib.Core.Path.{_≡_, refl, sym, ap, _∙_}
 use mathlib.Core.Bool.{Bool, true, false, cond, _&&_, and-eq-true-iff}
@@ -18,7 +18,8 @@ use Rattle.files.specs.Code.{Code, Instr, neutral-i, return-i, call-i, unless-i
 use Rattle.files.specs.Grammar.{isClosed}
 use Rattle.files.specs.Flat.{offset, conditional, flat, fitsOffset, armsFit, offsetsFit}
 use Rattle.files.specs.laws.RowFilled.{set-sets}
-use Rattle.emit.specs.Written.{gap, jumpBytes, armsBytes, savedBytes, frontBytes, backBytes, operandsAt}
+use Rattle.lists.specs.Pass.{operandsAt}
+use Rattle.emit.specs.Written.{gap, jumpBytes, armsBytes, savedBytes, frontBytes, backBytes}
 
 -- ---- runs of stores
 -- in two parts that do not meet
@@ -34,15 +35,6 @@ sets-four a b c d o f =
     ∙ sets-append c d (sets (sets o f a) (f + length a) b) (f + length a + length b)
 
 -- ---- the operands that are left, from f to the end
-pub operands-none : (s : List ℕ) (p f end : ℕ) → end ≤ f → operandsAt s p (end - f) ≡ []
-unfolding operandsAt
-operands-none s p f end h = let k : end - f ≡ 0 = omega arith in rw k
-
-pub operands-on : (s : List ℕ) (p f end x : ℕ) (o : List ℕ) → f < end → x ≡ fieldAt s p 8
-    → sets o f (operandsAt s p (end - f)) ≡ sets (set o f x) (f + 1) (operandsAt s (p + 8) (end - (f + 1)))
-unfolding operandsAt
-operands-on s p f end x o h e = let k : end - f ≡ suc (end - (f + 1)) = omega arith in rw (k, e, add-one)
-
 pub operands-length : (s : List ℕ) (p n : ℕ) → length (operandsAt s p n) ≡ n
 unfolding operandsAt
 operands-length s p zero = refl
@@ -151,6 +143,16 @@ unfolding armsFit gap
 fits-jumps true x y h = (omega (arith, leb-true x 65535 h), λ e. clash (cc))
 fits-jumps false x y h = let a = and-eq-true-iff (fitsOffset (3 + x)) (fitsOffset y) .0 h in (leb-true (3 + x) 65535 (a .0), λ e. leb-true y 65535 (a .1))
 
--- an instruction's code, and then its operands
-pub simple-written : {v w : ℕ} (ops o out : List ℕ) (front : ℕ) → v ≡ w → sets (set o front v) (front + 1) ops ≡ out → out ≡ sets o front (w ∷ ops)
-simple-written {v} {w} ops o out front h e = sym e ∙ rw (add-one, h) refl
+-- an instruction's code, and then its operands: none, one or two
+pub none-written : (s : List ℕ) (p n v f : ℕ) (o : List ℕ) → n ≡ 0 → set o f v ≡ sets o f (v ∷ operandsAt s p n)
+unfolding operandsAt
+none-written s p n v f o e = rw e refl
+
+pub one-written : (s : List ℕ) (p n v x f : ℕ) (o : List ℕ) → n ≡ 1 → x ≡ fieldAt s p 8 → set (set o f v) (f + 1) x ≡ sets o f (v ∷ operandsAt s p n)
+unfolding operandsAt
+one-written s p n v x f o e g = rw (e, g, add-one) refl
+
+pub two-written : (s : List ℕ) (p n v x y f : ℕ) (o : List ℕ) → n ≡ 2 → x ≡ fieldAt s p 8 → y ≡ fieldAt s (p + 8) 8
+    → set (set (set o f v) (f + 1) x) (f + 2) y ≡ sets o f (v ∷ operandsAt s p n)
+unfolding operandsAt
+two-written s p n v x y f o e g h = rw (e, g, h, add-one, add-two) refl

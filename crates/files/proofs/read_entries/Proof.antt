@@ -13,7 +13,7 @@ use Rattle.files.proofs.read_entries.Tie as tie
 
 abbrev Inv-loop : tie.InvT-loop
 Inv-loop s table₀ own count n slot₀ end here₀ table slot here =
-    (slot ≤ end) × (end ≤ 16384) × (length table ≡ 16384) × (entriesTold (entriesAt s own count n (here₀ .0)) ≡ entriesTold (entriesAt s own count (end - slot) (here .0)))
+    (slot ≤ end) × (end ≤ length table) × (length table ≡ length table₀) × (entriesTold (entriesAt s own count n (here₀ .0)) ≡ entriesTold (entriesAt s own count (end - slot) (here .0)))
     × (sets table₀ slot₀ (slotsAt s own count n (here₀ .0)) ≡ sets table slot (slotsAt s own count (end - slot) (here .0)))
 
 abbrev μ-loop : tie.MeasureT-loop

@@ -158,13 +158,13 @@ module _ {A : Type 0} (start : A → ℕ) (entries : A → List Entry) where
       rw (e, getD-append-add (rowsOf ts) (replicate k 0) (256 * t + n - length (rowsOf ts)) 0) (zeros-at k (256 * t + n - length (rowsOf ts)))
 
   -- THE LAW of a table: slot n of row t is slot n of the row of template t
-  pub table-slot : (ts : List A) (d : A) (t n : ℕ) → Few entries ts → t < length ts → n < 256
-      → getD (padTo 16384 (rowsOf ts)) (256 * t + n) 0 ≡ getD (rowOf (start (getD ts t d)) (entries (getD ts t d))) n 0
-  table-slot ts d = row-slot ts d (16384 - length (rowsOf ts))
+  pub table-slot : (size : ℕ) (ts : List A) (d : A) (t n : ℕ) → Few entries ts → t < length ts → n < 256
+      → getD (padTo size (rowsOf ts)) (256 * t + n) 0 ≡ getD (rowOf (start (getD ts t d)) (entries (getD ts t d))) n 0
+  table-slot size ts d = row-slot ts d (size - length (rowsOf ts))
 
   -- beyond the last template every slot is 0
-  pub table-beyond : (ts : List A) (t n : ℕ) → Few entries ts → length ts ≤ t → _≡_ {A = ℕ} (getD (padTo 16384 (rowsOf ts)) (256 * t + n) 0) 0
-  table-beyond ts = slot-beyond ts (16384 - length (rowsOf ts))
+  pub table-beyond : (size : ℕ) (ts : List A) (t n : ℕ) → Few entries ts → length ts ≤ t → _≡_ {A = ℕ} (getD (padTo size (rowsOf ts)) (256 * t + n) 0) 0
+  table-beyond size ts = slot-beyond ts (size - length (rowsOf ts))
 
 -- ---- the table of a tree file
 abbrev pub treeStart : Template → ℕ
@@ -181,11 +181,11 @@ tree-rows (t ∷ ts) = ap (λ (l : List ℕ). rowOf (t .start) (t .entries) ++ l
 module _ (ts : List Template) (few : Few treeEntries ts) (t n : ℕ) where
   pub tree-slot : (d : Template) → t < length ts → n < 256 → getD (treeTable ts) (256 * t + n) 0 ≡ getD (rowOf (getD ts t d .start) (getD ts t d .entries)) n 0
   unfolding treeTable
-  tree-slot d l m = rw (tree-rows ts) (table-slot treeStart treeEntries ts d t n few l m)
+  tree-slot d l m = rw (tree-rows ts) (table-slot treeStart treeEntries 16384 ts d t n few l m)
 
   pub tree-beyond : length ts ≤ t → _≡_ {A = ℕ} (getD (treeTable ts) (256 * t + n) 0) 0
   unfolding treeTable
-  tree-beyond l = rw (tree-rows ts) (table-beyond treeStart treeEntries ts t n few l)
+  tree-beyond l = rw (tree-rows ts) (table-beyond treeStart treeEntries 16384 ts t n few l)
 
 -- ---- the table of a linear file
 abbrev pub linearStart : Linear → ℕ
@@ -199,12 +199,12 @@ unfolding linearRows rowsOf
 linear-rows [] = refl
 linear-rows (t ∷ ts) = ap (λ (l : List ℕ). rowOf (linearStart t) (t .entries) ++ l) (linear-rows ts)
 
-module _ (ts : List Linear) (few : Few linearEntries ts) (t n : ℕ) where
+module _ (size : ℕ) (ts : List Linear) (few : Few linearEntries ts) (t n : ℕ) where
   pub linear-slot : (d : Linear) → t < length ts → n < 256
-      → getD (linearTable ts) (256 * t + n) 0 ≡ getD (rowOf (linearStart (getD ts t d)) (getD ts t d .entries)) n 0
+      → getD (linearTable size ts) (256 * t + n) 0 ≡ getD (rowOf (linearStart (getD ts t d)) (getD ts t d .entries)) n 0
   unfolding linearTable
-  linear-slot d l m = rw (linear-rows ts) (table-slot linearStart linearEntries ts d t n few l m)
+  linear-slot d l m = rw (linear-rows ts) (table-slot linearStart linearEntries size ts d t n few l m)
 
-  pub linear-beyond : length ts ≤ t → _≡_ {A = ℕ} (getD (linearTable ts) (256 * t + n) 0) 0
+  pub linear-beyond : length ts ≤ t → _≡_ {A = ℕ} (getD (linearTable size ts) (256 * t + n) 0) 0
   unfolding linearTable
-  linear-beyond l = rw (linear-rows ts) (table-beyond linearStart linearEntries ts t n few l)
+  linear-beyond l = rw (linear-rows ts) (table-beyond linearStart linearEntries size ts t n few l)

@@ -24,174 +24,145 @@ measure-requires c κs = search needs
 
 bits-at-requires : tie.Need-bits-at-requires
 bits-at-requires c κs =
-    let k = c in
-    let s = k .before .before .before .before .before .before in
-    let w = s .pre in
-    let m = k .before .from-slot .ensures in
-    (omega (arith, w .0), (search needs, count-within (w .3) m _ (k .measure .ensures)))
+    let w = c .before .before .before .before .before .before .before .pre in
+    let m = c .before .from-slot .ensures in
+    (omega (arith, w .0), (search needs, count-within (w .3) m _ (c .measure .ensures)))
 
 cast-out : tie.Need-cast-out
 cast-out c = search needs
 
 slice-write-out : tie.Need-slice-write-out
 slice-write-out c =
-    let k = c .before in
-    let s = k .before .before .before .before .before .before in
-    let w = s .pre in
-    let m = k .before .from-slot .ensures in
-    let r = room-enough (w .3) m _ (k .measure .ensures) in
-    let p = places (w .3) m _ (k .measure .ensures) in
-    omega (arith, r, p, m, w .0, s .good)
+    let w = c .before .before .before .before .before .before .before .before .pre in
+    let m = c .before .before .from-slot .ensures in
+    let r = room-enough (w .3) m _ (c .before .measure .ensures) in
+    let p = places (w .3) m _ (c .before .measure .ensures) in
+    omega (arith, r, p, m, w .0, c .before .before .before .before .before .before .before .before .good)
 
 past-requires : tie.Need-past-requires
 past-requires c κs =
-    let k = c .before in
-    let s = k .before .before .before .before .before .before in
-    let w = s .pre in
-    let m = k .before .from-slot .ensures in
-    let r = room-enough (w .3) m _ (k .measure .ensures) in
-    let p = places (w .3) m _ (k .measure .ensures) in
-    omega (arith, r, p, m, w .0, s .good)
+    let w = c .before .before .before .before .before .before .before .before .pre in
+    let m = c .before .before .from-slot .ensures in
+    let r = room-enough (w .3) m _ (c .before .measure .ensures) in
+    let p = places (w .3) m _ (c .before .measure .ensures) in
+    omega (arith, r, p, m, w .0, c .before .before .before .before .before .before .before .before .good)
 
 add-write-bits : tie.Need-add-write-bits
 add-write-bits c =
-    let k = c .before .before .before in
-    let s = k .before .before .before .before .before .before in
-    let w = s .pre in
-    let m = k .before .from-slot .ensures in
-    let r = room-enough (w .3) m _ (k .measure .ensures) in
-    let p = places (w .3) m _ (k .measure .ensures) in
-    omega (arith, r, p, m, w .0, s .good)
+    let w = c .before .before .before .before .before .before .before .before .before .before .pre in
+    let m = c .before .before .before .before .from-slot .ensures in
+    let r = room-enough (w .3) m _ (c .before .before .before .measure .ensures) in
+    let p = places (w .3) m _ (c .before .before .before .measure .ensures) in
+    omega (arith, r, p, m, w .0, c .before .before .before .before .before .before .before .before .before .before .good)
 
 write-bits-requires : tie.Need-write-bits-requires
 write-bits-requires c κs =
-    let k = c .before .before .before in
-    let s = k .before .before .before .before .before .before in
-    let w = s .pre in
-    let m = k .before .from-slot .ensures in
-    let r = room-enough (w .3) m _ (k .measure .ensures) in
-    let p = places (w .3) m _ (k .measure .ensures) in
-    (w .0, p .1, simp length-set (omega (arith, r, p, m, w .0, s .good, c .before .past .ensures)))
+    let w = c .before .before .before .before .before .before .before .before .before .before .pre in
+    let m = c .before .before .before .before .from-slot .ensures in
+    let r = room-enough (w .3) m _ (c .before .before .before .measure .ensures) in
+    let p = places (w .3) m _ (c .before .before .before .measure .ensures) in
+    (w .0, p .1, simp length-set (omega (arith, r, p, m, w .0, c .before .before .before .before .before .before .before .before .before .before .good, c .before .past .ensures)))
 
 add-f : tie.Need-add-f
 add-f c =
-    let k = c .before .before .before .before .before .before in
-    let s = k .before .before .before .before .before .before in
-    let w = s .pre in
-    let m = k .before .from-slot .ensures in
-    let r = room-enough (w .3) m _ (k .measure .ensures) in
-    let p = places (w .3) m _ (k .measure .ensures) in
-    omega (arith, r, p, m, w .0, s .good)
+    let w = c .before .before .before .before .before .before .before .before .before .before .before .before .before .pre in
+    let m = c .before .before .before .before .before .before .before .from-slot .ensures in
+    let r = room-enough (w .3) m _ (c .before .before .before .before .before .before .measure .ensures) in
+    let p = places (w .3) m _ (c .before .before .before .before .before .before .measure .ensures) in
+    omega (arith, r, p, m, w .0, c .before .before .before .before .before .before .before .before .before .before .before .before .before .good)
 
 since-requires : tie.Need-since-requires
 since-requires c κs =
-    let k = c .before .before .before .before .before .before in
-    let s = k .before .before .before .before .before .before in
-    let w = s .pre in
-    let m = k .before .from-slot .ensures in
-    let r = room-enough (w .3) m _ (k .measure .ensures) in
-    let p = places (w .3) m _ (k .measure .ensures) in
-    omega (arith, r, p, m, w .0, s .good, c .before .before .before .before .past .ensures)
+    let w = c .before .before .before .before .before .before .before .before .before .before .before .before .before .pre in
+    let m = c .before .before .before .before .before .before .before .from-slot .ensures in
+    let r = room-enough (w .3) m _ (c .before .before .before .before .before .before .measure .ensures) in
+    let p = places (w .3) m _ (c .before .before .before .before .before .before .measure .ensures) in
+    omega (arith, r, p, m, w .0, c .before .before .before .before .before .before .before .before .before .before .before .before .before .good, c .before .before .before .before .past .ensures)
 
 add-f-2 : tie.Need-add-f-2
 add-f-2 c =
-    let k = c .before .before .before .before .before .before .before in
-    let s = k .before .before .before .before .before .before in
-    let w = s .pre in
-    let m = k .before .from-slot .ensures in
-    let r = room-enough (w .3) m _ (k .measure .ensures) in
-    let p = places (w .3) m _ (k .measure .ensures) in
-    omega (arith, r, p, m, w .0, s .good, c .before .before .before .before .before .past .ensures, c .since .ensures)
+    let w = c .before .before .before .before .before .before .before .before .before .before .before .before .before .before .pre in
+    let m = c .before .before .before .before .before .before .before .before .from-slot .ensures in
+    let r = room-enough (w .3) m _ (c .before .before .before .before .before .before .before .measure .ensures) in
+    let p = places (w .3) m _ (c .before .before .before .before .before .before .before .measure .ensures) in
+    omega (arith, r, p, m, w .0, c .before .before .before .before .before .before .before .before .before .before .before .before .before .before .good, c .before .before .before .before .before .past .ensures, c .since .ensures)
 
 add-f-3 : tie.Need-add-f-3
 add-f-3 c =
-    let k = c .before .before .before .before .before .before .before in
-    let s = k .before .before .before .before .before .before in
-    let w = s .pre in
-    let m = k .before .from-slot .ensures in
-    let r = room-enough (w .3) m _ (k .measure .ensures) in
-    let p = places (w .3) m _ (k .measure .ensures) in
-    omega (arith, r, p, m, w .0, s .good, c .before .before .before .before .before .past .ensures, c .since .ensures)
+    let w = c .before .before .before .before .before .before .before .before .before .before .before .before .before .before .pre in
+    let m = c .before .before .before .before .before .before .before .before .from-slot .ensures in
+    let r = room-enough (w .3) m _ (c .before .before .before .before .before .before .before .measure .ensures) in
+    let p = places (w .3) m _ (c .before .before .before .before .before .before .before .measure .ensures) in
+    omega (arith, r, p, m, w .0, c .before .before .before .before .before .before .before .before .before .before .before .before .before .before .good, c .before .before .before .before .before .past .ensures, c .since .ensures)
 
 put-length-requires : tie.Need-put-length-requires
 put-length-requires c κs =
-    let k = c .before .before .before .before .before .before .before .before in
-    let s = k .before .before .before .before .before .before in
-    let w = s .pre in
-    let m = k .before .from-slot .ensures in
-    let r = room-enough (w .3) m _ (k .measure .ensures) in
-    let p = places (w .3) m _ (k .measure .ensures) in
+    let w = c .before .before .before .before .before .before .before .before .before .before .before .before .before .before .before .pre in
+    let m = c .before .before .before .before .before .before .before .before .before .from-slot .ensures in
+    let r = room-enough (w .3) m _ (c .before .before .before .before .before .before .before .before .measure .ensures) in
+    let p = places (w .3) m _ (c .before .before .before .before .before .before .before .before .measure .ensures) in
     let a = c .before .before .before .before .before .before .past .ensures in
     let b = c .before .since .ensures in
     let o = simp length-set at (c .before .before .before .before .write-bits .kept .1 .1 .1 .0) in
-    (omega (arith, r, p, m, w .0, s .good), size-small (w .3) m _ (k .measure .ensures) (w .0))
+    (omega (arith, r, p, m, w .0, c .before .before .before .before .before .before .before .before .before .before .before .before .before .before .before .good), size-small (w .3) m _ (c .before .before .before .before .before .before .before .before .measure .ensures) (w .0))
 
 add-end : tie.Need-add-end
 add-end c =
-    let k = c .before .before .before .before .before .before .before .before .before .before .before in
-    let s = k .before .before .before .before .before .before in
-    let w = s .pre in
-    let m = k .before .from-slot .ensures in
-    let r = room-enough (w .3) m _ (k .measure .ensures) in
-    let p = places (w .3) m _ (k .measure .ensures) in
+    let w = c .before .before .before .before .before .before .before .before .before .before .before .before .before .before .before .before .before .before .pre in
+    let m = c .before .before .before .before .before .before .before .before .before .before .before .before .from-slot .ensures in
+    let r = room-enough (w .3) m _ (c .before .before .before .before .before .before .before .before .before .before .before .measure .ensures) in
+    let p = places (w .3) m _ (c .before .before .before .before .before .before .before .before .before .before .before .measure .ensures) in
     let a = c .before .before .before .before .before .before .before .before .before .past .ensures in
     let b = c .before .before .before .before .since .ensures in
-    omega (arith, r, p, m, w .0, s .good)
+    omega (arith, r, p, m, w .0, c .before .before .before .before .before .before .before .before .before .before .before .before .before .before .before .before .before .before .good)
 
 add-end-2 : tie.Need-add-end-2
 add-end-2 c =
-    let k = c .before .before .before .before .before .before .before .before .before .before .before in
-    let s = k .before .before .before .before .before .before in
-    let w = s .pre in
-    let m = k .before .from-slot .ensures in
-    let r = room-enough (w .3) m _ (k .measure .ensures) in
-    let p = places (w .3) m _ (k .measure .ensures) in
+    let w = c .before .before .before .before .before .before .before .before .before .before .before .before .before .before .before .before .before .before .pre in
+    let m = c .before .before .before .before .before .before .before .before .before .before .before .before .from-slot .ensures in
+    let r = room-enough (w .3) m _ (c .before .before .before .before .before .before .before .before .before .before .before .measure .ensures) in
+    let p = places (w .3) m _ (c .before .before .before .before .before .before .before .before .before .before .before .measure .ensures) in
     let a = c .before .before .before .before .before .before .before .before .before .past .ensures in
     let b = c .before .before .before .before .since .ensures in
-    omega (arith, r, p, m, w .0, s .good)
+    omega (arith, r, p, m, w .0, c .before .before .before .before .before .before .before .before .before .before .before .before .before .before .before .before .before .before .good)
 
 add-write-list : tie.Need-add-write-list
 add-write-list c =
-    let k = c .before .before .before .before .before .before .before .before .before .before .before .before in
-    let s = k .before .before .before .before .before .before in
-    let w = s .pre in
-    let m = k .before .from-slot .ensures in
-    let r = room-enough (w .3) m _ (k .measure .ensures) in
-    let p = places (w .3) m _ (k .measure .ensures) in
+    let w = c .before .before .before .before .before .before .before .before .before .before .before .before .before .before .before .before .before .before .before .pre in
+    let m = c .before .before .before .before .before .before .before .before .before .before .before .before .before .from-slot .ensures in
+    let r = room-enough (w .3) m _ (c .before .before .before .before .before .before .before .before .before .before .before .before .measure .ensures) in
+    let p = places (w .3) m _ (c .before .before .before .before .before .before .before .before .before .before .before .before .measure .ensures) in
     let a = c .before .before .before .before .before .before .before .before .before .before .past .ensures in
     let b = c .before .before .before .before .before .since .ensures in
-    omega (arith, r, p, m, w .0, s .good)
+    omega (arith, r, p, m, w .0, c .before .before .before .before .before .before .before .before .before .before .before .before .before .before .before .before .before .before .before .good)
 
 write-list-requires : tie.Need-write-list-requires
 write-list-requires c κs =
-    let k = c .before .before .before .before .before .before .before .before .before .before .before .before in
-    let s = k .before .before .before .before .before .before in
-    let w = s .pre in
-    let m = k .before .from-slot .ensures in
-    let r = room-enough (w .3) m _ (k .measure .ensures) in
-    let p = places (w .3) m _ (k .measure .ensures) in
+    let w = c .before .before .before .before .before .before .before .before .before .before .before .before .before .before .before .before .before .before .before .pre in
+    let m = c .before .before .before .before .before .before .before .before .before .before .before .before .before .from-slot .ensures in
+    let r = room-enough (w .3) m _ (c .before .before .before .before .before .before .before .before .before .before .before .before .measure .ensures) in
+    let p = places (w .3) m _ (c .before .before .before .before .before .before .before .before .before .before .before .before .measure .ensures) in
     let a = c .before .before .before .before .before .before .before .before .before .before .past .ensures in
     let b = c .before .before .before .before .before .since .ensures in
     let o = simp length-set at (c .before .before .before .before .before .before .before .before .write-bits .kept .1 .1 .1 .0) in
-    (w .0, w .1, w .2, omega (arith, r, p, m, w .0, s .good, c .before .before .before .put-length .kept .0), listToWrite (w .3) m _ (k .measure .ensures) _)
+    (w .0, omega (arith, r, p, m, w .0, c .before .before .before .before .before .before .before .before .before .before .before .before .before .before .before .before .before .before .before .good, c .before .before .before .put-length .kept .0), listToWrite (w .3) m _ (c .before .before .before .before .before .before .before .before .before .before .before .before .measure .ensures) _)
 
 same-length : tie.Need-same-length
 same-length c =
-    c .before .before .write-list .kept .1 .1 .1 .1 .1 .0 ∙ c .before .before .before .before .before .before .put-length .kept .0
+    c .before .before .write-list .kept .1 .1 .1 .1 .0 ∙ c .before .before .before .before .before .before .put-length .kept .0
     ∙ (simp length-set at (c .before .before .before .before .before .before .before .before .before .before .before .write-bits .kept .1 .1 .1 .0))
 
 returns : tie.Need-returns
 returns c =
     λ w.
-    let k = c .before .before .before .before .before .before .before .before .before .before .before .before .before .before .before in
-    let m = k .before .from-slot .ensures in
+    let m = c .before .before .before .before .before .before .before .before .before .before .before .before .before .before .before .before .from-slot .ensures in
     let first = c .before .before .before .before .before .before .before .before .before .before .before .before .before .past .ensures in
     let gap = c .before .before .before .before .before .before .before .before .since .ensures in
     let count = c .before .before .before .before .before .before .before .before .before .before .before .before .before .before .bits-at .ensures .0 in
     let entries = c .before .before .before .before .before .before .before .before .before .before .before .write-bits .ensures in
     let size = c .before .before .before .before .before .before .put-length .ensures in
-    let list = c .before .before .write-list .ensures (listToWrite w m _ (k .measure .ensures) _) in
-    template-done w m _ (k .measure .ensures) first gap _ count entries size list
+    let list = c .before .before .write-list .ensures (listToWrite w m _ (c .before .before .before .before .before .before .before .before .before .before .before .before .before .before .before .measure .ensures) _) in
+    template-done w m _ (c .before .before .before .before .before .before .before .before .before .before .before .before .before .before .before .measure .ensures) first gap _ count entries size list
 
 pub write-template-spec : {M : Type 1} → statement M
 write-template-spec =

@@ -9,16 +9,16 @@ use Rattle.flatten.proofs.write_templates.Statement.{statement}
 use Rattle.flatten.proofs.write_templates.Tie as tie
 
 abbrev Inv-loop : tie.InvT-loop
-Inv-loop s table count out₀ own₀ here₀ front₀ out own here front = (own ≤ count) × (length out ≡ length out₀) × Left s table count (length out₀) own (here .0) front out₀ out
+Inv-loop s table marks count out₀ own₀ here₀ front₀ out own here front = (own ≤ count) × (length out ≡ length out₀) × Left s table marks count (length out₀) own (here .0) front out₀ out
 
 abbrev μ-loop : tie.MeasureT-loop
-μ-loop s table count out₀ own₀ here₀ front₀ out own here front = count - own
+μ-loop s table marks count out₀ own₀ here₀ front₀ out own here front = count - own
 
 loop-holds : tie.Need-loop-holds Inv-loop μ-loop
-loop-holds c = (search needs, refl, left-all _ _ _ _ _ (c .before .before .before .pre .2))
+loop-holds c = (search needs, refl, left-all _ _ _ _ _ _ (c .before .before .before .before .pre .2))
 
 write-template-requires : tie.Need-write-template-requires Inv-loop μ-loop
-write-template-requires c κs = let p = c .before .before .before .before .before .before .pre in (p .0, p .1, omega (arith, c .before .loop-test .taken, c .before .before .loop .inv .2 .now .few), leftTemplate _ _ _ _ _ _ _ _ _ (c .before .before .loop .inv .2) (c .before .loop-test .taken) _ (omega (arith, c .before .before .loop .inv .1)))
+write-template-requires c κs = let p = c .before .before .before .before .before .before .before .pre in (p .0, p .1, omega (arith, c .before .loop-test .taken, c .before .before .loop .inv .2 .now .few), leftTemplate _ _ _ _ _ _ _ _ _ _ (c .before .before .loop .inv .2) (c .before .loop-test .taken) _ (omega (arith, c .before .before .loop .inv .1)))
 
 add-own : tie.Need-add-own Inv-loop μ-loop
 add-own c = search needs
@@ -27,13 +27,13 @@ loop-less : tie.Need-loop-less Inv-loop μ-loop
 loop-less c = search needs
 
 loop-again : tie.Need-loop-again Inv-loop μ-loop
-loop-again c = (search needs, c .before .before .before .write-template .kept .1 .1 .1 .1 .0 ∙ c .before .before .before .before .before .before .loop .inv .1, left-next _ _ _ _ _ _ _ _ _ (c .before .before .before .before .before .before .loop .inv .2) (c .before .before .before .before .before .loop-test .taken) (length (c .before .before .before .before .before .before .loop .out)) (omega (arith, c .before .before .before .before .before .before .loop .inv .1)) (c .before .before .before .write-template .ensures (leftTemplate _ _ _ _ _ _ _ _ _ (c .before .before .before .before .before .before .loop .inv .2) (c .before .before .before .before .before .loop-test .taken) (length (c .before .before .before .before .before .before .loop .out)) (omega (arith, c .before .before .before .before .before .before .loop .inv .1)))))
+loop-again c = (search needs, c .before .before .before .write-template .kept .1 .1 .1 .1 .1 .0 ∙ c .before .before .before .before .before .before .loop .inv .1, left-next _ _ _ _ _ _ _ _ _ _ (c .before .before .before .before .before .before .loop .inv .2) (c .before .before .before .before .before .loop-test .taken) (length (c .before .before .before .before .before .before .loop .out)) (omega (arith, c .before .before .before .before .before .before .loop .inv .1)) (c .before .before .before .write-template .ensures (leftTemplate _ _ _ _ _ _ _ _ _ _ (c .before .before .before .before .before .before .loop .inv .2) (c .before .before .before .before .before .loop-test .taken) (length (c .before .before .before .before .before .before .loop .out)) (omega (arith, c .before .before .before .before .before .before .loop .inv .1)))))
 
 same-length : tie.Need-same-length Inv-loop μ-loop
 same-length c = c .before .loop .inv .1
 
 returns : tie.Need-returns Inv-loop μ-loop
-returns c = left-none _ _ _ _ _ _ _ _ _ (c .before .loop .inv .2) (c .loop-test .left)
+returns c = left-none _ _ _ _ _ _ _ _ _ _ (c .before .loop .inv .2) (c .loop-test .left)
 
 pub write-templates-spec : {M : Type 1} → statement M
 write-templates-spec =

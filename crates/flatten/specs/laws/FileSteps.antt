@@ -2,7 +2,7 @@
 use Prim.Native.Nat.{ℕ, suc, _+_, _*_, _-_, _≤_, _<_}
 use native.Mathlib.Nat.{add-zero, zero-add, sub-zero}
 use native.Mathlib.Omega.{arith}
-use mathlib.Core.Path.{_≡_, refl, sym, ap, _∙_}
+use mathlib.Core.Path.{_≡_, refl, sym, ap, _∙_, subst}
 use mathlib.Core.Bool.{true}
 use mathlib.Core.List.{List, [], _∷_, _++_, append-assoc}
 use mathlib.Core.Option.{none, some}
@@ -29,6 +29,10 @@ use Rattle.tree.specs.laws.FilledLaws.{tree-table}
 use Rattle.tree.specs.laws.Parts.{TemplatesParts, templates-parts, templates-count, FileParts, tree-parts}
 use Rattle.tree.specs.laws.Judged.{ReadAs, judged-told, number-some, number-none}
 use Rattle.cells.specs.laws.Lists.{sets-append}
+use Rattle.lists.specs.declared.Keep.the-variants.{Sizes}
+use Rattle.lists.specs.Marks.{Has}
+use Rattle.tree.specs.Marked.{markedAll, templatesMarked}
+use Rattle.tree.specs.laws.Laid.{template-has}
 use Rattle.flatten.specs.declared.Past.{Past}
 use Rattle.files.specs.declared.Outcome.{Outcome}
 use Rattle.files.specs.declared.Outcome.the-variants.{Written, Refused}
@@ -37,16 +41,16 @@ use Rattle.flatten.specs.Flatten.{flattened}
 use Rattle.flatten.specs.ToFlatten.{TemplateToWrite, TemplateDone, Flattenable, TemplatesToWrite}
 
 -- ---- the templates that are left, own to T, which stand at p and go into o from f on
-pub record Left (s table : List ℕ) (T room own p f : ℕ) (o₀ o : List ℕ) : Type 0 where
-  pub now : TemplatesToWrite s table T own p f room
-  pub same : (w : TemplatesToWrite s table T 0 8 1 room) → sets o₀ 1 (templatesBytes (w .templates)) ≡ sets o f (templatesBytes (now .templates))
+pub record Left (s table M : List ℕ) (T room own p f : ℕ) (o₀ o : List ℕ) : Type 0 where
+  pub now : TemplatesToWrite s table M T own p f room
+  pub same : (w : TemplatesToWrite s table M T 0 8 1 room) → sets o₀ 1 (templatesBytes (w .templates)) ≡ sets o f (templatesBytes (now .templates))
 
-module _ (s table : List ℕ) (T room : ℕ) (o₀ : List ℕ) where
-  pub left-all : TemplatesToWrite s table T 0 8 1 room → Left s table T room 0 8 1 o₀ o₀
+module _ (s table M : List ℕ) (T room : ℕ) (o₀ : List ℕ) where
+  pub left-all : TemplatesToWrite s table M T 0 8 1 room → Left s table M T room 0 8 1 o₀ o₀
   left-all v = record { now = v; same = λ w. ap (λ (ts : List Template). sets o₀ 1 (templatesBytes ts)) (got-value (sym (w .read) ∙ v .read) .0) }
 
-  module _ (own p f : ℕ) (o : List ℕ) (left : Left s table T room own p f o₀ o) where
-    pub left-none : T ≤ own → (w : TemplatesToWrite s table T 0 8 1 room) → o ≡ sets o₀ 1 (templatesBytes (w .templates))
+  module _ (own p f : ℕ) (o : List ℕ) (left : Left s table M T room own p f o₀ o) where
+    pub left-none : T ≤ own → (w : TemplatesToWrite s table M T 0 8 1 room) → o ≡ sets o₀ 1 (templatesBytes (w .templates))
     unfolding templatesAt templatesBytes
     left-none h w =
         let k : T - own ≡ 0 = omega arith in
@@ -57,7 +61,8 @@ module _ (s table : List ℕ) (T room : ℕ) (o₀ : List ℕ) where
       pub this : TemplatesParts s T own (T - (own + 1)) p (left .now .templates) (left .now .past)
       this = let k : T - own ≡ suc (T - (own + 1)) = omega arith in templates-parts s T own (T - (own + 1)) p (rw k at (left .now .read))
 
-      pub this-good : (getD table (256 * own) 0 ≡ this .head .start) × (offsetTemplate (this .head) ≡ true) × Flattenable table (own + 1) (this .tail)
+      pub this-good : (getD table (256 * own) 0 ≡ this .head .start) × (offsetTemplate (this .head) ≡ true) × Has Sizes M (this .head .start) (this .head .code)
+          × Flattenable table M (own + 1) (this .tail)
       unfolding Flattenable
       this-good = rw (this .are) at (left .now .good)
 
@@ -67,7 +72,7 @@ module _ (s table : List ℕ) (T room : ℕ) (o₀ : List ℕ) where
           ap (λ (ts : List Template). length (templatesBytes ts)) (this .are) ∙ length-append (templateBytes (this .head)) (templatesBytes (this .tail))
 
       module _ (bytes : ℕ) (enough : room ≤ bytes) where
-        abbrev pub leftTemplate : TemplateToWrite s table own p f bytes
+        abbrev pub leftTemplate : TemplateToWrite s table M own p f bytes
         leftTemplate =
             record {
               count = T;
@@ -77,10 +82,11 @@ module _ (s table : List ℕ) (T room : ℕ) (o₀ : List ℕ) where
               read = this .first;
               start = this-good .0;
               fits = this-good .1;
+              has = this-good .2;
               fit-room = omega (arith, these-bytes, left .now .fit-room);
             }
 
-        pub left-next : {r : Past} {o′ : List ℕ} → TemplateDone leftTemplate r o o′ → Left s table T room (own + 1) (r .next .0) (r .front) o₀ o′
+        pub left-next : {r : Past} {o′ : List ℕ} → TemplateDone leftTemplate r o o′ → Left s table M T room (own + 1) (r .next .0) (r .front) o₀ o′
         unfolding templatesBytes
         left-next {r} {o′} done =
             let e₁ : r .next .0 ≡ this .next = ap (λ (x : Past). x .next .0) (done .0) in
@@ -91,7 +97,7 @@ module _ (s table : List ℕ) (T room : ℕ) (o₀ : List ℕ) where
                 past = left .now .past;
                 few = left .now .few;
                 read = ap (templatesAt s T (own + 1) (T - (own + 1))) e₁ ∙ this .rest;
-                good = this-good .2;
+                good = this-good .3;
                 fit-room = omega (arith, these-bytes, left .now .fit-room);
               };
               same =
@@ -100,11 +106,13 @@ module _ (s table : List ℕ) (T room : ℕ) (o₀ : List ℕ) where
             }
 
 -- ---- the templates of a file that was read
-all-flattenable : (all : List Template) → Few treeEntries all → (front ts : List Template) (own : ℕ) → all ≡ front ++ ts → length front ≡ own
-    → lowest offsetTemplate own ts ≡ none → Flattenable (treeTable all) own ts
+all-flattenable : (all : List Template) (M : List ℕ) → Few treeEntries all
+    → ((i : ℕ) (d : Template) → i < length all → Has Sizes M (getD all i d .start) (getD all i d .code))
+    → (front ts : List Template) (own : ℕ) → all ≡ front ++ ts → length front ≡ own → lowest offsetTemplate own ts ≡ none
+    → Flattenable (treeTable all) M own ts
 unfolding Flattenable
-all-flattenable all few front [] own e l h = tt
-all-flattenable all few front (t ∷ ts) own e l h =
+all-flattenable all M few has front [] own e l h = tt
+all-flattenable all M few has front (t ∷ ts) own e l h =
     let n : length all ≡ length front + suc (length ts) = ap length e ∙ length-append front (t ∷ ts) in
     let at : getD all own t ≡ t = rw (e, ← l) (getD-append-seam front t ts t) in
     let z : 256 * own + 0 ≡ 256 * own = add-zero (256 * own) in
@@ -113,7 +121,7 @@ all-flattenable all few front (t ∷ ts) own e l h =
     let k = lowest-none offsetTemplate own t ts h in
     let a : all ≡ (front ++ (t ∷ [])) ++ ts = e ∙ sym (append-assoc front (t ∷ []) ts) in
     let b : length (front ++ (t ∷ [])) ≡ own + 1 = length-append front (t ∷ []) ∙ omega arith in
-    (slot, k .0, all-flattenable all few (front ++ (t ∷ [])) ts (own + 1) a b (k .1))
+    (slot, k .0, subst (λ (x : Template). Has Sizes M (x .start) (x .code)) at (has own t (omega arith)), all-flattenable all M few has (front ++ (t ∷ [])) ts (own + 1) a b (k .1))
 
 -- ---- the flattener
 module _ (s old : List ℕ) where
@@ -191,8 +199,16 @@ module _ (s old : List ℕ) where
     counts : m .count ≡ parts .count
     counts = count-is ∙ templates-count s (parts .count) (parts .count) 0 (parts .first) (parts .read)
 
-    module _ (close : 64 ≤ m .far) {table : List ℕ} (filled : table ≡ treeFilled s) (bytes : ℕ) (enough : m .size ≤ bytes) where
-      pub file-to-write : TemplatesToWrite s table (m .count) 0 8 1 bytes
+    module _ (close : 64 ≤ m .far) {table : List ℕ} (filled : table ≡ treeFilled s) (M M′ : List ℕ) (marks : templatesMarked Sizes M M′ (treeRead s))
+        (long : length s ≤ 65536 → 8 * length s ≤ 5 * length M) (bytes : ℕ) (enough : m .size ≤ bytes) where
+      all-marked : M′ ≡ markedAll Sizes M templates
+      unfolding templatesMarked
+      all-marked = rw read at marks
+
+      all-has : (i : ℕ) (d : Template) → i < length templates → Has Sizes M′ (getD templates i d .start) (getD templates i d .code)
+      all-has i d h = rw all-marked (template-has s read i d h Sizes M (long file-short))
+
+      pub file-to-write : TemplatesToWrite s table M′ (m .count) 0 8 1 bytes
       unfolding linearFile
       file-to-write =
           let first : 8 ≡ parts .first = sym (field-got s 0 8 (parts .counted) .1) in
@@ -203,12 +219,12 @@ module _ (s old : List ℕ) where
             read =
                 ap (λ (n : ℕ). templatesAt s n 0 (n - 0) 8) counts ∙ ap (λ (n : ℕ). templatesAt s (parts .count) 0 n 8) (sub-zero (parts .count))
                 ∙ ap (templatesAt s (parts .count) 0 (parts .count)) first ∙ parts .read;
-            good = rw (filled, tree-table s (read)) (all-flattenable templates (tree-read s (read) .1 .1) [] templates 0 refl refl (near close));
+            good = rw (filled, tree-table s (read)) (all-flattenable templates M′ (tree-read s (read) .1 .1) all-has [] templates 0 refl refl (near close));
             fit-room = omega (arith, size-is);
           }
 
       pub flatten-written : bytes ≡ length old → {o : List ℕ}
-          → ((w : TemplatesToWrite s table (m .count) 0 8 1 bytes) → o ≡ sets (set old 0 (m .count)) 1 (templatesBytes (w .templates)))
+          → ((w : TemplatesToWrite s table M′ (m .count) 0 8 1 bytes) → o ≡ sets (set old 0 (m .count)) 1 (templatesBytes (w .templates)))
           → FlattenDone (Written (m .size)) o
       unfolding file-to-write linearFile
       flatten-written h e =

@@ -7,7 +7,7 @@ use lib.ListN.{length, getD, set}
 use lib.Seq.{sets}
 use Rattle.cells.specs.declared.BitPlace.{BitPlace}
 use Rattle.fields.specs.Field.{fieldAt}
-use Rattle.files.specs.Code.{Code}
+use Rattle.files.specs.Code.{Code, bits}
 use Rattle.files.specs.Reading.{got, listAt}
 use Rattle.files.specs.laws.ReadingLaws.{list-bits, flat-bits}
 use Rattle.files.specs.laws.AllGot.{field-got}
@@ -19,6 +19,8 @@ use Rattle.readback.specs.laws.Lists.{from-length}
 use Rattle.readback.specs.laws.Standing.{entries-stand, entries-copied}
 use Rattle.tree.specs.laws.Parts.{TemplateParts, template-parts}
 use Rattle.tree.specs.laws.SummaryLaws.{template-length}
+use Rattle.lists.specs.declared.Keep.the-variants.{Sizes}
+use Rattle.lists.specs.Marks.{markOf, markAt}
 use Rattle.emit.specs.declared.Measured.{Measured}
 use Rattle.emit.specs.Written.{measuredOf}
 use Rattle.emit.specs.ToWrite.{ToWrite}
@@ -26,9 +28,10 @@ use Rattle.emit.specs.laws.Stores.{sets-four}
 use Rattle.flatten.specs.ToFlatten.{TemplateToWrite, TemplateDone}
 
 -- listStart is where its list begins, and m what was measured of it
-module _ {s table : List ℕ} {own p front room : ℕ} (w : TemplateToWrite s table own p front room) {listStart : ℕ} (slot : listStart ≡ getD table (256 * own) 0)
-    (m : Measured) (measured : (c : Code) (q : ℕ) → listAt s 15 listStart ≡ got c q → m ≡ measuredOf c q) where
-  start-at : listStart ≡ w .template .start
+module _ {s table M : List ℕ} {own p front room : ℕ} (w : TemplateToWrite s table M own p front room) {listStart : ℕ}
+    (slot : listStart ≡ getD table (256 * own) 0) (m : Measured)
+    (measured : (c : Code) (q : ℕ) → markAt M listStart ≡ markOf Sizes c q → m ≡ measuredOf c) where
+  pub start-at : listStart ≡ w .template .start
   start-at = slot ∙ w .start
 
   -- where the length of its code goes
@@ -63,7 +66,7 @@ module _ {s table : List ℕ} {own p front room : ℕ} (w : TemplateToWrite s ta
 
   pub size-is : m .size ≡ length (flat (w .template .code))
   unfolding measuredOf
-  size-is = ap (λ (x : Measured). x .size) (measured (w .template .code) (w .past) list-read)
+  size-is = ap (λ (x : Measured). x .size) (measured (w .template .code) (w .template .start + bits (w .template .code)) (rw start-at (w .has .0)))
 
   bits-bytes : length (bytesOf (bitsFrom s (p + 8) (listStart - (p + 8)))) ≡ (listStart - (p + 8) + 7) / 8
   bits-bytes = bytes-length (bitsFrom s (p + 8) (listStart - (p + 8))) ∙ rw (from-length s (p + 8) (listStart - (p + 8))) refl
@@ -79,8 +82,16 @@ module _ {s table : List ℕ} {own p front room : ℕ} (w : TemplateToWrite s ta
   pub size-small : length s ≤ 65536 → m .size < 16777216
   size-small h = omega (arith, size-is, flat-bits (w .template .code), list-bits s 15 listStart (w .template .code) (w .past) list-read)
 
-  abbrev pub listToWrite : (f : ℕ) → ToWrite s 15 listStart f (f + m .size)
-  listToWrite f = record { code = w .template .code; past = w .past; read = list-read; fits = w .fits; room = rw size-is refl }
+  abbrev pub listToWrite : (f : ℕ) → ToWrite s M 15 listStart f (f + m .size)
+  listToWrite f =
+      record {
+        code = w .template .code;
+        past = w .past;
+        read = list-read;
+        fits = w .fits;
+        has = rw start-at (w .has .1);
+        room = rw size-is refl;
+      }
 
   -- the entries' bits begin at `first`, and there are n of them
   pub template-done : {first n x : ℕ} → first ≡ p + 8 → n ≡ listStart - first → (o : List ℕ) {o₂ o₃ o₄ : List ℕ} {q : BitPlace} → x ≡ fieldAt s p 8

@@ -21,11 +21,11 @@ shared-slice-read-from-slot c = let k = operand-count (c .before .before .before
 from-slot-requires : tie.Need-from-slot-requires
 from-slot-requires c κs = search needs
 
-measure-requires : tie.Need-measure-requires
-measure-requires c κs = let k = operand-count (c .before .before .before .before .pre .1) in (operand-short (c .before .before .before .before .pre .1), c .before .before .before .before .pre .0, omega (arith, k))
+past-list-requires : tie.Need-past-list-requires
+past-list-requires c κs = let k = operand-count (c .before .before .before .before .pre .1) in (operand-short (c .before .before .before .before .pre .1), c .before .before .before .before .pre .0, omega (arith, k))
 
 returns : tie.Need-returns
-returns c = λ w. end-is w _ _ (c .before .measure .ensures) _ refl (c .before .before .from-slot .ensures)
+returns c = λ w. end-is w _ _ (c .past-list .ensures) _ refl (c .before .from-slot .ensures)
 
 pub file-end-spec : {M : Type 1} → statement M
 file-end-spec =
@@ -36,5 +36,5 @@ file-end-spec =
     mul-from-slot
     shared-slice-read-from-slot
     from-slot-requires
-    measure-requires
+    past-list-requires
     returns)

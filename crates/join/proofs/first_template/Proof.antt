@@ -12,17 +12,17 @@ shared-slice-read-from-slot c = search needs
 from-slot-requires : tie.Need-from-slot-requires
 from-slot-requires c κs = search needs
 
-measure-requires : tie.Need-measure-requires
-measure-requires c κs = (operand-short (c .before .before .before .before .pre .1), c .before .before .before .before .pre .0, omega arith)
+past-list-requires : tie.Need-past-list-requires
+past-list-requires c κs = (operand-short (c .before .before .before .before .pre .1), c .before .before .before .before .pre .0, omega arith)
 
 bits-at-requires : tie.Need-bits-at-requires
-bits-at-requires c κs = (omega (arith, operand-short (c .before .before .before .before .before .before .pre .1)), (omega arith, operand-two (c .before .before .before .before .before .before .pre .1)))
+bits-at-requires c κs = (omega (arith, operand-short (c .before .before .before .before .before .pre .1)), (omega arith, operand-two (c .before .before .before .before .before .pre .1)))
 
 cast-entries : tie.Need-cast-entries
 cast-entries c = search needs
 
 returns : tie.Need-returns
-returns c = λ w. first-is w _ _ (c .before .before .measure .ensures) (c .before .before .before .from-slot .ensures) _ (c .bits-at .ensures .0)
+returns c = λ w. first-is w _ _ (c .before .past-list .ensures) (c .before .before .from-slot .ensures) _ (c .bits-at .ensures .0)
 
 pub first-template-spec : {M : Type 1} → statement M
 first-template-spec =
@@ -30,7 +30,7 @@ first-template-spec =
     (tie.spec
     shared-slice-read-from-slot
     from-slot-requires
-    measure-requires
+    past-list-requires
     bits-at-requires
     cast-entries
     returns)

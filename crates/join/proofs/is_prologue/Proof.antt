@@ -24,10 +24,13 @@ enum-told : tie.Need-enum-told
 enum-told c = search needs
 
 returns-2 : tie.Need-returns-2
-returns-2 c = λ w. prologue-class w (c .before .before .before .before .before .before .before .if1 .left) _ (c .before .before .before .before .before .from-slot .ensures) _ _ (sym (c .before .before .before .before .read-list .ensures) ∙ c .before .before .facts .given .1)
+returns-2 c = λ w. prologue-class w (c .before .before .before .before .before .before .before .before .before .if1 .left) _ (c .before .before .before .before .before .before .before .from-slot .ensures) _ _ (sym (c .before .before .before .before .before .read-list .ensures .0) ∙ c .before .before .facts .given .1)
 
 returns-3 : tie.Need-returns-3
-returns-3 c = λ w. prologue-refused w (c .before .before .before .before .before .if1 .left) _ (c .before .before .before .from-slot .ensures) _ _ (sym (c .before .before .read-list .ensures) ∙ c .enum-told .given .1)
+returns-3 c = λ w. prologue-refused w (c .before .before .before .before .before .before .before .if1 .left) _ (c .before .before .before .before .before .from-slot .ensures) _ _ (sym (c .before .before .before .read-list .ensures .0) ∙ c .enum-told .given .1)
+
+slice-aggregate-read-list : tie.Need-slice-aggregate-read-list
+slice-aggregate-read-list c = search needs
 
 pub is-prologue-spec : {M : Type 1} → statement M
 is-prologue-spec =
@@ -36,6 +39,7 @@ is-prologue-spec =
     returns
     shared-slice-read-from-slot
     from-slot-requires
+    slice-aggregate-read-list
     read-list-requires
     enum-known-facts
     enum-told

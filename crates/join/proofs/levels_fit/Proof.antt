@@ -16,10 +16,21 @@ enum-told-2 : tie.Need-enum-told-2
 enum-told-2 c = search needs
 
 returns : tie.Need-returns
-returns c = λ w. let l = listed-done _ _ _ _ _ (sym (c .before .before .read-list .ensures) ∙ c .enum-told .given .1) in levels-read _ _ _ (c .before .before .before .before .before .pre .2) w (l .0) _ (l .1)
+returns c = λ w. let l = listed-done _ _ _ _ _ (sym (c .before .before .before .read-list .ensures .0) ∙ c .enum-told .given .1) in levels-read _ _ _ (c .before .before .before .before .before .before .before .pre .2) w (l .0) _ (l .1)
 
 returns-2 : tie.Need-returns-2
-returns-2 c = λ w. levels-refused _ _ _ (c .before .before .before .before .before .pre .2) w _ _ (listed-refused _ _ _ _ _ (sym (c .before .before .read-list .ensures) ∙ c .enum-told2 .given .1))
+returns-2 c = λ w. levels-refused _ _ _ (c .before .before .before .before .before .before .before .pre .2) w _ _ (listed-refused _ _ _ _ _ (sym (c .before .before .before .read-list .ensures .0) ∙ c .enum-told2 .given .1))
+
+slice-aggregate-read-list : tie.Need-slice-aggregate-read-list
+slice-aggregate-read-list c = search needs
 
 pub levels-fit-spec : {M : Type 1} → statement M
-levels-fit-spec = tie.close (tie.spec read-list-requires enum-told enum-told-2 returns returns-2)
+levels-fit-spec =
+    tie.close
+    (tie.spec
+    slice-aggregate-read-list
+    read-list-requires
+    enum-told
+    enum-told-2
+    returns
+    returns-2)

@@ -16,45 +16,36 @@ enum-known-sum c = search needs
 
 is-open-requires : tie.Need-is-open-requires
 is-open-requires c κs =
-    let k = c .before .before .before .before .before .before in
+    let k = c .before .before .before .before .before .before .before in
     let told = sym (k .read-tree .ensures .0) ∙ c .before .before .sum .given .1 in (
-      file-short _ _ _ (operand-read _ told (k .read-tree .ensures .1) .read),
-      k .read-tree .kept .1 .0 ∙ ap length (k .before .before .before .before .pre) ∙ zeros-length 16384,
+      file-short _ _ _ (operand-read _ told (k .read-tree .ensures .1 .0) .read),
+      k .read-tree .kept .1 .0 ∙ ap length (k .before .before .before .before .before .pre) ∙ zeros-length 16384,
       unclosed-told _ told,
     )
-
-cast-t14 : tie.Need-cast-t14
-cast-t14 c = search needs
 
 same-length : tie.Need-same-length
 same-length c = search needs
 
 returns : tie.Need-returns
-returns c = (second-open-misnamed _ (sym (c .before .before .before .before .before .before .before .before .before .before .before .read-tree .ensures .0) ∙ c .before .before .before .before .before .before .before .sum .given .1) ((prologue-told _ (sym (c .before .before .before .before .before .before .before .before .before .before .before .read-tree .ensures .0) ∙ c .before .before .before .before .before .before .before .sum .given .1) (c .before .before .before .before .before .before .before .before .before .before .before .read-tree .ensures .1) (c .before .before .before .before .is-open .ensures)) ∙ c .before .before .before .if1 .taken) (c .before .if2 .taken), c .before .before .before .before .before .before .before .before .before .before .before .read-tree .ensures .1)
+returns c = (second-open-misnamed _ (sym (c .before .before .before .before .before .before .before .before .before .before .before .before .read-tree .ensures .0) ∙ c .before .before .before .before .before .before .before .sum .given .1) ((prologue-told _ (sym (c .before .before .before .before .before .before .before .before .before .before .before .before .read-tree .ensures .0) ∙ c .before .before .before .before .before .before .before .sum .given .1) (c .before .before .before .before .before .before .before .before .before .before .before .before .read-tree .ensures .1 .0) (c .before .before .before .before .is-open .ensures)) ∙ c .before .before .before .if1 .taken) (c .before .if2 .taken), c .before .before .before .before .before .before .before .before .before .before .before .before .read-tree .ensures .1 .0)
 
 same-length-2 : tie.Need-same-length-2
 same-length-2 c = search needs
 
 returns-2 : tie.Need-returns-2
-returns-2 c = (second-open-good _ (sym (c .before .before .before .before .before .before .before .before .before .before .read-tree .ensures .0) ∙ c .before .before .before .before .before .before .sum .given .1) ((prologue-told _ (sym (c .before .before .before .before .before .before .before .before .before .before .read-tree .ensures .0) ∙ c .before .before .before .before .before .before .sum .given .1) (c .before .before .before .before .before .before .before .before .before .before .read-tree .ensures .1) (c .before .before .before .is-open .ensures)) ∙ c .before .before .if1 .taken) (c .if2 .left), c .before .before .before .before .before .before .before .before .before .before .read-tree .ensures .1)
-
-cast-t16 : tie.Need-cast-t16
-cast-t16 c = search needs
+returns-2 c = (second-open-good _ (sym (c .before .before .before .before .before .before .before .before .before .before .before .read-tree .ensures .0) ∙ c .before .before .before .before .before .before .sum .given .1) ((prologue-told _ (sym (c .before .before .before .before .before .before .before .before .before .before .before .read-tree .ensures .0) ∙ c .before .before .before .before .before .before .sum .given .1) (c .before .before .before .before .before .before .before .before .before .before .before .read-tree .ensures .1 .0) (c .before .before .before .is-open .ensures)) ∙ c .before .before .if1 .taken) (c .if2 .left), c .before .before .before .before .before .before .before .before .before .before .before .read-tree .ensures .1 .0)
 
 same-length-3 : tie.Need-same-length-3
 same-length-3 c = search needs
 
 returns-3 : tie.Need-returns-3
-returns-3 c = (second-unclosed _ (sym (c .before .before .before .before .before .before .before .before .before .before .before .read-tree .ensures .0) ∙ c .before .before .before .before .before .before .before .sum .given .1) ((prologue-told _ (sym (c .before .before .before .before .before .before .before .before .before .before .before .read-tree .ensures .0) ∙ c .before .before .before .before .before .before .before .sum .given .1) (c .before .before .before .before .before .before .before .before .before .before .before .read-tree .ensures .1) (c .before .before .before .before .is-open .ensures)) ∙ c .before .before .before .if1 .left) (c .before .if3 .taken), c .before .before .before .before .before .before .before .before .before .before .before .read-tree .ensures .1)
-
-cast-t17 : tie.Need-cast-t17
-cast-t17 c = search needs
+returns-3 c = (second-unclosed _ (sym (c .before .before .before .before .before .before .before .before .before .before .before .before .read-tree .ensures .0) ∙ c .before .before .before .before .before .before .before .sum .given .1) ((prologue-told _ (sym (c .before .before .before .before .before .before .before .before .before .before .before .before .read-tree .ensures .0) ∙ c .before .before .before .before .before .before .before .sum .given .1) (c .before .before .before .before .before .before .before .before .before .before .before .before .read-tree .ensures .1 .0) (c .before .before .before .before .is-open .ensures)) ∙ c .before .before .before .if1 .left) (c .before .if3 .taken), c .before .before .before .before .before .before .before .before .before .before .before .before .read-tree .ensures .1 .0)
 
 same-length-4 : tie.Need-same-length-4
 same-length-4 c = search needs
 
 returns-4 : tie.Need-returns-4
-returns-4 c = (second-misnamed _ (sym (c .before .before .before .before .before .before .before .before .before .before .before .before .before .read-tree .ensures .0) ∙ c .before .before .before .before .before .before .before .before .before .sum .given .1) ((prologue-told _ (sym (c .before .before .before .before .before .before .before .before .before .before .before .before .before .read-tree .ensures .0) ∙ c .before .before .before .before .before .before .before .before .before .sum .given .1) (c .before .before .before .before .before .before .before .before .before .before .before .before .before .read-tree .ensures .1) (c .before .before .before .before .before .before .is-open .ensures)) ∙ c .before .before .before .before .before .if1 .left) (c .before .before .before .if3 .left) (c .before .if4 .taken), c .before .before .before .before .before .before .before .before .before .before .before .before .before .read-tree .ensures .1)
+returns-4 c = (second-misnamed _ (sym (c .before .before .before .before .before .before .before .before .before .before .before .before .before .before .read-tree .ensures .0) ∙ c .before .before .before .before .before .before .before .before .before .sum .given .1) ((prologue-told _ (sym (c .before .before .before .before .before .before .before .before .before .before .before .before .before .before .read-tree .ensures .0) ∙ c .before .before .before .before .before .before .before .before .before .sum .given .1) (c .before .before .before .before .before .before .before .before .before .before .before .before .before .before .read-tree .ensures .1 .0) (c .before .before .before .before .before .before .is-open .ensures)) ∙ c .before .before .before .before .before .if1 .left) (c .before .before .before .if3 .left) (c .before .if4 .taken), c .before .before .before .before .before .before .before .before .before .before .before .before .before .before .read-tree .ensures .1 .0)
 
 enum-known-no : tie.Need-enum-known-no
 enum-known-no c = search needs
@@ -66,30 +57,43 @@ same-length-5 : tie.Need-same-length-5
 same-length-5 c = search needs
 
 returns-5 : tie.Need-returns-5
-returns-5 c = (second-good _ (sym (c .before .before .before .before .before .before .before .before .before .before .before .before .read-tree .ensures .0) ∙ c .before .before .before .before .before .before .before .before .sum .given .1) ((prologue-told _ (sym (c .before .before .before .before .before .before .before .before .before .before .before .before .read-tree .ensures .0) ∙ c .before .before .before .before .before .before .before .before .sum .given .1) (c .before .before .before .before .before .before .before .before .before .before .before .before .read-tree .ensures .1) (c .before .before .before .before .before .is-open .ensures)) ∙ c .before .before .before .before .if1 .left) (c .before .before .if3 .left) (c .if4 .left), c .before .before .before .before .before .before .before .before .before .before .before .before .read-tree .ensures .1)
+returns-5 c = (second-good _ (sym (c .before .before .before .before .before .before .before .before .before .before .before .before .before .read-tree .ensures .0) ∙ c .before .before .before .before .before .before .before .before .sum .given .1) ((prologue-told _ (sym (c .before .before .before .before .before .before .before .before .before .before .before .before .before .read-tree .ensures .0) ∙ c .before .before .before .before .before .before .before .before .sum .given .1) (c .before .before .before .before .before .before .before .before .before .before .before .before .before .read-tree .ensures .1 .0) (c .before .before .before .before .before .is-open .ensures)) ∙ c .before .before .before .before .if1 .left) (c .before .before .if3 .left) (c .if4 .left), c .before .before .before .before .before .before .before .before .before .before .before .before .before .read-tree .ensures .1 .0)
 
 same-length-6 : tie.Need-same-length-6
 same-length-6 c = search needs
 
 returns-6 : tie.Need-returns-6
-returns-6 c = (second-unread _ _ _ (sym (c .before .before .before .before .before .before .read-tree .ensures .0) ∙ c .before .before .no .given .1) _ (c .number .ensures), c .before .before .before .before .before .before .read-tree .ensures .1)
+returns-6 c = (second-unread _ _ _ (sym (c .before .before .before .before .before .before .before .read-tree .ensures .0) ∙ c .before .before .no .given .1) _ (c .number .ensures), c .before .before .before .before .before .before .before .read-tree .ensures .1 .0)
+
+slice-aggregate-read-tree : tie.Need-slice-aggregate-read-tree
+slice-aggregate-read-tree c = search needs
+
+cast-t18 : tie.Need-cast-t18
+cast-t18 c = search needs
+
+cast-t20 : tie.Need-cast-t20
+cast-t20 c = search needs
+
+cast-t21 : tie.Need-cast-t21
+cast-t21 c = search needs
 
 pub read-second-spec : {M : Type 1} → statement M
 read-second-spec =
     tie.close
     (tie.spec
+    slice-aggregate-read-tree
     read-tree-requires
     enum-known-sum
     is-open-requires
-    cast-t14
+    cast-t18
     same-length
     returns
     same-length-2
     returns-2
-    cast-t16
+    cast-t20
     same-length-3
     returns-3
-    cast-t17
+    cast-t21
     same-length-4
     returns-4
     enum-known-no

@@ -17,17 +17,17 @@ shape-of-requires c κs = rw (c .bits-at .ensures .0) (field-small _ _ 5)
 past-requires : tie.Need-past-requires
 past-requires c κs = search needs
 
-sub-measure : tie.Need-sub-measure
-sub-measure c = omega (arith, arms-below (c .before .before .before .before .before .before .pre .2) _ (c .before .before .shape-of .ensures ∙ ap shapeOf (c .before .before .before .bits-at .ensures .0)) (c .before .match .keys2))
+sub-past-list : tie.Need-sub-past-list
+sub-past-list c = omega (arith, arms-below (c .before .before .before .before .before .before .pre .2) _ (c .before .before .shape-of .ensures ∙ ap shapeOf (c .before .before .before .bits-at .ensures .0)) (c .before .match .keys2))
 
-measure-requires : tie.Need-measure-requires
-measure-requires c κs = search needs
+past-list-requires : tie.Need-past-list-requires
+past-list-requires c κs = search needs
 
-sub-measure-2 : tie.Need-sub-measure-2
-sub-measure-2 c = omega (arith, arms-below (c .before .before .before .before .before .before .before .before .pre .2) _ (c .before .before .before .before .shape-of .ensures ∙ ap shapeOf (c .before .before .before .before .before .bits-at .ensures .0)) (c .before .before .before .match .keys2))
+sub-past-list-2 : tie.Need-sub-past-list-2
+sub-past-list-2 c = omega (arith, arms-below (c .before .before .before .before .before .before .before .pre .2) _ (c .before .before .before .shape-of .ensures ∙ ap shapeOf (c .before .before .before .before .bits-at .ensures .0)) (c .before .before .match .keys2))
 
-measure-requires-2 : tie.Need-measure-requires-2
-measure-requires-2 c κs = search needs
+past-list-requires-2 : tie.Need-past-list-requires-2
+past-list-requires-2 c κs = search needs
 
 past-requires-2 : tie.Need-past-requires-2
 past-requires-2 c κs = search needs
@@ -51,7 +51,7 @@ returns : tie.Need-returns
 returns c = λ w. code-there w _ (c .before .shape-of .ensures ∙ ap shapeOf (c .before .before .bits-at .ensures .0)) (c .match .keys1)
 
 returns-2 : tie.Need-returns-2
-returns-2 c = λ w. code-arms w _ (c .before .before .before .before .before .before .shape-of .ensures ∙ ap shapeOf (c .before .before .before .before .before .before .before .bits-at .ensures .0)) (c .before .before .before .before .before .match .keys2) _ _ _ _ (c .before .before .before .before .past .ensures) (c .before .before .before .measure .ensures) refl (c .before .measure2 .ensures)
+returns-2 c = λ w. code-arms w _ (c .before .before .before .before .shape-of .ensures ∙ ap shapeOf (c .before .before .before .before .before .bits-at .ensures .0)) (c .before .before .before .match .keys2) _ _ _ (c .before .before .past .ensures) (c .before .past-list .ensures) (c .past-list2 .ensures)
 
 returns-3 : tie.Need-returns-3
 returns-3 c = λ w. code-within w _ (c .before .before .shape-of .ensures ∙ ap shapeOf (c .before .before .before .bits-at .ensures .0)) (c .before .match .keys3) _ (c .past2 .ensures)
@@ -66,10 +66,10 @@ turn-at-spec =
     bits-at-requires
     shape-of-requires
     past-requires
-    sub-measure
-    measure-requires
-    sub-measure-2
-    measure-requires-2
+    sub-past-list
+    past-list-requires
+    sub-past-list-2
+    past-list-requires-2
     past-requires-2
     sub-past
     cast-past

@@ -19,8 +19,6 @@ use Rattle.files.specs.Table.{treeTable}
 use Rattle.readback.specs.laws.Bits.{AreBits, length-bits}
 use Rattle.readback.specs.Lists.{bitsFrom}
 use Rattle.readback.specs.laws.Lists.{bits-are, append-are, from-length, from-are}
-use Rattle.emit.specs.declared.Measured.{Measured}
-use Rattle.emit.specs.Written.{measuredOf}
 use Rattle.bit_writer.specs.Put.{putBits}
 use Rattle.bit_writer.specs.laws.Laws.{put-next}
 use Rattle.tree_file.specs.File.{templatesBits, fileBits}
@@ -134,15 +132,15 @@ module _ {s table : List ℕ} {count : ℕ} (w : Operand s table count) where
   pub operand-two : 16 ≤ 8 * length s
   operand-two = omega (arith, file-inside s (t ∷ us) (w .past) read, first-end s t us (w .past) read, first-start s t us (w .past) read)
 
-  module _ (at : BitPlace) (m : Measured) (measured : (c : Code) (q : ℕ) → listAt s 15 (at .0) ≡ got c q → m ≡ measuredOf c q) where
-    pub first-is : at .0 ≡ getD table 0 0 → (e : ℕ) → e ≡ fieldAt s 8 8 → record { entries = e; start = at; past = m .next } ≡ firstOf (w .templates)
-    unfolding firstOf measuredOf
+  -- m is the place past the list at `at`
+  module _ (at m : BitPlace) (found : (c : Code) (q : ℕ) → listAt s 15 (at .0) ≡ got c q → m .0 ≡ q) where
+    pub first-is : at .0 ≡ getD table 0 0 → (e : ℕ) → e ≡ fieldAt s 8 8 → record { entries = e; start = at; past = m } ≡ firstOf (w .templates)
+    unfolding firstOf
     first-is here e counted =
         let k : at .0 ≡ t .start = here ∙ slot-start s (t ∷ us) (w .past) read 0 t (omega arith) filled in
-        let r : m .next .0 ≡ t .start + bits (t .code) =
-        ap (λ (x : Measured). x .next .0) (measured (t .code) _ (ap (listAt s 15) k ∙ list-read s (t ∷ us) (w .past) read 0 t (omega arith))) in
+        let r : m .0 ≡ t .start + bits (t .code) = found (t .code) _ (ap (listAt s 15) k ∙ list-read s (t ∷ us) (w .past) read 0 t (omega arith)) in
         let n : e ≡ length (t .entries) = counted ∙ first-counted s t us (w .past) read in
-        rw (parts .is) (all e (length (t .entries)) at (record { 0 = t .start }) (m .next) (record { 0 = t .start + bits (t .code) }) n k r)
+        rw (parts .is) (all e (length (t .entries)) at (record { 0 = t .start }) m (record { 0 = t .start + bits (t .code) }) n k r)
       where
         all : (e e′ : ℕ) (p p′ q q′ : BitPlace) → e ≡ e′ → p .0 ≡ p′ .0 → q .0 ≡ q′ .0
             → _≡_ {A = First} (record { entries = e; start = p; past = q }) (record { entries = e′; start = p′; past = q′ })
@@ -151,14 +149,14 @@ module _ {s table : List ℕ} {count : ℕ} (w : Operand s table count) where
             ∙ ap (λ (z : ℕ). record { entries = e′; start = record { 0 = z }; past = q }) b
             ∙ ap (λ (z : ℕ). record { entries = e′; start = p′; past = record { 0 = z } }) c
 
-    pub end-is : (own : ℕ) → own ≡ count - 1 → at .0 ≡ getD table (256 * own) 0 → m .next .0 ≡ fileEnd (w .templates)
-    unfolding fileEnd measuredOf
+    pub end-is : (own : ℕ) → own ≡ count - 1 → at .0 ≡ getD table (256 * own) 0 → m .0 ≡ fileEnd (w .templates)
+    unfolding fileEnd
     end-is own last here =
         let n : own ≡ length us = last ∙ omega (arith, w .count-is, ap length (parts .is)) in
         let h : length us < length (t ∷ us) = omega arith in
         let k : at .0 ≡ getD (t ∷ us) (length us) t .start =
         here ∙ ap (λ i. getD table (256 * i) 0) n ∙ slot-start s (t ∷ us) (w .past) read (length us) t h filled in
-        ap (λ (x : Measured). x .next .0) (measured _ _ (ap (listAt s 15) k ∙ list-read s (t ∷ us) (w .past) read (length us) t h))
+        found _ _ (ap (listAt s 15) k ∙ list-read s (t ∷ us) (w .past) read (length us) t h)
         ∙ last-at s t us (w .past) read ∙ ap (λ (ts : List Template). length (fileBits ts)) (sym (parts .is))
 
 -- of one template, where its own list ends

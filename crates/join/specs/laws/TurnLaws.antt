@@ -16,8 +16,6 @@ use Rattle.files.specs.laws.AllGot.{field-got}
 use Rattle.files.specs.Linear.{bitsOf}
 use Rattle.readback.specs.Bits.{Stands}
 use Rattle.readback.specs.laws.Bits.{length-bits, stands-left, stands-right, field-stands}
-use Rattle.emit.specs.declared.Measured.{Measured}
-use Rattle.emit.specs.Written.{measuredOf}
 use Rattle.tree_file.specs.File.{operandsBits, listBits, levels}
 use Rattle.tree_file.specs.laws.Lengths.{operands-length, list-length}
 use Rattle.tree_file.specs.laws.Back.{Neutral, neutral-shape}
@@ -229,22 +227,18 @@ module _ {s : List ℕ} {l p : ℕ} (w : CodeAt s l p) (k : ℕ) (shape : k ≡ 
     pub arms-below : 1 ≤ l
     arms-below = these .below
 
-    -- the first arm and the second are measured
-    module _ (at mid : ℕ) (x y : Measured) (at-is : at ≡ p + 5) where
-      module _ (first : (c : Code) (q : ℕ) → listAt s (l - 1) at ≡ got c q → x ≡ measuredOf c q) where
-        first-next : x .next .0 ≡ p + 5 + bits (these .first)
-        unfolding measuredOf
-        first-next =
-            let e = first (these .first) (p + 5 + bits (these .first))
-            (ap (listAt s (l - 1)) at-is ∙ code-read (these .first-at) ∙ rw (these .first-is) refl) in
-            ap (λ (m : Measured). m .next .0) e
+    -- x is the place past the first arm, y that past the second
+    module _ (at : ℕ) (x y : BitPlace) (at-is : at ≡ p + 5) (first : (c : Code) (q : ℕ) → listAt s (l - 1) at ≡ got c q → x .0 ≡ q) where
+      first-next : x .0 ≡ p + 5 + bits (these .first)
+      first-next =
+          first (these .first) (p + 5 + bits (these .first))
+          (ap (listAt s (l - 1)) at-is ∙ code-read (these .first-at) ∙ rw (these .first-is) refl)
 
-        pub code-arms : mid ≡ x .next .0 → ((c : Code) (q : ℕ) → listAt s (l - 1) mid ≡ got c q → y ≡ measuredOf c q) → Past (y .next) ≡ turnOf p (w .code)
-        unfolding measuredOf
-        code-arms mid-is second =
-            let e = second (these .second) (p + 5 + bits (these .first) + bits (these .second))
-            (ap (listAt s (l - 1)) (mid-is ∙ first-next) ∙ code-read (these .second-at) ∙ rw (these .second-is) refl) in
-            ap (λ (m : Measured). Past (m .next)) e ∙ sym (these .turn)
+      pub code-arms : ((c : Code) (q : ℕ) → listAt s (l - 1) (x .0) ≡ got c q → y .0 ≡ q) → Past y ≡ turnOf p (w .code)
+      code-arms second =
+          let e = second (these .second) (p + 5 + bits (these .first) + bits (these .second))
+          (ap (listAt s (l - 1)) first-next ∙ code-read (these .second-at) ∙ rw (these .second-is) refl) in
+          ap (λ (q : ℕ). Past (record { 0 = q })) e ∙ sym (these .turn)
 
 -- ---- the loop: the joint of the list at `at` is that of the list at p, with l levels left below it
 pub record Walked (s : List ℕ) (at : ℕ) (w : CodeAt s 15 at) (l p : ℕ) : Type 0 where

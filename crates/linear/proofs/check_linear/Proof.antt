@@ -9,7 +9,7 @@ slice-aggregate-read-linear : tie.Need-slice-aggregate-read-linear
 slice-aggregate-read-linear c = search needs
 
 read-linear-requires : tie.Need-read-linear-requires
-read-linear-requires c κs = search needs
+read-linear-requires c κs few = search needs
 
 enum-told : tie.Need-enum-told
 enum-told c = search needs

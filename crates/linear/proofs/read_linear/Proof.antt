@@ -1,6 +1,7 @@
 -- `linear::read_linear` meets its contract: each answer leads to its case of `linearRead`. Assumes nothing.
 use borrow.Author.Needs.{needs}
 use Rattle.files.specs.laws.EntriesSteps.{field-cut, field-read}
+use Rattle.files.specs.laws.RoomLaws.{room-rows}
 use Rattle.linear.specs.laws.LinearSteps.{too-long, count-cut, count-low, count-high, templates-stop, more-stop, file-done}
 use Rattle.linear.proofs.read_linear.Statement.{statement}
 use Rattle.linear.proofs.read_linear.Tie as tie
@@ -30,7 +31,11 @@ cast-read-templates : tie.Need-cast-read-templates
 cast-read-templates c = search needs
 
 read-templates-requires : tie.Need-read-templates-requires
-read-templates-requires c κs = search needs
+read-templates-requires c κs =
+    let k = c .before in
+    let few = k .if3 .left in
+    let rows = room-rows _ (k .before .before .before .before .before .before .if1 .left) (k .before .before .before .before .before .before .before .before .before .pre) (field-read _ _ _ (k .before .before .before .before .before .read-field .ensures) (k .before .before .before .count .given .1)) few in
+    (search needs, (rows, few))
 
 enum-known-past : tie.Need-enum-known-past
 enum-known-past c = search needs

@@ -23,7 +23,7 @@ cast-read-entries : tie.Need-cast-read-entries
 cast-read-entries c = search needs
 
 read-entries-requires : tie.Need-read-entries-requires
-read-entries-requires c κs = (search needs, (search needs, (search needs, (search needs, field-below _ _ _ (c .before .before .before .before .read-field .ensures) (c .before .before .n .given .1)))))
+read-entries-requires c κs = (search needs, (search needs, (search needs, field-below _ _ _ (c .before .before .before .before .read-field .ensures) (c .before .before .n .given .1))))
 
 enum-known-padding : tie.Need-enum-known-padding
 enum-known-padding c = search needs
@@ -31,7 +31,7 @@ enum-known-padding c = search needs
 read-code-requires : tie.Need-read-code-requires
 read-code-requires c κs =
     let e = entries-told _ (sym (c .before .before .before .before .before .before .read-entries .ensures .0) ∙ (c .before .before .padding .given .1)) in
-    (search needs, (search needs, (search needs, entries-read _ _ _ (c .before .before .before .before .before .before .before .before .before .before .before .before .before .before .pre .1 .1 .1) _ _ (e .is) .within (field-within _ _ _ (c .before .before .before .before .before .before .before .before .before .before .before .read-field .ensures) (c .before .before .before .before .before .before .before .before .before .n .given .1)))))
+    (search needs, (search needs, entries-read _ _ _ (c .before .before .before .before .before .before .before .before .before .before .before .before .before .before .pre .1 .1) _ _ (e .is) .within (field-within _ _ _ (c .before .before .before .before .before .before .before .before .before .before .before .read-field .ensures) (c .before .before .before .before .before .before .before .before .before .n .given .1))))
 
 enum-known-no : tie.Need-enum-known-no
 enum-known-no c = search needs

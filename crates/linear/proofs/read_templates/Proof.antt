@@ -12,7 +12,7 @@ use Rattle.linear.proofs.read_templates.Tie as tie
 
 abbrev Inv-loop : tie.InvT-loop
 Inv-loop s table₀ count own₀ here₀ table own here =
-    (own ≤ count) × (length table ≡ 16384) × (partTold (linearTemplatesAt s count 0 count (here₀ .0)) ≡ partTold (linearTemplatesAt s count own (count - own) (here .0)))
+    (own ≤ count) × (length table ≡ length table₀) × (partTold (linearTemplatesAt s count 0 count (here₀ .0)) ≡ partTold (linearTemplatesAt s count own (count - own) (here .0)))
     × (templatesFilled s count 0 count (here₀ .0) table₀ ≡ templatesFilled s count own (count - own) (here .0) table)
 
 abbrev μ-loop : tie.MeasureT-loop

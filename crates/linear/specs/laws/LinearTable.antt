@@ -16,6 +16,8 @@ use Rattle.files.specs.Linear.{Linear, codeAt, linearTemplateAt, linearTemplate
 use Rattle.files.specs.Table.{slotOf, rowOf, linearTable}
 use Rattle.files.specs.laws.TableLaws.{Few, row-length, rowsOf, rows-length, linearStart, linearEntries, linear-rows}
 use Rattle.files.specs.laws.RowFilled.{row-filled}
+use Rattle.files.specs.Room.{RoomFor}
+use Rattle.files.specs.laws.RoomLaws.{room-rows}
 use Rattle.files.specs.laws.AllGot.{got-all, cond-all, zero-all, nothing-all, then-led, linears-read}
 use Rattle.files.specs.Filled.{filledThen, templatesBy, countBy}
 use Rattle.linear.specs.Filled.{codeFilled, entriesFilled, templateFilled, templatesFilled, countFilled, linearFilled}
@@ -48,27 +50,27 @@ module _ (s : List ℕ) (own T p : ℕ) (table : List ℕ) where
 
 -- ---- templates from number own on, after the rows before them
 rows-done : (pre : List ℕ) (k : ℕ) (ts : List Linear) → ts ≡ []
-    → pre ++ replicate (256 * (0 + k)) 0 ≡ (pre ++ rowsOf linearStart linearEntries ts) ++ replicate (256 * k) 0
+    → pre ++ replicate (256 * 0 + k) 0 ≡ (pre ++ rowsOf linearStart linearEntries ts) ++ replicate k 0
 unfolding rowsOf
-rows-done pre k ts e = let a : 0 + k ≡ k = omega arith in rw (e, a, append-nil pre)
+rows-done pre k ts e = let a : 256 * 0 + k ≡ k = omega arith in rw (e, a, append-nil pre)
 
 module _ (s : List ℕ) (T : ℕ) where
   filled-row : (n own p : ℕ) (pre : List ℕ) (k : ℕ) (t : Linear) {q : ℕ} → length pre ≡ 256 * own → length (t .entries) < 256
       → linearTemplateAt s own T p ≡ got t q
-      → templateFilled s own T p (pre ++ replicate (256 * (suc n + k)) 0) ≡ (pre ++ rowOf (linearStart t) (t .entries)) ++ replicate (256 * (n + k)) 0
+      → templateFilled s own T p (pre ++ replicate (256 * suc n + k) 0) ≡ (pre ++ rowOf (linearStart t) (t .entries)) ++ replicate (256 * n + k) 0
   filled-row n own p pre k t h few e =
-      let a : 256 * (suc n + k) - 256 ≡ 256 * (n + k) = omega arith in
-      template-filled s own T p (pre ++ replicate (256 * (suc n + k)) 0) e
-      ∙ row-filled pre own (linearStart t) (256 * (suc n + k)) (t .entries) h few (omega arith)
-      ∙ rw a (sym (append-assoc pre (rowOf (linearStart t) (t .entries)) (replicate (256 * (n + k)) 0)))
+      let a : 256 * suc n + k - 256 ≡ 256 * n + k = omega arith in
+      template-filled s own T p (pre ++ replicate (256 * suc n + k) 0) e
+      ∙ row-filled pre own (linearStart t) (256 * suc n + k) (t .entries) h few (omega arith)
+      ∙ rw a (sym (append-assoc pre (rowOf (linearStart t) (t .entries)) (replicate (256 * n + k) 0)))
 
   -- the rows after the first are those that are filled from past it
   rows-on : (n own p : ℕ) (pre : List ℕ) (k : ℕ) (ts : List Linear) (t : Linear) (us : List Linear) (r : ℕ) → length pre ≡ 256 * own → Few linearEntries ts
       → ts ≡ t ∷ us → linearTemplateAt s own T p ≡ got t r
       → (length (pre ++ rowOf (linearStart t) (t .entries)) ≡ 256 * (own + 1) → Few linearEntries us
-      → templatesFilled s T (own + 1) n r ((pre ++ rowOf (linearStart t) (t .entries)) ++ replicate (256 * (n + k)) 0) ≡
-      ((pre ++ rowOf (linearStart t) (t .entries)) ++ rowsOf linearStart linearEntries us) ++ replicate (256 * k) 0)
-      → templatesFilled s T own (suc n) p (pre ++ replicate (256 * (suc n + k)) 0) ≡ (pre ++ rowsOf linearStart linearEntries ts) ++ replicate (256 * k) 0
+      → templatesFilled s T (own + 1) n r ((pre ++ rowOf (linearStart t) (t .entries)) ++ replicate (256 * n + k) 0) ≡
+      ((pre ++ rowOf (linearStart t) (t .entries)) ++ rowsOf linearStart linearEntries us) ++ replicate k 0)
+      → templatesFilled s T own (suc n) p (pre ++ replicate (256 * suc n + k) 0) ≡ (pre ++ rowsOf linearStart linearEntries ts) ++ replicate k 0
   unfolding templatesBy filledThen rowsOf
   rows-on n own p pre k ts t us r h few i e on =
       let f : Few linearEntries (t ∷ us) = rw i at few in
@@ -79,7 +81,7 @@ module _ (s : List ℕ) (T : ℕ) where
 
   templates-filled : (n own p : ℕ) (pre : List ℕ) (k : ℕ) (ts : List Linear) {q : ℕ} → length pre ≡ 256 * own → Few linearEntries ts
       → linearTemplatesAt s T own n p ≡ got ts q
-      → templatesFilled s T own n p (pre ++ replicate (256 * (n + k)) 0) ≡ (pre ++ rowsOf linearStart linearEntries ts) ++ replicate (256 * k) 0
+      → templatesFilled s T own n p (pre ++ replicate (256 * n + k) 0) ≡ (pre ++ rowsOf linearStart linearEntries ts) ++ replicate k 0
   unfolding templatesBy linearTemplatesAt
   templates-filled zero own p pre k ts {q} h few e = rows-done pre k ts (sym cc)
   templates-filled (suc n) own p pre k ts {q} h few e =
@@ -87,36 +89,39 @@ module _ (s : List ℕ) (T : ℕ) where
       (λ t r e₁ o₁. then-led (linearTemplatesAt s T (own + 1) n r) _ o₁ (λ us u e₂ o₂. rows-on n own p pre k ts t us r h few (sym cc) e₁
       (λ i j. templates-filled n (own + 1) r (pre ++ rowOf (linearStart t) (t .entries)) k us i j e₂)))
 
--- ---- the file
-module _ (s : List ℕ) where
-  count-table : (T p : ℕ) (ts : List Linear) {q : ℕ} → T ≤ 64 → linearTemplatesAt s T 0 T p ≡ got ts q
-      → templatesFilled s T 0 T p (replicate 16384 0) ≡ linearTable ts
+-- ---- the file, with a table of n numbers
+module _ (s : List ℕ) (n : ℕ) where
+  count-table : (T p : ℕ) (ts : List Linear) {q : ℕ} → T ≤ 64 → 256 * T ≤ n → linearTemplatesAt s T 0 T p ≡ got ts q
+      → templatesFilled s T 0 T p (replicate n 0) ≡ linearTable n ts
   unfolding linearTable
-  count-table T p ts few e =
+  count-table T p ts few room e =
       let k = linears-read s T few T 0 p e in
-      let a : 16384 ≡ 256 * (T + (64 - T)) = omega arith in
-      let b : 256 * (64 - T) ≡ 16384 - length (rowsOf linearStart linearEntries ts) = omega (arith, rows-length linearStart linearEntries ts (k .1)) in
-      ap (λ (n : ℕ). templatesFilled s T 0 T p (replicate n 0)) a ∙ templates-filled s T T 0 p [] (64 - T) ts refl (k .1) e
-      ∙ ap (λ (n : ℕ). rowsOf linearStart linearEntries ts ++ replicate n 0) b ∙ rw (linear-rows ts)
+      let a : n ≡ 256 * T + (n - 256 * T) = omega arith in
+      let b : n - 256 * T ≡ n - length (rowsOf linearStart linearEntries ts) = omega (arith, rows-length linearStart linearEntries ts (k .1)) in
+      ap (λ (m : ℕ). templatesFilled s T 0 T p (replicate m 0)) a ∙ templates-filled s T T 0 p [] (n - 256 * T) ts refl (k .1) e
+      ∙ ap (λ (m : ℕ). rowsOf linearStart linearEntries ts ++ replicate m 0) b ∙ rw (linear-rows ts)
 
-  file-table : (T p : ℕ) (a b : Bool) → leb T 64 ≡ b → {ts : List Linear} {q : ℕ}
+  file-table : (T p : ℕ) (a b : Bool) → leb T 64 ≡ b → (T ≤ 64 → 256 * T ≤ n) → {ts : List Linear} {q : ℕ}
       → valid 0 (a && b) (then (linearTemplatesAt s T 0 T p) (λ ts q. nothingMore s q ts)) ≡ got ts q
-      → cond (a && b) (templatesFilled s T 0 T p (replicate 16384 0)) (replicate 16384 0) ≡ linearTable ts
-  file-table T p true true h {ts} {q} e =
+      → cond (a && b) (templatesFilled s T 0 T p (replicate n 0)) (replicate n 0) ≡ linearTable n ts
+  file-table T p true true h room {ts} {q} e =
+      let few = leb-true T 64 h in
       then-led (linearTemplatesAt s T 0 T p) _ e
-      (λ us r e₁ o₁. count-table T p us (leb-true T 64 h) e₁
-      ∙ ap linearTable (sym (got-all (λ (vs : List Linear). vs ≡ us) (nothing-all (λ (vs : List Linear). vs ≡ us) s r us refl) o₁)))
-  file-table T p true false h e = clash (cc)
-  file-table T p false b h e = clash (cc)
+      (λ us r e₁ o₁. count-table T p us few (room few) e₁
+      ∙ ap (linearTable n) (sym (got-all (λ (vs : List Linear). vs ≡ us) (nothing-all (λ (vs : List Linear). vs ≡ us) s r us refl) o₁)))
+  file-table T p true false h room e = clash (cc)
+  file-table T p false b h room e = clash (cc)
 
   -- THE LAW
-  pub linear-table : {ts : List Linear} {q : ℕ} → linearRead s ≡ got ts q → linearFilled s (replicate 16384 0) ≡ linearTable ts
+  pub linear-table : {ts : List Linear} {q : ℕ} → RoomFor s n → linearRead s ≡ got ts q → linearFilled s (replicate n 0) ≡ linearTable n ts
   unfolding linearRead linearFilled countBy
-  linear-table {ts} {q} e = go (leb (length s) 262144) e
+  linear-table {ts} {q} room e = go (leb (length s) 262144) refl e
     where
-      go : (b : Bool)
+      go : (b : Bool) → leb (length s) 262144 ≡ b
           → cond b (then (field s 0 8) (λ T p. valid 0 (leb 1 T && leb T 64) (then (linearTemplatesAt s T 0 T p) (λ ts q. nothingMore s q ts))))
           (refused 1 0) ≡ got ts q
-          → cond b (countFilled s (field s 0 8) (replicate 16384 0)) (replicate 16384 0) ≡ linearTable ts
-      go true h = then-led (field s 0 8) _ h (λ T p e₁ o₁. rw e₁ (file-table T p (leb 1 T) (leb T 64) refl o₁))
-      go false h = clash (cc)
+          → cond b (countFilled s (field s 0 8) (replicate n 0)) (replicate n 0) ≡ linearTable n ts
+      go true i h =
+          then-led (field s 0 8) _ h
+          (λ T p e₁ o₁. rw e₁ (file-table T p (leb 1 T) (leb T 64) refl (room-rows s (leb-true (length s) 262144 i) room e₁) o₁))
+      go false i h = clash (cc)

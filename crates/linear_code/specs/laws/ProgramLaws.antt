@@ -100,10 +100,10 @@ take-bytes (suc n) [] h i = omega arith
 take-bytes (suc n) (x ∷ w) h zero = h 0
 take-bytes (suc n) (x ∷ w) h (suc i) = take-bytes n w (λ j. h (suc j)) i
 
--- ---- an accepted file s with templates ts
-module _ (s : List ℕ) (ts : List Linear) (short : length s ≤ 262144) (good : AllGood s ts) (few : Few linearEntries ts) where
+-- ---- an accepted file s with templates ts, and its table of `size` numbers
+module _ (s : List ℕ) (size : ℕ) (ts : List Linear) (short : length s ≤ 262144) (good : AllGood s ts) (few : Few linearEntries ts) where
   abbrev table : List ℕ
-  table = linearTable ts
+  table = linearTable size ts
 
   -- a template that is there
   module _ (t : ℕ) (l : t < length ts) where
@@ -112,7 +112,7 @@ module _ (s : List ℕ) (ts : List Linear) (short : length s ≤ 262144) (good :
 
     slot-is : (n : ℕ) → n < 256 → slotAt table t n ≡ getD (rowOf (linearStart this) (this .entries)) n 0
     unfolding slotAt
-    slot-is n m = linear-slot ts few t n noLinear l m
+    slot-is n m = linear-slot size ts few t n noLinear l m
 
     there-start : (codeStart table t ≡ this .start) × (codeLength table t ≡ length (this .code))
     unfolding codeStart codeLength
@@ -143,7 +143,7 @@ module _ (s : List ℕ) (ts : List Linear) (short : length s ≤ 262144) (good :
   module _ (t : ℕ) (l : length ts ≤ t) where
     nowhere-slot : (n : ℕ) → _≡_ {A = ℕ} (slotAt table t n) 0
     unfolding slotAt
-    nowhere-slot n = linear-beyond ts few t n l
+    nowhere-slot n = linear-beyond size ts few t n l
 
     nowhere-start : (codeStart table t ≡ 0) × (codeLength table t ≡ 0)
     unfolding codeStart codeLength
@@ -187,12 +187,12 @@ module _ (s : List ℕ) (ts : List Linear) (short : length s ≤ 262144) (good :
     same = by-lt t (length ts) there-same nowhere-same
 
 -- ---- THE LAWS of a linear file that is accepted
-module _ (s : List ℕ) {ts : List Linear} {q : ℕ} (e : linearRead s ≡ got ts q) where
-  pub table-within : AllWithin s (linearTable ts)
-  table-within = let a = accepted s e in all-within s ts (a .0) (a .1) (linear-read s e .1 .1)
+module _ (s : List ℕ) (size : ℕ) {ts : List Linear} {q : ℕ} (e : linearRead s ≡ got ts q) where
+  pub table-within : AllWithin s (linearTable size ts)
+  table-within = let a = accepted s e in all-within s size ts (a .0) (a .1) (linear-read s e .1 .1)
 
-  pub program-is : AllBytes s → bytesProgram s (linearTable ts) ≡ linearProgram ts
+  pub program-is : AllBytes s → bytesProgram s (linearTable size ts) ≡ linearProgram ts
   program-is bytes =
       let a = accepted s e in
       ap (λ (f : ℕ → ℕ → Fetched). record { fetch = f; start = λ t. 0 })
-      (fun-ext (λ t. fun-ext (λ q. same s ts (a .0) (a .1) (linear-read s e .1 .1) bytes t q)))
+      (fun-ext (λ t. fun-ext (λ q. same s size ts (a .0) (a .1) (linear-read s e .1 .1) bytes t q)))

@@ -1,12 +1,12 @@
 -- `linear_machine::run_file` meets its contract. Assumes nothing.
 use borrow.Author.Needs.{needs}
 use native.Mathlib.Omega.{arith}
-use Rattle.linear_machine.proofs.FileLaws.{table-long, file-within, file-ran, file-refused}
+use Rattle.linear_machine.proofs.FileLaws.{table-room, file-within, file-ran, file-refused}
 use Rattle.linear_machine.proofs.run_file.Statement.{statement}
 use Rattle.linear_machine.proofs.run_file.Tie as tie
 
 read-linear-requires : tie.Need-read-linear-requires
-read-linear-requires c κs = table-long _ (c .before .before .before .before .before .before .before .pre .1)
+read-linear-requires c κs = table-room _ _ (c .before .before .before .before .before .before .before .pre .1)
 
 enum-told : tie.Need-enum-told
 enum-told c = search needs

@@ -1,5 +1,6 @@
 -- `linear_machine::run_linear` meets its contract. Assumes nothing.
 use borrow.Author.Needs.{needs}
+use native.Mathlib.Omega.{arith}
 use Rattle.machines.specs.Runs.{linearRun}
 use Rattle.machines.specs.laws.Start.{may-start, start-goes, start-refused}
 use Rattle.linear_machine.proofs.FileLaws.{file-owned}
@@ -15,8 +16,8 @@ enum-told c = search needs
 owner-of-requires : tie.Need-owner-of-requires
 owner-of-requires c κs = search needs
 
-run-accepted-requires : tie.Need-run-accepted-requires
-run-accepted-requires c κs = may-start _ _ _ _ _ (c .before .before .before .before .before .before .before .start-refusal .ensures) (c .before .before .before .before .before .enum-told .given .1)
+run-rows-requires : tie.Need-run-rows-requires
+run-rows-requires c κs = (may-start _ _ _ _ _ (c .before .before .before .before .before .before .before .start-refusal .ensures) (c .before .before .before .before .before .enum-told .given .1), λ h. absurd (omega arith))
 
 enum-known-number : tie.Need-enum-known-number
 enum-known-number c = search needs
@@ -39,7 +40,7 @@ same-length-4 c = search needs
 returns : tie.Need-returns
 unfolding linearRun
 returns c = start-goes _ _ _ _ _ (c .before .before .before .before .before .before .before .before .before .before .before .before .before .before .before .before .start-refusal .ensures) _ _ (c .before .before .before .before .before .before .before .before .before .before .before .before .before .before .enum-told .given .1)
-    (file-owned _ (c .before .before .before .before .before .before .before .before .before .before .before .before .before .before .before .before .before .before .before .before .before .before .before .before .before .before .args .owner) _ _ _ _ (c .before .before .before .before .before .before .before .before .before .before .before .before .before .owner-of .ensures) (c .before .before .before .before .before .before .before .before .run-accepted .ensures))
+    (file-owned _ (c .before .before .before .before .before .before .before .before .before .before .before .before .before .before .before .before .before .before .before .before .before .before .before .before .before .before .args .owner) _ _ _ _ (c .before .before .before .before .before .before .before .before .before .before .before .before .before .owner-of .ensures) (c .before .before .before .before .before .before .before .before .run-rows .ensures))
 
 same-length-5 : tie.Need-same-length-5
 same-length-5 c = search needs
@@ -64,7 +65,7 @@ run-linear-spec =
     start-refusal-requires
     enum-told
     owner-of-requires
-    run-accepted-requires
+    run-rows-requires
     enum-known-number
     refused-requires
     same-length

@@ -2,11 +2,12 @@
 -- fall. Assumes nothing.
 use Prim.Native.Nat.{_+_, _*_, _-_}
 use native.Mathlib.Omega.{arith}
-use mathlib.Core.Path.{_≡_, sym, _∙_}
+use mathlib.Core.Path.{_≡_, refl, sym, _∙_}
 use lib.ListN.{length}
 use Rattle.files.specs.Reading.{listAt}
-use Rattle.links.specs.Parts.{Whole, linkedGot}
-use Rattle.links.specs.laws.LinkSteps.{Outcome, outcome, arms-linked, saved-linked, linked-on}
+use Rattle.links.specs.Parts.{ToLink, linkedGot}
+use Rattle.links.specs.laws.LinkSteps.{Outcome, outcome, arms-room, first-to-link, second-to-link, saved-room, saved-to-link, arms-linked, saved-linked, linked-on}
+use Rattle.links.specs.laws.PartsLaws.{here-within}
 use Rattle.links.specs.declared.Parts.{Parts}
 use borrow.Author.Needs.{needs}
 use Prim.Native.Nat.{ℕ, _<_}
@@ -28,179 +29,180 @@ use Rattle.cells.proofs.BitPlace.back.Reads as back-reads
 use Rattle.links.proofs.+link_arms+link_list+link_saved.{statement}
 use Rattle.links.proofs.+link_arms+link_list+link_saved.Tie.{close}
 
-abbrev μ-link-arms : Measures 3 link-arms-kinds.ps ℕ
-μ-link-arms κs a = 2 * a .1 .1 .1 .1 .1 .1 .1 .0 + 1
+abbrev μ-link-arms : Measures 2 link-arms-kinds.ps ℕ
+μ-link-arms κs a = 2 * a .1 .1 .1 .1 .1 .0 + 1
 
-abbrev μ-link-list : Measures 3 link-list-kinds.ps ℕ
-μ-link-list κs a = 2 * a .1 .1 .1 .1 .1 .1 .1 .0
+abbrev μ-link-list : Measures 2 link-list-kinds.ps ℕ
+μ-link-list κs a = 2 * a .1 .1 .1 .1 .1 .0
 
-abbrev μ-link-saved : Measures 3 link-saved-kinds.ps ℕ
-μ-link-saved κs a = 2 * a .1 .1 .1 .1 .1 .1 .1 .0 + 1
+abbrev μ-link-saved : Measures 2 link-saved-kinds.ps ℕ
+μ-link-saved κs a = 2 * a .1 .1 .1 .1 .1 .0 + 1
 
-abbrev link-arms-at : ℕ → In 3 link-arms-kinds.ps
-link-arms-at t = and 3 link-arms-kinds.ps (is 3 link-arms-kinds.ps μ-link-arms t) link-arms.Pre
+abbrev link-arms-at : ℕ → In 2 link-arms-kinds.ps
+link-arms-at t = and 2 link-arms-kinds.ps (is 2 link-arms-kinds.ps μ-link-arms t) link-arms.Pre
 
-abbrev link-arms-below : ℕ → In 3 link-arms-kinds.ps
+abbrev link-arms-below : ℕ → In 2 link-arms-kinds.ps
 link-arms-below t =
-    and 3 link-arms-kinds.ps (falls 3 link-arms-kinds.ps _<_ μ-link-arms t) link-arms.Pre
+    and 2 link-arms-kinds.ps (falls 2 link-arms-kinds.ps _<_ μ-link-arms t) link-arms.Pre
 
-abbrev link-list-at : ℕ → In 3 link-list-kinds.ps
-link-list-at t = and 3 link-list-kinds.ps (is 3 link-list-kinds.ps μ-link-list t) link-list.Pre
+abbrev link-list-at : ℕ → In 2 link-list-kinds.ps
+link-list-at t = and 2 link-list-kinds.ps (is 2 link-list-kinds.ps μ-link-list t) link-list.Pre
 
-abbrev link-list-below : ℕ → In 3 link-list-kinds.ps
+abbrev link-list-below : ℕ → In 2 link-list-kinds.ps
 link-list-below t =
-    and 3 link-list-kinds.ps (falls 3 link-list-kinds.ps _<_ μ-link-list t) link-list.Pre
+    and 2 link-list-kinds.ps (falls 2 link-list-kinds.ps _<_ μ-link-list t) link-list.Pre
 
-abbrev link-saved-at : ℕ → In 3 link-saved-kinds.ps
+abbrev link-saved-at : ℕ → In 2 link-saved-kinds.ps
 link-saved-at t =
-    and 3 link-saved-kinds.ps (is 3 link-saved-kinds.ps μ-link-saved t) link-saved.Pre
+    and 2 link-saved-kinds.ps (is 2 link-saved-kinds.ps μ-link-saved t) link-saved.Pre
 
-abbrev link-saved-below : ℕ → In 3 link-saved-kinds.ps
+abbrev link-saved-below : ℕ → In 2 link-saved-kinds.ps
 link-saved-below t =
-    and 3 link-saved-kinds.ps (falls 3 link-saved-kinds.ps _<_ μ-link-saved t) link-saved.Pre
+    and 2 link-saved-kinds.ps (falls 2 link-saved-kinds.ps _<_ μ-link-saved t) link-saved.Pre
 
 -- what the functions of the cycle call
-abbrev inner : ℕ → link-arms-lts.Claims
-inner t = (set-link-reads.Asked, set-link-reads.Learnt, past-reads.Asked, past-reads.Learnt, back-reads.Asked, back-reads.Learnt, link-list-below t, link-list.Post)
+abbrev link-arms-calls : ℕ → link-arms-lts.Claims
+link-arms-calls t = (set-link-reads.Asked, set-link-reads.Learnt, past-reads.Asked, past-reads.Learnt, back-reads.Asked, back-reads.Learnt, link-list-below t, link-list.Post)
 
-abbrev outer : ℕ → link-list-lts.Claims
-outer t = (parts-at-reads.Asked, parts-at-reads.Learnt, set-link-reads.Asked, set-link-reads.Learnt, link-arms-below t, link-arms.Post, link-saved-below t, link-saved.Post)
+abbrev link-saved-calls : ℕ → link-saved-lts.Claims
+link-saved-calls t = link-arms-calls t
 
-link-arms-set-link-requires : (t : ℕ) → link-arms-lts.Need-set-link-requires (inner t) (link-arms-at t) link-arms.Post
-link-arms-set-link-requires t c κs = search needs
+abbrev link-list-calls : ℕ → link-list-lts.Claims
+link-list-calls t = (parts-at-reads.Asked, parts-at-reads.Learnt, set-link-reads.Asked, set-link-reads.Learnt, link-arms-below t, link-arms.Post, link-saved-below t, link-saved.Post)
 
-link-arms-past-requires : (t : ℕ) → link-arms-lts.Need-past-requires (inner t) (link-arms-at t) link-arms.Post
-link-arms-past-requires t c κs = search needs
+link-arms-set-link-requires : (t : ℕ) → link-arms-lts.Need-set-link-requires (link-arms-calls t) (link-arms-at t) link-arms.Post
+link-arms-set-link-requires t c κs = omega (arith, c .before .before .before .pre .1 .0, arms-room (c .before .before .before .pre .1 .1))
 
-link-arms-back-requires : (t : ℕ) → link-arms-lts.Need-back-requires (inner t) (link-arms-at t) link-arms.Post
-link-arms-back-requires t c κs = search needs
+link-arms-past-requires : (t : ℕ) → link-arms-lts.Need-past-requires (link-arms-calls t) (link-arms-at t) link-arms.Post
+link-arms-past-requires t c κs = omega (arith, c .before .before .before .before .before .before .before .pre .1 .0, arms-room (c .before .before .before .before .before .before .before .pre .1 .1))
 
-link-arms-link-list-requires : (t : ℕ) → link-arms-lts.Need-link-list-requires (inner t) (link-arms-at t) link-arms.Post
-link-arms-link-list-requires t c κs =
-    let k = c .before .before .before .before .before .before .before .before .before .before .pre .1 in
-    (omega arith, (k .0, k .1, k .2, omega (arith, c .back .ensures), k .5, rw (c .before .past .ensures) (k .6)))
+link-arms-back-requires : (t : ℕ) → link-arms-lts.Need-back-requires (link-arms-calls t) (link-arms-at t) link-arms.Post
+link-arms-back-requires t c κs = omega (arith, c .before .before .before .before .before .before .before .before .pre .1 .0, arms-room (c .before .before .before .before .before .before .before .before .pre .1 .1))
 
-link-arms-back-requires-2 : (t : ℕ) → link-arms-lts.Need-back-requires-2 (inner t) (link-arms-at t) link-arms.Post
-link-arms-back-requires-2 t c κs = search needs
+link-arms-link-list-requires : (t : ℕ) → link-arms-lts.Need-link-list-requires (link-arms-calls t) (link-arms-at t) link-arms.Post
+link-arms-link-list-requires t c κs = let k = c .before .before .before .before .before .before .before .before .before .pre .1 in (omega arith, (k .0, omega (arith, k .0, arms-room (c .before .before .before .before .before .before .before .before .before .pre .1 .1), c .back .ensures), omega (arith, k .0, arms-room (c .before .before .before .before .before .before .before .before .before .pre .1 .1)), first-to-link (k .1) (c .before .past .ensures) (c .before .before .before .before .before .set-link .ensures)))
 
-link-arms-link-list-requires-2 : (t : ℕ) → link-arms-lts.Need-link-list-requires-2 (inner t) (link-arms-at t) link-arms.Post
-link-arms-link-list-requires-2 t c κs =
-    let k = c .before .before .before .before .before .before .before .before .before .before .before .before .before .before .before .pre .1 in
-    (omega arith, (k .0, k .1, k .2, omega (arith, c .back2 .ensures), k .5, k .7))
+link-arms-back-requires-2 : (t : ℕ) → link-arms-lts.Need-back-requires-2 (link-arms-calls t) (link-arms-at t) link-arms.Post
+link-arms-back-requires-2 t c κs = omega (arith, c .before .before .before .before .before .before .before .before .before .before .before .before .before .pre .1 .0, arms-room (c .before .before .before .before .before .before .before .before .before .before .before .before .before .pre .1 .1))
 
-link-arms-same-length : (t : ℕ) → link-arms-lts.Need-same-length (inner t) (link-arms-at t) link-arms.Post
+link-arms-link-list-requires-2 : (t : ℕ) → link-arms-lts.Need-link-list-requires-2 (link-arms-calls t) (link-arms-at t) link-arms.Post
+link-arms-link-list-requires-2 t c κs = let k = c .before .before .before .before .before .before .before .before .before .before .before .before .before .before .pre .1 in (omega arith, (k .0, omega (arith, k .0, arms-room (c .before .before .before .before .before .before .before .before .before .before .before .before .before .before .pre .1 .1), c .back2 .ensures), omega (arith, k .0, arms-room (c .before .before .before .before .before .before .before .before .before .before .before .before .before .before .pre .1 .1)), second-to-link (k .1) (c .before .before .before .before .before .before .past .ensures) (c .before .before .before .before .before .before .before .before .before .before .set-link .ensures) _ (c .before .before .before .before .link-list .ensures)))
+
+link-arms-same-length : (t : ℕ) → link-arms-lts.Need-same-length (link-arms-calls t) (link-arms-at t) link-arms.Post
 link-arms-same-length t c = search needs
 
-link-arms-returns : (t : ℕ) → link-arms-lts.Need-returns (inner t) (link-arms-at t) link-arms.Post
+link-arms-returns : (t : ℕ) → link-arms-lts.Need-returns (link-arms-calls t) (link-arms-at t) link-arms.Post
 link-arms-returns t c =
-    let a = c .before .before .before .before .before .before .before .before .before .before .before .before .before .before .before .before .before .before .args in
+    let a = c .before .before .before .before .before .before .before .before .before .before .before .before .before .before .before .before .before .args in
     arms-linked _ _ _ _ _ _ (a .at .0) (a .second .0) (a .past .0) (c .before .before .before .before .before .before .before .before .before .past .ensures) (c .before .before .before .before .before .before .before .before .back .ensures) (c .before .before .before .back2 .ensures) (c .before .before .before .before .before .before .before .before .before .before .before .before .before .set-link .ensures) (c .before .before .before .before .before .before .before .link-list .ensures) (c .before .before .link-list2 .ensures)
 
 abbrev link-list-Inv-loop : link-list-lts.InvT-loop
-link-list-Inv-loop s table own links₀ end follow levels here₀ links here =
+link-list-Inv-loop s links₀ end follow levels here₀ links here =
     (linkedGot links₀ (here₀ .0) (end .0) (follow .0) (listAt s levels (here₀ .0)) ≡ linkedGot links (here .0) (end .0) (follow .0) (listAt s levels (here .0)))
-    × Whole (listAt s levels (here .0))
+    × ToLink s links levels (here .0)
     × (length links ≡ length links₀)
 
 abbrev link-list-μ-loop : link-list-lts.MeasureT-loop
-link-list-μ-loop s table own links₀ end follow levels here₀ links here = 8 * length s - here .0
+link-list-μ-loop s links₀ end follow levels here₀ links here = 8 * length s - here .0
 
 -- what is left to do, by what stands here
-at-turn : (t : ℕ) (k : link-list-lts.After-parts-at (outer t) (link-list-at t) link-list.Post link-list-Inv-loop link-list-μ-loop) (x : Parts) → k .parts-at .result ≡ x
-    → Outcome (k .before .before .before .before .before .args .s .now) (k .before .before .before .before .before .args .levels) (k .before .loop .here .0) (k .before .loop .links) (k .before .before .before .before .before .args .end .0) (k .before .before .before .before .before .args .follow .0) x
-at-turn t k x e = outcome _ _ _ (k .before .loop .inv .1) _ _ _ x (sym (k .parts-at .ensures) ∙ e)
+at-turn : (t : ℕ) (k : link-list-lts.After-parts-at (link-list-calls t) (link-list-at t) link-list.Post link-list-Inv-loop link-list-μ-loop) (x : Parts) → k .parts-at .result ≡ x
+    → Outcome (k .before .before .before .before .before .args .s .now) (k .before .before .before .before .before .args .levels) (k .before .before .loop .here .0) (k .before .before .loop .links) (k .before .before .before .before .before .args .end .0) (k .before .before .before .before .before .args .follow .0) x
+at-turn t k x e = outcome _ _ _ (k .before .before .loop .inv .1) _ _ x (sym (k .parts-at .ensures _ (k .before .before .loop .inv .1)) ∙ e)
 
-link-list-loop-holds : (t : ℕ) → link-list-lts.Need-loop-holds (outer t) (link-list-at t) link-list.Post link-list-Inv-loop link-list-μ-loop
-link-list-loop-holds t c = search needs
+link-list-loop-holds : (t : ℕ) → link-list-lts.Need-loop-holds (link-list-calls t) (link-list-at t) link-list.Post link-list-Inv-loop link-list-μ-loop
+link-list-loop-holds t c = (refl, c .before .before .pre .1 .3, refl)
 
-link-list-parts-at-requires : (t : ℕ) → link-list-lts.Need-parts-at-requires (outer t) (link-list-at t) link-list.Post link-list-Inv-loop link-list-μ-loop
-link-list-parts-at-requires t c κs = search needs
+link-list-parts-at-requires : (t : ℕ) → link-list-lts.Need-parts-at-requires (link-list-calls t) (link-list-at t) link-list.Post link-list-Inv-loop link-list-μ-loop
+link-list-parts-at-requires t c κs = (c .before .before .before .before .pre .1 .0, here-within (c .before .loop .inv .1))
 
-link-list-enum-told : (t : ℕ) → link-list-lts.Need-enum-told (outer t) (link-list-at t) link-list.Post link-list-Inv-loop link-list-μ-loop
+link-list-enum-told : (t : ℕ) → link-list-lts.Need-enum-told (link-list-calls t) (link-list-at t) link-list.Post link-list-Inv-loop link-list-μ-loop
 link-list-enum-told t c = search needs
 
-link-list-set-link-requires : (t : ℕ) → link-list-lts.Need-set-link-requires (outer t) (link-list-at t) link-list.Post link-list-Inv-loop link-list-μ-loop
+link-list-set-link-requires : (t : ℕ) → link-list-lts.Need-set-link-requires (link-list-calls t) (link-list-at t) link-list.Post link-list-Inv-loop link-list-μ-loop
 link-list-set-link-requires t c κs = search needs
 
-link-list-same-length : (t : ℕ) → link-list-lts.Need-same-length (outer t) (link-list-at t) link-list.Post link-list-Inv-loop link-list-μ-loop
+link-list-same-length : (t : ℕ) → link-list-lts.Need-same-length (link-list-calls t) (link-list-at t) link-list.Post link-list-Inv-loop link-list-μ-loop
 link-list-same-length t c = search needs
 
-link-list-returns : (t : ℕ) → link-list-lts.Need-returns (outer t) (link-list-at t) link-list.Post link-list-Inv-loop link-list-μ-loop
-link-list-returns t c = c .before .before .set-link .ensures ∙ sym (c .before .before .before .before .before .before .before .loop .inv .0 ∙ at-turn t (c .before .before .before .before .before .before) _ (c .before .before .before .before .enum-told .given .1))
+link-list-returns : (t : ℕ) → link-list-lts.Need-returns (link-list-calls t) (link-list-at t) link-list.Post link-list-Inv-loop link-list-μ-loop
+link-list-returns t c = c .before .before .set-link .ensures ∙ sym (c .before .before .before .before .before .before .before .before .loop .inv .0 ∙ at-turn t (c .before .before .before .before .before .before) _ (c .before .before .before .before .enum-told .given .1))
 
-link-list-enum-known-past : (t : ℕ) → link-list-lts.Need-enum-known-past (outer t) (link-list-at t) link-list.Post link-list-Inv-loop link-list-μ-loop
+link-list-enum-known-past : (t : ℕ) → link-list-lts.Need-enum-known-past (link-list-calls t) (link-list-at t) link-list.Post link-list-Inv-loop link-list-μ-loop
 link-list-enum-known-past t c = search needs
 
-link-list-loop-less : (t : ℕ) → link-list-lts.Need-loop-less (outer t) (link-list-at t) link-list.Post link-list-Inv-loop link-list-μ-loop
+link-list-loop-less : (t : ℕ) → link-list-lts.Need-loop-less (link-list-calls t) (link-list-at t) link-list.Post link-list-Inv-loop link-list-μ-loop
 link-list-loop-less t c = let w = at-turn t (c .before .before .before) _ (c .before .past .given .1) in omega arith
 
-link-list-loop-again : (t : ℕ) → link-list-lts.Need-loop-again (outer t) (link-list-at t) link-list.Post link-list-Inv-loop link-list-μ-loop
-link-list-loop-again t c = let w = at-turn t (c .before .before .before) _ (c .before .past .given .1) in (c .before .before .before .before .loop .inv .0 ∙ w .links, w .whole, c .before .before .before .before .loop .inv .2)
+link-list-loop-again : (t : ℕ) → link-list-lts.Need-loop-again (link-list-calls t) (link-list-at t) link-list.Post link-list-Inv-loop link-list-μ-loop
+link-list-loop-again t c = let w = at-turn t (c .before .before .before) _ (c .before .past .given .1) in (c .before .before .before .before .before .loop .inv .0 ∙ w .links, w .rest, c .before .before .before .before .before .loop .inv .2)
 
-link-list-enum-known-second : (t : ℕ) → link-list-lts.Need-enum-known-second (outer t) (link-list-at t) link-list.Post link-list-Inv-loop link-list-μ-loop
+link-list-enum-known-second : (t : ℕ) → link-list-lts.Need-enum-known-second (link-list-calls t) (link-list-at t) link-list.Post link-list-Inv-loop link-list-μ-loop
 link-list-enum-known-second t c = search needs
 
-link-list-sub-link-arms : (t : ℕ) → link-list-lts.Need-sub-link-arms (outer t) (link-list-at t) link-list.Post link-list-Inv-loop link-list-μ-loop
+link-list-sub-link-arms : (t : ℕ) → link-list-lts.Need-sub-link-arms (link-list-calls t) (link-list-at t) link-list.Post link-list-Inv-loop link-list-μ-loop
 link-list-sub-link-arms t c = let w = at-turn t (c .before .before .before .before) _ (c .before .before .second .given .1) in omega (arith, w .levels-left)
 
-link-list-link-arms-requires : (t : ℕ) → link-list-lts.Need-link-arms-requires (outer t) (link-list-at t) link-list.Post link-list-Inv-loop link-list-μ-loop
-link-list-link-arms-requires t c κs = let w = at-turn t (c .before .before .before .before) _ (c .before .before .second .given .1) in (omega arith, (c .before .before .before .before .before .before .before .before .before .pre .1 .0, c .before .before .before .before .before .before .before .before .before .pre .1 .1, c .before .before .before .before .before .before .before .before .before .pre .1 .2, w .first-room, w .second-room, omega arith, w .first-whole, w .second-whole))
+link-list-link-arms-requires : (t : ℕ) → link-list-lts.Need-link-arms-requires (link-list-calls t) (link-list-at t) link-list.Post link-list-Inv-loop link-list-μ-loop
+link-list-link-arms-requires t c κs = let w = at-turn t (c .before .before .before .before) _ (c .before .before .second .given .1) in (omega (arith, w .levels-left), (c .before .before .before .before .before .before .before .before .before .pre .1 .0, w .arms))
 
-link-list-loop-less-2 : (t : ℕ) → link-list-lts.Need-loop-less-2 (outer t) (link-list-at t) link-list.Post link-list-Inv-loop link-list-μ-loop
+link-list-loop-less-2 : (t : ℕ) → link-list-lts.Need-loop-less-2 (link-list-calls t) (link-list-at t) link-list.Post link-list-Inv-loop link-list-μ-loop
 link-list-loop-less-2 t c = let w = at-turn t (c .before .before .before .before .before .before .before) _ (c .before .before .before .before .before .second .given .1) in omega arith
 
-link-list-loop-again-2 : (t : ℕ) → link-list-lts.Need-loop-again-2 (outer t) (link-list-at t) link-list.Post link-list-Inv-loop link-list-μ-loop
-link-list-loop-again-2 t c = let w = at-turn t (c .before .before .before .before .before .before .before) _ (c .before .before .before .before .before .second .given .1) in (linked-on _ _ _ _ (c .before .before .before .before .before .before .before .before .loop .inv .0 ∙ w .left .links) (c .before .before .link-arms .ensures), w .left .whole, c .before .before .link-arms .kept .1 .1 .1 .0 ∙ c .before .before .before .before .before .before .before .before .loop .inv .2)
+link-list-loop-again-2 : (t : ℕ) → link-list-lts.Need-loop-again-2 (link-list-calls t) (link-list-at t) link-list.Post link-list-Inv-loop link-list-μ-loop
+link-list-loop-again-2 t c = let w = at-turn t (c .before .before .before .before .before .before .before) _ (c .before .before .before .before .before .second .given .1) in (linked-on _ _ _ _ (c .before .before .before .before .before .before .before .before .before .loop .inv .0 ∙ w .left .links) (c .before .before .link-arms .ensures), rw (c .before .before .link-arms .ensures) (w .left .rest), c .before .before .link-arms .kept .1 .0 ∙ c .before .before .before .before .before .before .before .before .before .loop .inv .2)
 
-link-list-enum-known-past-2 : (t : ℕ) → link-list-lts.Need-enum-known-past-2 (outer t) (link-list-at t) link-list.Post link-list-Inv-loop link-list-μ-loop
+link-list-enum-known-past-2 : (t : ℕ) → link-list-lts.Need-enum-known-past-2 (link-list-calls t) (link-list-at t) link-list.Post link-list-Inv-loop link-list-μ-loop
 link-list-enum-known-past-2 t c = search needs
 
-link-list-sub-link-saved : (t : ℕ) → link-list-lts.Need-sub-link-saved (outer t) (link-list-at t) link-list.Post link-list-Inv-loop link-list-μ-loop
+link-list-sub-link-saved : (t : ℕ) → link-list-lts.Need-sub-link-saved (link-list-calls t) (link-list-at t) link-list.Post link-list-Inv-loop link-list-μ-loop
 link-list-sub-link-saved t c = let w = at-turn t (c .before .before .before .before) _ (c .before .before .past2 .given .1) in omega (arith, w .levels-left)
 
-link-list-link-saved-requires : (t : ℕ) → link-list-lts.Need-link-saved-requires (outer t) (link-list-at t) link-list.Post link-list-Inv-loop link-list-μ-loop
-link-list-link-saved-requires t c κs = let w = at-turn t (c .before .before .before .before) _ (c .before .before .past2 .given .1) in (omega arith, (c .before .before .before .before .before .before .before .before .before .pre .1 .0, c .before .before .before .before .before .before .before .before .before .pre .1 .1, c .before .before .before .before .before .before .before .before .before .pre .1 .2, w .room, omega arith, c .before .before .before .before .before .before .before .before .before .pre .1 .3, w .saved-whole))
+link-list-link-saved-requires : (t : ℕ) → link-list-lts.Need-link-saved-requires (link-list-calls t) (link-list-at t) link-list.Post link-list-Inv-loop link-list-μ-loop
+link-list-link-saved-requires t c κs = let w = at-turn t (c .before .before .before .before) _ (c .before .before .past2 .given .1) in (omega (arith, w .levels-left), (c .before .before .before .before .before .before .before .before .before .pre .1 .0, c .before .before .before .before .before .before .before .before .before .pre .1 .1, w .saved))
 
-link-list-loop-less-3 : (t : ℕ) → link-list-lts.Need-loop-less-3 (outer t) (link-list-at t) link-list.Post link-list-Inv-loop link-list-μ-loop
+link-list-loop-less-3 : (t : ℕ) → link-list-lts.Need-loop-less-3 (link-list-calls t) (link-list-at t) link-list.Post link-list-Inv-loop link-list-μ-loop
 link-list-loop-less-3 t c = let w = at-turn t (c .before .before .before .before .before .before .before) _ (c .before .before .before .before .before .past2 .given .1) in omega arith
 
-link-list-loop-again-3 : (t : ℕ) → link-list-lts.Need-loop-again-3 (outer t) (link-list-at t) link-list.Post link-list-Inv-loop link-list-μ-loop
-link-list-loop-again-3 t c = let w = at-turn t (c .before .before .before .before .before .before .before) _ (c .before .before .before .before .before .past2 .given .1) in (linked-on _ _ _ _ (c .before .before .before .before .before .before .before .before .loop .inv .0 ∙ w .left .links) (c .before .before .link-saved .ensures), w .left .whole, c .before .before .link-saved .kept .1 .1 .1 .0 ∙ c .before .before .before .before .before .before .before .before .loop .inv .2)
+link-list-loop-again-3 : (t : ℕ) → link-list-lts.Need-loop-again-3 (link-list-calls t) (link-list-at t) link-list.Post link-list-Inv-loop link-list-μ-loop
+link-list-loop-again-3 t c = let w = at-turn t (c .before .before .before .before .before .before .before) _ (c .before .before .before .before .before .past2 .given .1) in (linked-on _ _ _ _ (c .before .before .before .before .before .before .before .before .before .loop .inv .0 ∙ w .left .links) (c .before .before .link-saved .ensures), rw (c .before .before .link-saved .ensures) (w .left .rest), c .before .before .link-saved .kept .1 .0 ∙ c .before .before .before .before .before .before .before .before .before .loop .inv .2)
 
-link-list-enum-told-2 : (t : ℕ) → link-list-lts.Need-enum-told-2 (outer t) (link-list-at t) link-list.Post link-list-Inv-loop link-list-μ-loop
+link-list-enum-told-2 : (t : ℕ) → link-list-lts.Need-enum-told-2 (link-list-calls t) (link-list-at t) link-list.Post link-list-Inv-loop link-list-μ-loop
 link-list-enum-told-2 t c = search needs
 
-link-list-same-length-2 : (t : ℕ) → link-list-lts.Need-same-length-2 (outer t) (link-list-at t) link-list.Post link-list-Inv-loop link-list-μ-loop
+link-list-same-length-2 : (t : ℕ) → link-list-lts.Need-same-length-2 (link-list-calls t) (link-list-at t) link-list.Post link-list-Inv-loop link-list-μ-loop
 link-list-same-length-2 t c = search needs
 
-link-list-returns-2 : (t : ℕ) → link-list-lts.Need-returns-2 (outer t) (link-list-at t) link-list.Post link-list-Inv-loop link-list-μ-loop
+link-list-returns-2 : (t : ℕ) → link-list-lts.Need-returns-2 (link-list-calls t) (link-list-at t) link-list.Post link-list-Inv-loop link-list-μ-loop
 link-list-returns-2 t c = absurd (at-turn t (c .before .before) _ (c .enum-told2 .given .1))
 
-link-saved-set-link-requires : (t : ℕ) → link-saved-lts.Need-set-link-requires (inner t) (link-saved-at t) link-saved.Post
-link-saved-set-link-requires t c κs = search needs
+link-saved-set-link-requires : (t : ℕ) → link-saved-lts.Need-set-link-requires (link-saved-calls t) (link-saved-at t) link-saved.Post
+link-saved-set-link-requires t c κs = omega (arith, c .before .before .before .pre .1 .0, saved-room (c .before .before .before .pre .1 .2))
 
-link-saved-past-requires : (t : ℕ) → link-saved-lts.Need-past-requires (inner t) (link-saved-at t) link-saved.Post
-link-saved-past-requires t c κs = search needs
+link-saved-past-requires : (t : ℕ) → link-saved-lts.Need-past-requires (link-saved-calls t) (link-saved-at t) link-saved.Post
+link-saved-past-requires t c κs = omega (arith, c .before .before .before .before .before .before .before .pre .1 .0, saved-room (c .before .before .before .before .before .before .before .pre .1 .2))
 
-link-saved-back-requires : (t : ℕ) → link-saved-lts.Need-back-requires (inner t) (link-saved-at t) link-saved.Post
-link-saved-back-requires t c κs = search needs
+link-saved-back-requires : (t : ℕ) → link-saved-lts.Need-back-requires (link-saved-calls t) (link-saved-at t) link-saved.Post
+link-saved-back-requires t c κs = omega (arith, c .before .before .before .before .before .before .before .before .pre .1 .0, saved-room (c .before .before .before .before .before .before .before .before .pre .1 .2))
 
-link-saved-link-list-requires : (t : ℕ) → link-saved-lts.Need-link-list-requires (inner t) (link-saved-at t) link-saved.Post
-link-saved-link-list-requires t c κs =
-    let k = c .before .before .before .before .before .before .before .before .before .before .pre .1 in
-    (omega arith, (k .0, k .1, k .2, omega (arith, c .back .ensures), k .5, rw (c .before .past .ensures) (k .6)))
+link-saved-link-list-requires : (t : ℕ) → link-saved-lts.Need-link-list-requires (link-saved-calls t) (link-saved-at t) link-saved.Post
+link-saved-link-list-requires t c κs = let k = c .before .before .before .before .before .before .before .before .before .pre .1 in (omega arith, (k .0, omega (arith, k .0, saved-room (c .before .before .before .before .before .before .before .before .before .pre .1 .2), c .back .ensures), k .1, saved-to-link (k .2) (c .before .past .ensures) (c .before .before .before .before .before .set-link .ensures)))
 
-link-saved-same-length : (t : ℕ) → link-saved-lts.Need-same-length (inner t) (link-saved-at t) link-saved.Post
+link-saved-same-length : (t : ℕ) → link-saved-lts.Need-same-length (link-saved-calls t) (link-saved-at t) link-saved.Post
 link-saved-same-length t c = search needs
 
-link-saved-returns : (t : ℕ) → link-saved-lts.Need-returns (inner t) (link-saved-at t) link-saved.Post
+link-saved-returns : (t : ℕ) → link-saved-lts.Need-returns (link-saved-calls t) (link-saved-at t) link-saved.Post
 link-saved-returns t c =
-    let a = c .before .before .before .before .before .before .before .before .before .before .before .before .before .args in
+    let a = c .before .before .before .before .before .before .before .before .before .before .before .before .args in
     saved-linked _ _ _ _ _ (a .at .0) _ (a .past .0) (c .before .before .before .before .past .ensures) (c .before .before .before .back .ensures) (c .before .before .before .before .before .before .before .before .set-link .ensures) (c .before .before .link-list .ensures)
 
 pub +link-arms+link-list+link-saved-spec : {M : Type 1} → statement M
 +link-arms+link-list+link-saved-spec =
-    close μ-link-arms μ-link-list μ-link-saved (λ t. link-arms-lts.spec (inner t)
+    close
+    μ-link-arms
+    μ-link-list
+    μ-link-saved
+    (λ t. link-arms-lts.spec (link-arms-calls t)
     (link-arms-at t)
     link-arms.Post
     (link-arms-set-link-requires t)
@@ -211,7 +213,7 @@ pub +link-arms+link-list+link-saved-spec : {M : Type 1} → statement M
     (link-arms-link-list-requires-2 t)
     (link-arms-same-length t)
     (link-arms-returns t))
-    (λ t. link-list-lts.spec (outer t)
+    (λ t. link-list-lts.spec (link-list-calls t)
     (link-list-at t)
     link-list.Post
     link-list-Inv-loop
@@ -238,8 +240,7 @@ pub +link-arms+link-list+link-saved-spec : {M : Type 1} → statement M
     (link-list-enum-told-2 t)
     (link-list-same-length-2 t)
     (link-list-returns-2 t))
-    λ t. link-saved-lts.spec
-    (inner t)
+    λ t. link-saved-lts.spec (link-saved-calls t)
     (link-saved-at t)
     link-saved.Post
     (link-saved-set-link-requires t)

@@ -1,12 +1,14 @@
 -- `links::link_tree` meets its contract. The loop's invariant: what is left to link from template `own` on gives what the whole gives.
 -- Assumes nothing.
-use Prim.Native.Nat.{_-_, _≤_}
+use Prim.Native.Nat.{ℕ, _-_, _≤_}
 use native.Mathlib.Omega.{arith}
-use mathlib.Core.Path.{_≡_, sym, _∙_}
+use mathlib.Core.Path.{_≡_, refl, sym, _∙_}
+use mathlib.Core.List.{List}
 use lib.ListN.{length}
-use Rattle.files.specs.Tree.{treeRead}
-use Rattle.links.specs.TreeSteps.{linkedFrom}
-use Rattle.links.specs.laws.TreeSteps.{ready-short, at-most-64, linked-all, list-whole, template-linked, linked-on}
+use Rattle.files.specs.Reading.{got}
+use Rattle.files.specs.Tree.{Template, treeRead}
+use Rattle.links.specs.TreeSteps.{linkedFrom, HasPasts}
+use Rattle.links.specs.laws.TreeSteps.{ready-short, at-most-64, linked-all, list-to-link, next-has, templates-same, template-linked, linked-on}
 use borrow.Author.Needs.{needs}
 use Rattle.links.proofs.link_tree.Statement.{statement}
 use Rattle.links.proofs.link_tree.Tie as tie
@@ -14,12 +16,13 @@ use Rattle.links.proofs.link_tree.Tie as tie
 abbrev Inv-loop : tie.InvT-loop
 Inv-loop s table count links₀ own₀ links own =
     (linkedFrom links₀ 0 (treeRead s) ≡ linkedFrom links own (treeRead s)) × (own ≤ count) × (length links ≡ length links₀)
+    × ((ts : List Template) (q : ℕ) → treeRead s ≡ got ts q → HasPasts links own ts)
 
 abbrev μ-loop : tie.MeasureT-loop
 μ-loop s table count links₀ own₀ links own = count - own
 
 loop-holds : tie.Need-loop-holds Inv-loop μ-loop
-loop-holds c = search needs
+loop-holds c = (refl, omega arith, refl, c .before .before .before .pre .2)
 
 mul-from-slot : tie.Need-mul-from-slot Inv-loop μ-loop
 mul-from-slot c = omega (arith, at-most-64 (c .before .before .before .before .before .pre .0))
@@ -34,7 +37,7 @@ from-slot-requires : tie.Need-from-slot-requires Inv-loop μ-loop
 from-slot-requires c κs = search needs
 
 link-list-requires : tie.Need-link-list-requires Inv-loop μ-loop
-link-list-requires c κs = let r = c .before .before .before .before .before .before .before .before .pre .0 in (ready-short r, c .before .before .before .before .before .before .before .before .pre .1, omega (arith, at-most-64 r), omega arith, omega arith, rw (c .before .from-slot .ensures) (list-whole r (c .before .before .before .before .loop .own) (c .before .before .before .loop-test .taken)))
+link-list-requires c κs = let r = c .before .before .before .before .before .before .before .before .pre .0 in (ready-short r, omega arith, omega arith, rw (c .before .from-slot .ensures) (list-to-link r (c .before .before .before .before .loop .own) (c .before .before .before .loop-test .taken) _ (c .before .before .before .before .loop .inv .3 _ _ (r .read))))
 
 add-own : tie.Need-add-own Inv-loop μ-loop
 add-own c = search needs
@@ -43,7 +46,7 @@ loop-less : tie.Need-loop-less Inv-loop μ-loop
 loop-less c = search needs
 
 loop-again : tie.Need-loop-again Inv-loop μ-loop
-loop-again c = (linked-on _ _ (c .before .before .before .before .before .before .before .loop .inv .0 ∙ template-linked (c .before .before .before .before .before .before .before .before .before .before .before .pre .0) _ (c .before .before .before .before .before .before .loop-test .taken) _) (rw (c .before .before .before .before .from-slot .ensures) at (c .before .before .link-list .ensures)), omega arith, c .before .before .link-list .kept .1 .1 .1 .0 ∙ c .before .before .before .before .before .before .before .loop .inv .2)
+loop-again c = (linked-on _ _ (c .before .before .before .before .before .before .before .loop .inv .0 ∙ template-linked (c .before .before .before .before .before .before .before .before .before .before .before .pre .0) _ (c .before .before .before .before .before .before .loop-test .taken) _) (rw (c .before .before .before .before .from-slot .ensures) at (c .before .before .link-list .ensures)), omega arith, c .before .before .link-list .kept .1 .0 ∙ c .before .before .before .before .before .before .before .loop .inv .2, templates-same (c .before .before .before .before .before .before .before .before .before .before .before .pre .0) _ _ (next-has (c .before .before .before .before .before .before .before .before .before .before .before .pre .0) (c .before .before .before .before .before .before .before .loop .own) (c .before .before .before .before .before .before .loop-test .taken) _ (c .before .before .before .before .before .before .before .loop .inv .3 _ _ (c .before .before .before .before .before .before .before .before .before .before .before .pre .0 .read)) (rw (c .before .before .before .before .from-slot .ensures) at (c .before .before .link-list .ensures))))
 
 same-length : tie.Need-same-length Inv-loop μ-loop
 same-length c = search needs

@@ -1,104 +1,82 @@
--- `links::parts_at` meets its contract. Assumes nothing.
-use Rattle.links.specs.Parts.{partsOf}
-use Rattle.lists.specs.laws.ReadLaws.{read-below, simple-anywhere, deep-anywhere, deep-last}
-use Rattle.lists.specs.Pass.{deepAt}
-use Rattle.files.specs.laws.Heads.{code-cut, code-read, no-code}
-use Rattle.files.specs.Reading.{shaped, headAt, deepOf}
-use Rattle.fields.specs.laws.Laws.{value-of}
-use Rattle.fields.specs.Field.{fieldRead}
-use Rattle.fields.specs.declared.Field.the-variants.{Read}
+-- `links::parts_at` meets its contract: by the shape of the code that stands there. Assumes nothing.
 use native.Mathlib.Omega.{arith}
-use mathlib.Core.Path.{_≡_, refl, sym, ap, _∙_}
+use mathlib.Core.Path.{sym, ap, _∙_}
+use Rattle.fields.specs.laws.Laws.{field-small}
+use Rattle.files.specs.Codes.{shapeOf}
+use Rattle.links.specs.laws.PartsLaws.{end-here, simple-here, arms-here, saved-here, bad-here}
 use borrow.Author.Needs.{needs}
 use Rattle.links.proofs.parts_at.Statement.{statement}
 use Rattle.links.proofs.parts_at.Tie as tie
 
--- the code is read
-code-is : (k : tie.After-shape-of) → fieldRead (k .before .before .before .before .before .before .before .args .s .now) (k .before .before .before .before .before .before .before .args .at .0) 5 ≡ Read (k .before .before .code .given .0 .0) (k .before .before .code .given .0 .1 .0)
-code-is k = sym (k .before .before .before .before .read-field .ensures) ∙ k .before .before .code .given .1
-
--- the instruction is read by its code's shape
-at-code : (k : tie.After-shape-of)
-    → headAt (k .before .before .before .before .before .before .before .args .s .now) (deepOf (k .before .before .before .before .before .before .before .args .s .now) (k .before .before .before .before .before .before .before .args .levels)) (k .before .before .before .before .before .before .before .args .at .0) ≡ shaped (k .before .before .before .before .before .before .before .args .s .now) (deepOf (k .before .before .before .before .before .before .before .args .s .now) (k .before .before .before .before .before .before .before .args .levels)) (k .before .before .before .before .before .before .before .args .at .0) (k .before .before .code .given .0 .0) (k .before .before .code .given .0 .1 .0 .0) (k .shape-of .result)
-at-code k = code-read _ _ _ _ _ _ (code-is k) (sym (k .shape-of .ensures))
-
-read-field-requires : tie.Need-read-field-requires
-read-field-requires c κs = search needs
-
-enum-known-code : tie.Need-enum-known-code
-enum-known-code c = search needs
-
-enum-told : tie.Need-enum-told
-enum-told c = search needs
+shape-of-requires : tie.Need-shape-of-requires
+shape-of-requires c κs = rw (c .bits-at .ensures .0) (field-small _ _ 5)
 
 returns : tie.Need-returns
-unfolding partsOf
-returns c = rw (code-cut _ _ _ (sym (c .before .before .read-field .ensures) ∙ c .enum-told .given .1)) refl
-
-shape-of-requires : tie.Need-shape-of-requires
-shape-of-requires c κs = read-below _ _ 5 _ _ (sym (c .before .before .before .read-field .ensures) ∙ c .before .code .given .1)
-
-cast-simple-parts : tie.Need-cast-simple-parts
-cast-simple-parts c = search needs
-
-sub-simple-parts : tie.Need-sub-simple-parts
-sub-simple-parts c = search needs
-
-simple-parts-requires : tie.Need-simple-parts-requires
-simple-parts-requires c κs = let v = value-of _ _ 5 _ _ (code-is (c .before .before)) in (c .before .before .before .before .before .before .before .before .before .pre .0, omega arith, omega arith)
+returns c = λ l w. end-here w (ap shapeOf (sym (c .before .before .bits-at .ensures .0)) ∙ sym (c .before .shape-of .ensures) ∙ c .match .keys1)
 
 returns-2 : tie.Need-returns-2
-unfolding partsOf
-returns-2 c = rw (at-code (c .before .before .before .before) ∙ deep-last _ _ _ _ _ _ (c .if3 .taken) (omega arith) (omega arith)) refl
-
-sub-arms : tie.Need-sub-arms
-sub-arms c = search needs
-
-arms-requires : tie.Need-arms-requires
-arms-requires c κs = search needs
-
-sub-saved : tie.Need-sub-saved
-sub-saved c = search needs
-
-saved-requires : tie.Need-saved-requires
-saved-requires c κs = search needs
+returns-2 c = λ l w. arms-here w (ap shapeOf (sym (c .before .before .before .before .before .bits-at .ensures .0)) ∙ sym (c .before .before .before .before .shape-of .ensures) ∙ c .before .before .before .match .keys2) (rw (c .before .before .past .ensures) at (c .before .link-at .ensures)) (c .link-at2 .ensures)
 
 returns-3 : tie.Need-returns-3
-unfolding partsOf shaped
-returns-3 c = rw (at-code (c .before), c .match2 .keys1) refl
+returns-3 c = λ l w. saved-here w (ap shapeOf (sym (c .before .before .before .before .bits-at .ensures .0)) ∙ sym (c .before .before .before .shape-of .ensures) ∙ c .before .before .match .keys3) (rw (c .before .past2 .ensures) at (c .link-at3 .ensures))
 
 returns-4 : tie.Need-returns-4
-returns-4 c = c .simple-parts .ensures _ _ _ (omega arith) ∙ ap (partsOf _) (sym (at-code (c .before .before .before) ∙ simple-anywhere _ _ _ _ _ _ (omega arith) (omega arith)))
+returns-4 c = λ l w. simple-here w (ap shapeOf (sym (c .before .before .before .before .bits-at .ensures .0)) ∙ sym (c .before .before .before .shape-of .ensures)) (omega arith) (omega arith) (c .past3 .ensures)
 
 returns-5 : tie.Need-returns-5
-returns-5 c = let v = value-of _ _ 5 _ _ (code-is (c .before .before .before .before .before .before)) in c .arms .ensures _ (sym (v .1 .0)) ∙ ap (partsOf _) (sym (at-code (c .before .before .before .before .before .before) ∙ deep-anywhere _ _ _ _ _ _ (c .before .before .if3 .left) (omega arith) (omega arith) ∙ ap (deepAt _ _ _) (c .before .if4 .taken)))
+returns-5 c = λ l w. absurd (bad-here w (ap shapeOf (sym (c .before .before .before .bits-at .ensures .0)) ∙ sym (c .before .before .shape-of .ensures)) (omega arith) (omega arith))
 
-returns-6 : tie.Need-returns-6
-returns-6 c = c .saved .ensures _ ∙ ap (partsOf _) (sym (at-code (c .before .before .before .before .before .before) ∙ deep-anywhere _ _ _ _ _ _ (c .before .before .if3 .left) (omega arith) (omega arith) ∙ ap (deepAt _ _ _) (omega arith)))
+bits-at-requires : tie.Need-bits-at-requires
+bits-at-requires c κs = search needs
 
-returns-7 : tie.Need-returns-7
-unfolding partsOf
-returns-7 c = rw (at-code (c .before .before .before) ∙ no-code _ _ _ _ _ _ (omega arith)) refl
+past-requires : tie.Need-past-requires
+past-requires c κs = search needs
+
+link-at-requires : tie.Need-link-at-requires
+link-at-requires c κs = search needs
+
+link-at-requires-2 : tie.Need-link-at-requires-2
+link-at-requires-2 c κs = search needs
+
+past-requires-2 : tie.Need-past-requires-2
+past-requires-2 c κs = search needs
+
+link-at-requires-3 : tie.Need-link-at-requires-3
+link-at-requires-3 c κs = search needs
+
+cast-past : tie.Need-cast-past
+cast-past c = search needs
+
+sub-past : tie.Need-sub-past
+sub-past c = search needs
+
+mul-past : tie.Need-mul-past
+mul-past c = search needs
+
+add-past : tie.Need-add-past
+add-past c = search needs
+
+past-requires-3 : tie.Need-past-requires-3
+past-requires-3 c κs = search needs
 
 pub parts-at-spec : {M : Type 1} → statement M
 parts-at-spec =
     tie.close
     (tie.spec
-    read-field-requires
-    enum-known-code
-    enum-told
-    returns
+    bits-at-requires
     shape-of-requires
-    cast-simple-parts
-    sub-simple-parts
-    simple-parts-requires
+    past-requires
+    link-at-requires
+    link-at-requires-2
+    past-requires-2
+    link-at-requires-3
+    cast-past
+    sub-past
+    mul-past
+    add-past
+    past-requires-3
+    returns
     returns-2
-    sub-arms
-    arms-requires
-    sub-saved
-    saved-requires
     returns-3
     returns-4
-    returns-5
-    returns-6
-    returns-7)
+    returns-5)

@@ -1,19 +1,25 @@
 -- One turn of the loop that links a list: what is left to link from the next instruction on. Assumes nothing.
-use Prim.Native.Nat.{ℕ, zero, suc, _+_, _*_, _-_, _≤_, _<_}
+use Prim.Native.Nat.{ℕ, zero, suc, _+_, _*_, _-_, _/_, _≤_, _<_}
 use native.Mathlib.Numerals.{sub-one}
 use native.Mathlib.Omega.{arith}
 use mathlib.Core.Path.{_≡_, refl, sym, ap, _∙_}
 use mathlib.Core.Bool.{Bool, true, false, cond}
 use mathlib.Core.List.{List, [], _∷_}
 use lib.ListN.{length, getD}
+use lib.Seq.{getD-set-other}
 use lib.Dec.{eqb}
 use Rattle.files.specs.Codes.{shapeOf}
 use Rattle.files.specs.Code.{Code, Instr, neutral-i, return-i, call-i, unless-i, cont-i, put, simple, bits}
 use Rattle.files.specs.Reading.{Got, got, refused, Head, stop, item, bad, withList, withDeep, shaped, headAt, before, after, deepOf, listAt}
 use Rattle.files.specs.laws.ReadingLaws.{some-bits, least-bits, bitsI, Past, head-past, deep-past, list-step, list-bits}
+use Rattle.files.specs.laws.AllGot.{refused-got}
+use Rattle.lists.specs.declared.Keep.the-variants.{Pasts}
+use Rattle.lists.specs.Marks.{HasIn}
+use Rattle.lists.specs.laws.MarksLaws.{Outside, still-in, has-rest, has-arms, has-saved}
 use Rattle.links.specs.Links.{link, linked}
+use Rattle.links.specs.laws.LinksLaws.{link-other, linked-other}
 use Rattle.links.specs.laws.Stands.{field-stands}
-use Rattle.links.specs.Parts.{instrParts, partsOf, Whole, linkedGot, linkedArms, linkedSaved}
+use Rattle.links.specs.Parts.{instrParts, partsOf, ToLink, ArmsToLink, SavedToLink, linkedGot, linkedArms, linkedSaved}
 use Rattle.links.specs.declared.Parts.{Parts}
 use Rattle.links.specs.declared.Parts.the-variants.{End, Simple, Arms, Saved, Bad}
 
@@ -34,6 +40,18 @@ linked-put L p e f return-i c = refl
 linked-put L p e f (call-i n) c = refl
 linked-put L p e f (unless-i x y) c = let z : p + (5 + bits x + bits y) ≡ p + 5 + bits x + bits y = omega arith in rw z refl
 linked-put L p e f (cont-i n x) c = let z : p + (13 + bits x) ≡ p + 13 + bits x = omega arith in rw z refl
+
+-- the links of places outside it stay
+item-other : (L : List ℕ) (p e : ℕ) (i : Instr) (j : ℕ) → Outside p (p + bitsI i) j → getD (linkedItem L p e i) j 0 ≡ getD L j 0
+unfolding linkedItem bitsI
+item-other L p e (neutral-i op ns) j h = refl
+item-other L p e return-i j h = refl
+item-other L p e (call-i n) j h = refl
+item-other L p e (unless-i x y) j h =
+    linked-other _ _ _ _ y j (λ a b. h (omega arith) (omega arith)) ∙ linked-other _ _ _ _ x j (λ a b. h (omega arith) (omega arith))
+    ∙ link-other L p (p + (5 + bits x + bits y)) _ (omega arith) j h
+item-other L p e (cont-i n x) j h =
+    linked-other _ _ _ _ x j (λ a b. h (omega arith) (omega arith)) ∙ link-other L p (p + (13 + bits x)) _ (omega arith) j h
 
 -- ---- the lists of an instruction are read one level deeper
 unfoldable Lists : List ℕ → ℕ → ℕ → Head → Type 0
@@ -113,24 +131,20 @@ module _ (s : List ℕ) (l p : ℕ) where
   -- what is left to link, and that it is read
   pub record Left (L L′ : List ℕ) (e f q : ℕ) : Type 0 where
     pub links : linkedGot L p e f (listAt s l p) ≡ linkedGot L′ q e f (listAt s l q)
-    pub whole : Whole (listAt s l q)
+    pub rest : ToLink s L′ l q
     pub on : p < q
     pub within : q ≤ 8 * length s
 
   -- a conditional: what there is to know of its arms
   pub record ArmsLeft (L : List ℕ) (e f m q : ℕ) : Type 0 where
     pub levels-left : l ≡ 0 → ⊥
-    pub first-whole : Whole (listAt s (l - 1) (p + 5))
-    pub second-whole : Whole (listAt s (l - 1) m)
-    pub first-room : p + 10 ≤ m
-    pub second-room : m + 5 ≤ q
+    pub arms : ArmsToLink s L (l - 1) p m q
     pub left : Left L (linkedArms L p m q (listAt s (l - 1) (p + 5)) (listAt s (l - 1) m)) e f q
 
   -- a make-cont: the same of its saved list
   pub record SavedLeft (L : List ℕ) (e f q : ℕ) : Type 0 where
     pub levels-left : l ≡ 0 → ⊥
-    pub saved-whole : Whole (listAt s (l - 1) (p + 13))
-    pub room : p + 18 ≤ q
+    pub saved : SavedToLink s L (l - 1) p q
     pub left : Left L (linkedSaved L p e q (listAt s (l - 1) (p + 13))) e f q
 
   -- by what stands at p
@@ -141,66 +155,146 @@ module _ (s : List ℕ) (l p : ℕ) where
   Outcome L e f (Saved q) = SavedLeft L e f (q .0)
   Outcome L e f Bad = ⊥
 
-  item-left : (i : Instr) (q : ℕ) → Turn i q → Whole (listAt s l p) → (L : List ℕ) (e f : ℕ) → Left L (linkedItem L p e i) e f q
-  unfolding Whole linkedGot before
-  item-left i q t w L e f = by (listAt s l q) refl
-    where
-      by : (x : Got Code) → listAt s l q ≡ x → Left L (linkedItem L p e i) e f q
-      by (got c z) h = record {
-        links = rw (t .step, h) (linked-put L p e f i c ∙ ap (λ (n : ℕ). linked (linkedItem L p e i) n e f c) (sym (t .past)));
-        whole = rw h tt;
-        on = omega (arith, some-bits i, t .past);
-        within = t .within;
-      }
-      by (refused n z) h = absurd (rw (t .step, h) at w)
+  module _ {L : List ℕ} (w : ToLink s L l p) (e f : ℕ) where
+    item-left : (i : Instr) (q : ℕ) → Turn i q → Left L (linkedItem L p e i) e f q
+    unfolding linkedGot before
+    item-left i q t = by (listAt s l q) refl
+      where
+        by : (x : Got Code) → listAt s l q ≡ x → Left L (linkedItem L p e i) e f q
+        by (got c z) h =
+            let is : _≡_ {A = Got Code} (got (put i c) z) (got (w .code) (w .past)) = sym (rw h at (t .step)) ∙ w .read in
+            let put-is : w .code ≡ put i c = cc in
+            let has : HasIn Pasts L q c = rw (t .past) (has-rest Pasts L p i c (rw put-is at (w .has))) in
+            record {
+              links = rw (t .step, h) (linked-put L p e f i c ∙ ap (λ (n : ℕ). linked (linkedItem L p e i) n e f c) (sym (t .past)));
+              rest =
+                  record {
+                    code = c;
+                    past = z;
+                    read = h;
+                    has = still-in Pasts L (linkedItem L p e i) q c (λ j a b. item-other L p e i j (λ a′ b′. omega (arith, t .past))) has;
+                  };
+              on = omega (arith, some-bits i, t .past);
+              within = t .within;
+            }
+        by (refused n z) h = refused-got (sym (rw h at (t .step)) ∙ w .read)
 
-  module _ (whole : Whole (listAt s l p)) where
-    arms-left : (x y : Code) (q : ℕ) → Turn (unless-i x y) q → (L : List ℕ) (e f : ℕ) → ArmsLeft L e f (p + 5 + bits x) q
-    unfolding Lists linkedItem linkedArms linkedGot Whole bitsI
-    arms-left x y q t L e f =
-        let w = t .lists in
+    -- the code that was read is the instruction and a rest
+    has-item : (i : Instr) (q : ℕ) → Turn i q → (r : Code) × HasIn Pasts L p (put i r)
+    unfolding before
+    has-item i q t = by (listAt s l q) refl
+      where
+        by : (x : Got Code) → listAt s l q ≡ x → (r : Code) × HasIn Pasts L p (put i r)
+        by (got c z) h =
+            let is : _≡_ {A = Got Code} (got (put i c) z) (got (w .code) (w .past)) = sym (rw h at (t .step)) ∙ w .read in
+            let put-is : w .code ≡ put i c = cc in
+            (c, rw put-is at (w .has))
+        by (refused n z) h = refused-got (sym (rw h at (t .step)) ∙ w .read)
+
+    arms-left : (x y : Code) (q : ℕ) → Turn (unless-i x y) q → ArmsLeft L e f (p + 5 + bits x) q
+    unfolding Lists linkedItem linkedArms linkedGot bitsI
+    arms-left x y q t =
+        let k = t .lists in
+        let h = has-item (unless-i x y) q t in
+        let g = has-arms Pasts L p x y (h .0) (h .1) in
         let z : q ≡ p + 5 + bits x + bits y = omega (arith, t .past) in
         let z₁ : p + 5 + bits x - 5 ≡ p + bits x = omega arith in
         let z₂ : q - 5 ≡ p + bits x + bits y = omega arith in
         record {
-          levels-left = w .0;
-          first-whole = rw (w .1) tt;
-          second-whole = rw (w .2) tt;
-          first-room = omega (arith, least-bits x);
-          second-room = omega (arith, least-bits y);
-          left = rw (w .1, w .2, z₁, z₂) (rw (← z) at (item-left (unless-i x y) q t whole L e f));
+          levels-left = k .0;
+          arms =
+              record {
+                first = record { code = x; past = p + 5 + bits x; read = k .1; has = g .0 .1 };
+                second = record { code = y; past = q; read = k .2; has = g .1 .1 };
+                mid = refl;
+                end = refl;
+              };
+          left = rw (k .1, k .2, z₁, z₂) (rw (← z) at (item-left (unless-i x y) q t));
         }
 
-    saved-left : (n : ℕ) (x : Code) (q : ℕ) → Turn (cont-i n x) q → (L : List ℕ) (e f : ℕ) → SavedLeft L e f q
-    unfolding Lists linkedItem linkedSaved linkedGot Whole bitsI
-    saved-left n x q t L e f =
-        let w = t .lists in
+    saved-left : (n : ℕ) (x : Code) (q : ℕ) → Turn (cont-i n x) q → SavedLeft L e f q
+    unfolding Lists linkedItem linkedSaved linkedGot bitsI
+    saved-left n x q t =
+        let k = t .lists in
+        let h = has-item (cont-i n x) q t in
         let z : q ≡ p + 13 + bits x = omega (arith, t .past) in
         let z₁ : q - 5 ≡ p + 8 + bits x = omega arith in
         record {
-          levels-left = w .0;
-          saved-whole = rw (w .1) tt;
-          room = omega (arith, least-bits x);
-          left = rw (w .1, z₁) (rw (← z) at (item-left (cont-i n x) q t whole L e f));
+          levels-left = k .0;
+          saved = record { saved = record { code = x; past = q; read = k .1; has = has-saved Pasts L p n x (h .0) (h .1) .1 }; end = refl };
+          left = rw (k .1, z₁) (rw (← z) at (item-left (cont-i n x) q t));
         }
 
-    item-outcome : (i : Instr) (q : ℕ) → Turn i q → (L : List ℕ) (e f : ℕ) → Outcome L e f (instrParts p i q)
+    item-outcome : (i : Instr) (q : ℕ) → Turn i q → Outcome L e f (instrParts p i q)
     unfolding instrParts linkedItem
-    item-outcome (neutral-i op ns) q t L e f = item-left _ q t whole L e f
-    item-outcome return-i q t L e f = item-left _ q t whole L e f
-    item-outcome (call-i n) q t L e f = item-left _ q t whole L e f
-    item-outcome (unless-i x y) q t L e f = arms-left x y q t L e f
-    item-outcome (cont-i n x) q t L e f = saved-left n x q t L e f
+    item-outcome (neutral-i op ns) q t = item-left _ q t
+    item-outcome return-i q t = item-left _ q t
+    item-outcome (call-i n) q t = item-left _ q t
+    item-outcome (unless-i x y) q t = arms-left x y q t
+    item-outcome (cont-i n x) q t = saved-left n x q t
 
     -- THE LAW
-    pub outcome : (L : List ℕ) (e f : ℕ) (x : Parts) → partsOf p (headAt s (deepOf s l) p) ≡ x → Outcome L e f x
-    unfolding partsOf after Whole linkedGot linked
-    outcome L e f x h = rw h at (by (headAt s (deepOf s l) p) refl)
+    pub outcome : (x : Parts) → partsOf p (headAt s (deepOf s l) p) ≡ x → Outcome L e f x
+    unfolding partsOf after linkedGot linked
+    outcome x h = rw h at (by (headAt s (deepOf s l) p) refl)
       where
         by : (y : Head) → headAt s (deepOf s l) p ≡ y → Outcome L e f (partsOf p y)
         by (stop q) i = rw (list-step s l p, i) refl
-        by (item k q) i = item-outcome k q (turn k q i) L e f
-        by (bad n z) i = rw (list-step s l p, i) at whole
+        by (item k q) i = item-outcome k q (turn k q i)
+        by (bad n z) i = refused-got (sym (rw i at (list-step s l p)) ∙ w .read)
+
+-- ---- the lists of an instruction are still to be linked when links before them are made
+-- a list after the place p
+to-link-after : (s L : List ℕ) (l p m q : ℕ) → ToLink s L l q → p ≤ q → ToLink s (link L p m) l q
+to-link-after s L l p m q w h =
+    record {
+      code = w .code;
+      past = w .past;
+      read = w .read;
+      has = still-in Pasts L (link L p m) q (w .code) (λ i a b. getD-set-other L (p / 5) i m 0 (λ e. omega arith)) (w .has);
+    }
+
+-- a list after the list c at p
+to-link-beside : (s L : List ℕ) (l p e f : ℕ) (c : Code) (q : ℕ) → ToLink s L l q → p + bits c ≤ q → ToLink s (linked L p e f c) l q
+to-link-beside s L l p e f c q w h =
+    record {
+      code = w .code;
+      past = w .past;
+      read = w .read;
+      has = still-in Pasts L (linked L p e f c) q (w .code) (λ i a b. linked-other L p e f c i (λ a′ b′. omega arith)) (w .has);
+    }
+
+module _ {s L : List ℕ} {l p m q : ℕ} (w : ArmsToLink s L l p m q) where
+  pub arms-room : (p + 10 ≤ m) × (m + 5 ≤ q) × (q ≤ 8 * length s)
+  arms-room =
+      let x = w .first in
+      let y = w .second in
+      let i = list-bits s l (p + 5) (x .code) (x .past) (x .read) in
+      let j = list-bits s l m (y .code) (y .past) (y .read) in
+      omega (arith, w .mid, w .end, least-bits (x .code), least-bits (y .code))
+
+  module _ {L₁ : List ℕ} {a : ℕ} (at : a ≡ p + 5) (set : L₁ ≡ link L p m) where
+    pub first-to-link : ToLink s L₁ l a
+    first-to-link = rw (at, set) (to-link-after s L l p m (p + 5) (w .first) (omega arith))
+
+    pub second-to-link : {L₂ : List ℕ} (b : ℕ) → L₂ ≡ linkedGot L₁ a b q (listAt s l a) → ToLink s L₂ l m
+    unfolding linkedGot
+    second-to-link {L₂} b e =
+        let x = w .first in
+        let i = list-bits s l (p + 5) (x .code) (x .past) (x .read) in
+        let r : L₂ ≡ linked (link L p m) (p + 5) b q (x .code) = e ∙ rw (set, at, x .read) refl in
+        rw r (to-link-beside s (link L p m) l (p + 5) b q (x .code) m (to-link-after s L l p m m (w .second) (omega (arith, arms-room)))
+        (omega (arith, w .mid)))
+
+module _ {s L : List ℕ} {l p q : ℕ} (w : SavedToLink s L l p q) where
+  pub saved-room : (p + 18 ≤ q) × (q ≤ 8 * length s)
+  saved-room =
+      let x = w .saved in
+      let i = list-bits s l (p + 13) (x .code) (x .past) (x .read) in
+      omega (arith, w .end, least-bits (x .code))
+
+  pub saved-to-link : {L₁ : List ℕ} {a : ℕ} → a ≡ p + 13 → L₁ ≡ link L p q → ToLink s L₁ l a
+  saved-to-link at set = rw (at, set) (to-link-after s L l p q (p + 13) (w .saved) (omega arith))
 
 -- ---- what the stores of an instruction's links come to, where its lists begin at a and end at b and d
 pub arms-linked : (s : List ℕ) (l : ℕ) (L L₁ L₂ L₃ : List ℕ) (p m q : ℕ) {a b d : ℕ} → a ≡ p + 5 → b ≡ m - 5 → d ≡ q - 5

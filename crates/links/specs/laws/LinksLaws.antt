@@ -6,6 +6,8 @@ use mathlib.Core.List.{List}
 use lib.ListN.{length, getD, length-set}
 use lib.Seq.{getD-set-same, getD-set-other}
 use Rattle.files.specs.Code.{Code, done, neutral, return, call, unless-false, make-cont, bits}
+use Rattle.files.specs.laws.ReadingLaws.{least-bits}
+use Rattle.lists.specs.laws.MarksLaws.{Outside}
 use Rattle.links.specs.Links.{linkAt, link, linked}
 
 -- L has the links of the list c that begins at p, whose end is at e, and after which execution goes on at f
@@ -39,18 +41,26 @@ Before p i = 5 * i + 5 ≤ p
 abbrev pub Kept : ℕ → List ℕ → List ℕ → Type 0
 Kept p L L′ = (i : ℕ) → Before p i → getD L′ i 0 ≡ getD L i 0
 
-link-kept : (L : List ℕ) (p q : ℕ) → Kept p L (link L p q)
-link-kept L p q i h = getD-set-other L (p / 5) i q 0 (λ e. omega arith)
+pub link-other : (L : List ℕ) (p q m : ℕ) → p + 5 ≤ q → (i : ℕ) → Outside p q i → getD (link L p m) i 0 ≡ getD L i 0
+link-other L p q m b i h = getD-set-other L (p / 5) i m 0 (λ e. h (omega arith) (omega arith))
+
+-- the links of places outside a list stay
+pub linked-other : (L : List ℕ) (p e f : ℕ) (c : Code) (i : ℕ) → Outside p (p + bits c) i → getD (linked L p e f c) i 0 ≡ getD L i 0
+unfolding linked bits
+linked-other L p e f done i h = link-other L p (p + 5) f (omega arith) i h
+linked-other L p e f (neutral op ns r) i h = linked-other L _ e f r i (λ a b. h (omega arith) (omega arith))
+linked-other L p e f (return r) i h = linked-other L _ e f r i (λ a b. h (omega arith) (omega arith))
+linked-other L p e f (call n r) i h = linked-other L _ e f r i (λ a b. h (omega arith) (omega arith))
+linked-other L p e f (unless-false x y r) i h =
+    let b = least-bits r in
+    linked-other _ _ e f r i (λ a b. h (omega arith) (omega arith)) ∙ linked-other _ _ _ _ y i (λ a b. h (omega arith) (omega arith))
+    ∙ linked-other _ _ _ _ x i (λ a b. h (omega arith) (omega arith)) ∙ link-other L p (p + (5 + bits x + bits y + bits r)) _ (omega arith) i h
+linked-other L p e f (make-cont n x r) i h =
+    linked-other _ _ e f r i (λ a b. h (omega arith) (omega arith)) ∙ linked-other _ _ _ _ x i (λ a b. h (omega arith) (omega arith))
+    ∙ link-other L p (p + (13 + bits x + bits r)) _ (omega arith) i h
 
 pub linked-kept : (L : List ℕ) (p e f : ℕ) (c : Code) → Kept p L (linked L p e f c)
-unfolding linked
-linked-kept L p e f done i h = link-kept L p f i h
-linked-kept L p e f (neutral op ns r) i h = linked-kept L _ e f r i (omega arith)
-linked-kept L p e f (return r) i h = linked-kept L _ e f r i (omega arith)
-linked-kept L p e f (call n r) i h = linked-kept L _ e f r i (omega arith)
-linked-kept L p e f (unless-false x y r) i h =
-    linked-kept _ _ e f r i (omega arith) ∙ linked-kept _ _ _ _ y i (omega arith) ∙ linked-kept _ _ _ _ x i (omega arith) ∙ link-kept L p _ i h
-linked-kept L p e f (make-cont n x r) i h = linked-kept _ _ e f r i (omega arith) ∙ linked-kept _ _ _ _ x i (omega arith) ∙ link-kept L p _ i h
+linked-kept L p e f c i h = linked-other L p e f c i (λ a b. omega arith)
 
 -- what later lists do not touch stays
 pub still-linked : (L L′ : List ℕ) (p e f : ℕ) (c : Code) → Kept (p + bits c) L L′ → Linked L p e f c → Linked L′ p e f c

@@ -1,63 +1,15 @@
 -- The templates of a tree file that is read: their lists stand in it one after the other, so each keeps its links. Assumes nothing.
 use Prim.Native.Nat.{ℕ, zero, suc, _+_, _*_, _≤_, _<_}
-use native.Mathlib.Nat.{add-zero, zero-add}
 use native.Mathlib.Omega.{arith}
-use mathlib.Core.Path.{_≡_, refl, sym, ap, _∙_}
+use mathlib.Core.Path.{_≡_, refl, _∙_}
 use mathlib.Core.List.{List, [], _∷_}
 use lib.ListN.{length, getD}
-use Rattle.files.specs.Code.{bits}
-use Rattle.files.specs.laws.EntriesLaws.{EntriesOk, entries-read}
-use Rattle.files.specs.Reading.{got, listAt}
-use Rattle.files.specs.laws.ReadingLaws.{list-bits}
-use Rattle.files.specs.laws.AllGot.{got-value, field-got}
-use Rattle.files.specs.Tree.{Template, templateAt, templatesAt, treeRead}
-use Rattle.tree.specs.laws.Parts.{template-parts, templates-parts, templates-count, FileParts, tree-parts}
+use Rattle.files.specs.Reading.{got}
+use Rattle.files.specs.Tree.{Template, treeRead}
+use Rattle.tree.specs.laws.Laid.{Laid, parts, laid, template-there}
 use Rattle.links.specs.Links.{linked, linkedAll}
 use Rattle.links.specs.laws.LinksLaws.{Linked, linked-length, Kept, linked-kept, still-linked, linked-holds}
 use Rattle.links.specs.laws.Stands.{ListStands, list-stands-there}
-
--- ---- one template after the other
--- template own of T, read from p on
-pub record TemplateLaid (s : List ℕ) (T own p : ℕ) (t : Template) : Type 0 where
-  pub begins : p + 8 ≤ t .start
-  pub list : listAt s 15 (t .start) ≡ got (t .code) (t .start + bits (t .code))
-  pub within : t .start + bits (t .code) ≤ 8 * length s
-  pub entries-ok : EntriesOk own T (t .entries)
-
-unfoldable Laid : List ℕ → ℕ → ℕ → ℕ → List Template → Type 0
-Laid s T own p [] = Unit
-Laid s T own p (t ∷ ts) = TemplateLaid s T own p t × Laid s T (own + 1) (t .start + bits (t .code)) ts
-
-module _ (s : List ℕ) (T : ℕ) (few : T ≤ 64) where
-  template-laid : (own p : ℕ) {t : Template} {q : ℕ} → templateAt s own T p ≡ got t q → TemplateLaid s T own p t × (q ≡ t .start + bits (t .code))
-  template-laid own p {t} {q} e =
-      let a = template-parts s own T p e in
-      let g = entries-read s own T few (a .count) (a .first) (a .entries) in
-      let f : a .first ≡ p + 8 = field-got s p 8 (a .counted) .1 in
-      let b = list-bits s 15 (t .start) (t .code) q (a .list) in
-      (record { begins = omega (arith, g .past); list = a .list ∙ ap (got (t .code)) (b .0); within = omega arith; entries-ok = g .ok }, b .0)
-
-  templates-laid : (n own p : ℕ) {ts : List Template} {q : ℕ} → templatesAt s T own n p ≡ got ts q → Laid s T own p ts
-  unfolding templatesAt Laid
-  templates-laid zero own p e = rw (← got-value e .0) tt
-  templates-laid (suc n) own p e =
-      let a = templates-parts s T own n p e in
-      let f = template-laid own p (a .first) in
-      rw (a .are) (f .0, rw (f .1) at (templates-laid n (own + 1) (a .next) (a .rest)))
-
--- what is known of template i, and where it begins
-laid-at : (s : List ℕ) (T own p : ℕ) (ts : List Template) (i : ℕ) (d : Template) → Laid s T own p ts → i < length ts
-    → (q : ℕ) × (p ≤ q) × TemplateLaid s T (own + i) q (getD ts i d)
-unfolding Laid
-laid-at s T own p [] i d h l = absurd (omega arith)
-laid-at s T own p (t ∷ ts) zero d h l = (p, omega arith, rw (add-zero own) (h .0))
-laid-at s T own p (t ∷ ts) (suc i) d h l =
-    let e : own + suc i ≡ own + 1 + i = omega arith in
-    let k = laid-at s T (own + 1) _ ts i d (h .1) (omega arith) in
-    (k .0, omega (arith, h .0 .begins), rw e (k .2))
-
-same-laid : {s : List ℕ} {T T′ own own′ p : ℕ} {t : Template} → T ≡ T′ → own ≡ own′ → TemplateLaid s T own p t → TemplateLaid s T′ own′ p t
-same-laid e f h = rw (← e, ← f) h
 
 -- ---- links
 laid-kept : (s L : List ℕ) (T own p : ℕ) (ts : List Template) → Laid s T own p ts → Kept p L (linkedAll L ts)
@@ -80,29 +32,10 @@ laid-linked s L T own p (t ∷ ts) (suc i) d long h l =
     laid-linked s L₁ T _ _ ts i d (omega arith) (h .1) (omega arith)
 
 -- ---- the file
-module _ (s : List ℕ) {ts : List Template} {q : ℕ} (read : treeRead s ≡ got ts q) where
-  parts : FileParts s ts q
-  parts = tree-parts s read
+module _ (s : List ℕ) {ts : List Template} {q : ℕ} (read : treeRead s ≡ got ts q) (i : ℕ) (d : Template) (h : i < length ts) where
+  pub template-stands : ListStands s 15 (getD ts i d .start) (getD ts i d .code)
+  template-stands = list-stands-there s 15 _ _ _ (template-there s read i d h .2 .list)
 
-  laid : Laid s (parts .count) 0 (parts .first) ts
-  laid = templates-laid s (parts .count) (parts .few) (parts .count) 0 (parts .first) (parts .read)
-
-  pub short : length s ≤ 65536
-  short = parts .short
-
-  counted : length ts ≡ parts .count
-  counted = templates-count s (parts .count) (parts .count) 0 (parts .first) (parts .read)
-
-  module _ (i : ℕ) (d : Template) (h : i < length ts) where
-    -- what is known of template i
-    pub template-there : (p : ℕ) × (8 ≤ p) × TemplateLaid s (length ts) i p (getD ts i d)
-    template-there =
-        let a = laid-at s (parts .count) 0 (parts .first) ts i d laid h in
-        (a .0, omega (arith, field-got s 0 8 (parts .counted)), same-laid (sym counted) (zero-add i) (a .2))
-
-    pub template-stands : ListStands s 15 (getD ts i d .start) (getD ts i d .code)
-    template-stands = list-stands-there s 15 _ _ _ (template-there .2 .list)
-
-    -- THE LAW: its links are there
-    pub template-links : (L : List ℕ) → 8 * length s ≤ 5 * length L → Linked (linkedAll L ts) (getD ts i d .start) 0 0 (getD ts i d .code)
-    template-links L long = laid-linked s L (parts .count) 0 (parts .first) ts i d long laid h
+  -- THE LAW: its links are there
+  pub template-links : (L : List ℕ) → 8 * length s ≤ 5 * length L → Linked (linkedAll L ts) (getD ts i d .start) 0 0 (getD ts i d .code)
+  template-links L long = laid-linked s L (parts s read .count) 0 (parts s read .first) ts i d long (laid s read) h

@@ -20,6 +20,8 @@ use Rattle.fields.proofs.read_field.Reads as read-field-reads
 use Rattle.lists.proofs.begin.Reads as begin-reads
 use Rattle.lists.proofs.conditional_added.Reads as conditional-added-reads
 use Rattle.lists.proofs.finished.Reads as finished-reads
+use Rattle.lists.proofs.mark_of.Reads as mark-of-reads
+use Rattle.lists.proofs.set_mark.Reads as set-mark-reads
 use Rattle.lists.proofs.read_simple.Reads as read-simple-reads
 use Rattle.lists.proofs.save_added.Reads as save-added-reads
 use Rattle.lists.proofs.shape_of.Reads as shape-of-reads
@@ -35,66 +37,70 @@ use Rattle.files.specs.Reading.{shaped, headAt, deepOf, listAt}
 use Rattle.files.specs.laws.Heads.{code-cut, code-read, no-code, first-arm-refused, second-arm-refused, conditional-read, count-cut, saved-refused, make-cont-read}
 use Rattle.lists.specs.Facts.{listed}
 use Rattle.lists.specs.Pass.{addedBy, begun, listedFrom, itemed, deepAt}
+use Rattle.fields.specs.laws.Laws.{value-of}
+use Rattle.lists.specs.declared.Listed.the-variants.{Done}
+use Rattle.lists.specs.Marks.{listMarked, headMarked}
+use Rattle.lists.specs.laws.MarkSteps.{simple-marked, code-marked, arms-marked, saved-marked, Marking, marking-begun, marking-more, marking-end, list-marked, listed-near}
 use Rattle.lists.specs.laws.PassLaws.{listed-begun}
 use Rattle.lists.specs.laws.ReadLaws.{read-below, simple-anywhere, deep-anywhere, deep-last, listed-done, listed-refused, listed-size, turn-end, turn-more, turn-bad, turn-bits, tail-size}
 
-abbrev μ-read-conditional : Measures 2 read-conditional-kinds.ps ℕ
+abbrev μ-read-conditional : Measures 3 read-conditional-kinds.ps ℕ
 μ-read-conditional κs a = 3 * a .1 .1 .1 .1 .0 + 3
 
-abbrev μ-read-instr : Measures 2 read-instr-kinds.ps ℕ
+abbrev μ-read-instr : Measures 3 read-instr-kinds.ps ℕ
 μ-read-instr κs a = 3 * a .1 .1 .1 .1 .0 + 1
 
-abbrev μ-read-list : Measures 2 read-list-kinds.ps ℕ
+abbrev μ-read-list : Measures 3 read-list-kinds.ps ℕ
 μ-read-list κs a = 3 * a .1 .1 .1 .1 .0 + 2
 
-abbrev μ-read-make-cont : Measures 2 read-make-cont-kinds.ps ℕ
+abbrev μ-read-make-cont : Measures 3 read-make-cont-kinds.ps ℕ
 μ-read-make-cont κs a = 3 * a .1 .1 .1 .1 .0 + 3
 
-abbrev read-conditional-at : ℕ → In 2 read-conditional-kinds.ps
+abbrev read-conditional-at : ℕ → In 3 read-conditional-kinds.ps
 read-conditional-at t =
     and
-    2
+    3
     read-conditional-kinds.ps
-    (is 2 read-conditional-kinds.ps μ-read-conditional t)
+    (is 3 read-conditional-kinds.ps μ-read-conditional t)
     read-conditional.Pre
 
-abbrev read-conditional-below : ℕ → In 2 read-conditional-kinds.ps
+abbrev read-conditional-below : ℕ → In 3 read-conditional-kinds.ps
 read-conditional-below t =
     and
-    2
+    3
     read-conditional-kinds.ps
-    (falls 2 read-conditional-kinds.ps _<_ μ-read-conditional t)
+    (falls 3 read-conditional-kinds.ps _<_ μ-read-conditional t)
     read-conditional.Pre
 
-abbrev read-instr-at : ℕ → In 2 read-instr-kinds.ps
+abbrev read-instr-at : ℕ → In 3 read-instr-kinds.ps
 read-instr-at t =
-    and 2 read-instr-kinds.ps (is 2 read-instr-kinds.ps μ-read-instr t) read-instr.Pre
+    and 3 read-instr-kinds.ps (is 3 read-instr-kinds.ps μ-read-instr t) read-instr.Pre
 
-abbrev read-instr-below : ℕ → In 2 read-instr-kinds.ps
+abbrev read-instr-below : ℕ → In 3 read-instr-kinds.ps
 read-instr-below t =
-    and 2 read-instr-kinds.ps (falls 2 read-instr-kinds.ps _<_ μ-read-instr t) read-instr.Pre
+    and 3 read-instr-kinds.ps (falls 3 read-instr-kinds.ps _<_ μ-read-instr t) read-instr.Pre
 
-abbrev read-list-at : ℕ → In 2 read-list-kinds.ps
-read-list-at t = and 2 read-list-kinds.ps (is 2 read-list-kinds.ps μ-read-list t) read-list.Pre
+abbrev read-list-at : ℕ → In 3 read-list-kinds.ps
+read-list-at t = and 3 read-list-kinds.ps (is 3 read-list-kinds.ps μ-read-list t) read-list.Pre
 
-abbrev read-list-below : ℕ → In 2 read-list-kinds.ps
+abbrev read-list-below : ℕ → In 3 read-list-kinds.ps
 read-list-below t =
-    and 2 read-list-kinds.ps (falls 2 read-list-kinds.ps _<_ μ-read-list t) read-list.Pre
+    and 3 read-list-kinds.ps (falls 3 read-list-kinds.ps _<_ μ-read-list t) read-list.Pre
 
-abbrev read-make-cont-at : ℕ → In 2 read-make-cont-kinds.ps
+abbrev read-make-cont-at : ℕ → In 3 read-make-cont-kinds.ps
 read-make-cont-at t =
     and
-    2
+    3
     read-make-cont-kinds.ps
-    (is 2 read-make-cont-kinds.ps μ-read-make-cont t)
+    (is 3 read-make-cont-kinds.ps μ-read-make-cont t)
     read-make-cont.Pre
 
-abbrev read-make-cont-below : ℕ → In 2 read-make-cont-kinds.ps
+abbrev read-make-cont-below : ℕ → In 3 read-make-cont-kinds.ps
 read-make-cont-below t =
     and
-    2
+    3
     read-make-cont-kinds.ps
-    (falls 2 read-make-cont-kinds.ps _<_ μ-read-make-cont t)
+    (falls 3 read-make-cont-kinds.ps _<_ μ-read-make-cont t)
     read-make-cont.Pre
 
 abbrev read-conditional-calls : ℕ → read-conditional-lts.Claims
@@ -104,7 +110,7 @@ abbrev read-instr-calls : ℕ → read-instr-lts.Claims
 read-instr-calls t = (read-field-reads.Asked, read-field-reads.Learnt, shape-of-reads.Asked, shape-of-reads.Learnt, read-simple-reads.Asked, read-simple-reads.Learnt, read-conditional-below t, read-conditional.Post, read-make-cont-below t, read-make-cont.Post)
 
 abbrev read-list-calls : ℕ → read-list-lts.Claims
-read-list-calls t = (begin-reads.Asked, begin-reads.Learnt, read-instr-below t, read-instr.Post, finished-reads.Asked, finished-reads.Learnt, state-after-reads.Asked, state-after-reads.Learnt)
+read-list-calls t = (begin-reads.Asked, begin-reads.Learnt, read-instr-below t, read-instr.Post, finished-reads.Asked, finished-reads.Learnt, mark-of-reads.Asked, mark-of-reads.Learnt, set-mark-reads.Asked, set-mark-reads.Learnt, state-after-reads.Asked, state-after-reads.Learnt)
 
 abbrev read-make-cont-calls : ℕ → read-make-cont-lts.Claims
 read-make-cont-calls t = (read-field-reads.Asked, read-field-reads.Learnt, read-list-below t, read-list.Post, save-added-reads.Asked, save-added-reads.Learnt)
@@ -122,7 +128,7 @@ read-conditional-enum-known-last : (t : ℕ) → read-conditional-lts.Need-enum-
 read-conditional-enum-known-last t c = search needs
 
 read-conditional-conditional-added-requires : (t : ℕ) → read-conditional-lts.Need-conditional-added-requires (read-conditional-calls t) (read-conditional-at t) read-conditional.Post
-read-conditional-conditional-added-requires t c κs = (listed-size _ _ _ _ _ _ _ (c .before .before .before .before .before .before .before .before .before .before .pre .1 .0) (sym (c .before .before .before .before .before .before .before .read-list .ensures) ∙ c .before .before .before .before .before .mid .given .1), listed-size _ _ _ _ _ _ _ (c .before .before .before .before .before .before .before .before .before .before .pre .1 .0) (sym (c .before .before .before .read-list2 .ensures) ∙ c .before .last .given .1))
+read-conditional-conditional-added-requires t c κs = (listed-size _ _ _ _ _ _ _ (c .before .before .before .before .before .before .before .before .before .before .before .before .before .before .before .before .before .pre .1 .0) (sym (c .before .before .before .before .before .before .before .before .before .before .before .before .read-list .ensures .0) ∙ c .before .before .before .before .before .before .before .before .mid .given .1), listed-size _ _ _ _ _ _ _ (c .before .before .before .before .before .before .before .before .before .before .before .before .before .before .before .before .before .pre .1 .0) (sym (c .before .before .before .before .before .read-list2 .ensures .0) ∙ c .before .last .given .1))
 
 read-conditional-enum-known-no : (t : ℕ) → read-conditional-lts.Need-enum-known-no (read-conditional-calls t) (read-conditional-at t) read-conditional.Post
 read-conditional-enum-known-no t c = search needs
@@ -130,21 +136,30 @@ read-conditional-enum-known-no t c = search needs
 read-conditional-enum-known-no-2 : (t : ℕ) → read-conditional-lts.Need-enum-known-no-2 (read-conditional-calls t) (read-conditional-at t) read-conditional.Post
 read-conditional-enum-known-no-2 t c = search needs
 
+read-conditional-same-length : (t : ℕ) → read-conditional-lts.Need-same-length (read-conditional-calls t) (read-conditional-at t) read-conditional.Post
+read-conditional-same-length t c = c .before .before .before .before .before .before .read-list2 .kept .1 .1 .1 .1 .1 .1 .0 ∙ c .before .before .before .before .before .before .before .before .before .before .before .before .before .read-list .kept .1 .1 .1 .1 .1 .1 .0
+
 read-conditional-returns : (t : ℕ) → read-conditional-lts.Need-returns (read-conditional-calls t) (read-conditional-at t) read-conditional.Post
 unfolding itemed addedBy
-read-conditional-returns t c = let x = listed-done _ _ _ _ _ (sym (c .before .before .before .before .before .before .before .before .read-list .ensures) ∙ c .before .before .before .before .before .before .mid .given .1) in let y = listed-done _ _ _ _ _ (sym (c .before .before .before .before .read-list2 .ensures) ∙ c .before .before .last .given .1) in rw (conditional-read _ _ _ _ _ _ _ _ _ (x .1) (y .1), c .conditional-added .ensures, x .2, y .2) refl
+read-conditional-returns t c = let x = listed-done _ _ _ _ _ (sym (c .before .before .before .before .before .before .before .before .before .before .before .before .before .read-list .ensures .0) ∙ c .before .before .before .before .before .before .before .before .before .mid .given .1) in let y = listed-done _ _ _ _ _ (sym (c .before .before .before .before .before .before .read-list2 .ensures .0) ∙ c .before .before .last .given .1) in (rw (conditional-read _ _ _ _ _ _ _ _ _ (x .1) (y .1), c .conditional-added .ensures, x .2, y .2) refl, arms-marked _ _ _ _ _ _ _ _ _ _ _ (x .1) (y .1) (c .before .before .before .before .before .before .before .before .before .before .before .before .before .read-list .ensures .1) (c .before .before .before .before .before .before .read-list2 .ensures .1))
+
+read-conditional-same-length-2 : (t : ℕ) → read-conditional-lts.Need-same-length-2 (read-conditional-calls t) (read-conditional-at t) read-conditional.Post
+read-conditional-same-length-2 t c = c .before .before .before .before .before .read-list2 .kept .1 .1 .1 .1 .1 .1 .0 ∙ c .before .before .before .before .before .before .before .before .before .before .before .before .read-list .kept .1 .1 .1 .1 .1 .1 .0
 
 read-conditional-returns-2 : (t : ℕ) → read-conditional-lts.Need-returns-2 (read-conditional-calls t) (read-conditional-at t) read-conditional.Post
-unfolding itemed
-read-conditional-returns-2 t c = let x = listed-done _ _ _ _ _ (sym (c .before .before .before .before .before .before .before .read-list .ensures) ∙ c .before .before .before .before .before .mid .given .1) in rw (second-arm-refused _ _ _ _ _ _ _ _ _ (x .1) (listed-refused _ _ _ _ _ (sym (c .before .before .before .read-list2 .ensures) ∙ c .before .no .given .1))) refl
+unfolding itemed headMarked
+read-conditional-returns-2 t c = let x = listed-done _ _ _ _ _ (sym (c .before .before .before .before .before .before .before .before .before .before .before .before .read-list .ensures .0) ∙ c .before .before .before .before .before .before .before .before .mid .given .1) in rw (second-arm-refused _ _ _ _ _ _ _ _ _ (x .1) (listed-refused _ _ _ _ _ (sym (c .before .before .before .before .before .read-list2 .ensures .0) ∙ c .before .no .given .1))) (refl, tt)
+
+read-conditional-same-length-3 : (t : ℕ) → read-conditional-lts.Need-same-length-3 (read-conditional-calls t) (read-conditional-at t) read-conditional.Post
+read-conditional-same-length-3 t c = c .before .before .before .before .before .read-list .kept .1 .1 .1 .1 .1 .1 .0
 
 read-conditional-returns-3 : (t : ℕ) → read-conditional-lts.Need-returns-3 (read-conditional-calls t) (read-conditional-at t) read-conditional.Post
-unfolding itemed
-read-conditional-returns-3 t c = rw (first-arm-refused _ _ _ _ _ _ _ (listed-refused _ _ _ _ _ (sym (c .before .before .before .read-list .ensures) ∙ c .before .no2 .given .1))) refl
+unfolding itemed headMarked
+read-conditional-returns-3 t c = rw (first-arm-refused _ _ _ _ _ _ _ (listed-refused _ _ _ _ _ (sym (c .before .before .before .before .before .read-list .ensures .0) ∙ c .before .no2 .given .1))) (refl, tt)
 
 -- the instruction is read by its code's shape
 at-code : (t : ℕ) (k : read-instr-lts.After-shape-of (read-instr-calls t) (read-instr-at t) read-instr.Post)
-    → headAt (k .before .before .before .before .before .before .before .args .s .now) (deepOf (k .before .before .before .before .before .before .before .args .s .now) (k .before .before .before .before .before .before .before .args .levels)) (k .before .before .before .before .before .before .before .args .at .0) ≡ shaped (k .before .before .before .before .before .before .before .args .s .now) (deepOf (k .before .before .before .before .before .before .before .args .s .now) (k .before .before .before .before .before .before .before .args .levels)) (k .before .before .before .before .before .before .before .args .at .0) (k .before .before .code .given .0 .0) (k .before .before .code .given .0 .1 .0 .0) (k .shape-of .result)
+    → headAt (k .before .before .before .before .before .before .before .before .args .s .now) (deepOf (k .before .before .before .before .before .before .before .before .args .s .now) (k .before .before .before .before .before .before .before .before .args .levels)) (k .before .before .before .before .before .before .before .before .args .at .0) ≡ shaped (k .before .before .before .before .before .before .before .before .args .s .now) (deepOf (k .before .before .before .before .before .before .before .before .args .s .now) (k .before .before .before .before .before .before .before .before .args .levels)) (k .before .before .before .before .before .before .before .before .args .at .0) (k .before .before .code .given .0 .0) (k .before .before .code .given .0 .1 .0 .0) (k .shape-of .result)
 at-code t k = code-read _ _ _ _ _ _ (sym (k .before .before .before .before .read-field .ensures) ∙ k .before .before .code .given .1) (sym (k .shape-of .ensures))
 
 read-instr-read-field-requires : (t : ℕ) → read-instr-lts.Need-read-field-requires (read-instr-calls t) (read-instr-at t) read-instr.Post
@@ -157,18 +172,18 @@ read-instr-enum-told : (t : ℕ) → read-instr-lts.Need-enum-told (read-instr-c
 read-instr-enum-told t c = search needs
 
 read-instr-returns : (t : ℕ) → read-instr-lts.Need-returns (read-instr-calls t) (read-instr-at t) read-instr.Post
-unfolding itemed
-read-instr-returns t c = rw (code-cut _ _ _ (sym (c .before .before .read-field .ensures) ∙ c .enum-told .given .1)) refl
+unfolding itemed headMarked
+read-instr-returns t c = rw (code-cut _ _ _ (sym (c .before .before .read-field .ensures) ∙ c .enum-told .given .1)) (refl, tt)
 
 read-instr-shape-of-requires : (t : ℕ) → read-instr-lts.Need-shape-of-requires (read-instr-calls t) (read-instr-at t) read-instr.Post
 read-instr-shape-of-requires t c κs = read-below _ _ 5 _ _ (sym (c .before .before .before .read-field .ensures) ∙ c .before .code .given .1)
 
 read-instr-read-simple-requires : (t : ℕ) → read-instr-lts.Need-read-simple-requires (read-instr-calls t) (read-instr-at t) read-instr.Post
-read-instr-read-simple-requires t c κs = (c .before .before .before .before .before .before .before .before .before .pre .1 .0, c .before .before .before .before .before .before .before .before .before .pre .1 .1, c .before .before .before .before .before .before .before .before .before .pre .1 .2, sym (c .before .before .shape-of .ensures), omega arith, omega arith)
+read-instr-read-simple-requires t c κs = (c .before .before .before .before .before .before .before .before .before .before .pre .1 .0, c .before .before .before .before .before .before .before .before .before .before .pre .1 .1, c .before .before .before .before .before .before .before .before .before .before .pre .1 .2, sym (c .before .before .shape-of .ensures), omega arith, omega arith)
 
 read-instr-returns-2 : (t : ℕ) → read-instr-lts.Need-returns-2 (read-instr-calls t) (read-instr-at t) read-instr.Post
-unfolding itemed
-read-instr-returns-2 t c = rw (at-code t (c .before .before .before .before) ∙ deep-last _ _ _ _ _ _ (omega arith) (omega arith) (omega arith)) refl
+unfolding itemed headMarked
+read-instr-returns-2 t c = rw (at-code t (c .before .before .before .before) ∙ deep-last _ _ _ _ _ _ (omega arith) (omega arith) (omega arith)) (refl, tt)
 
 read-instr-sub-read-conditional : (t : ℕ) → read-instr-lts.Need-sub-read-conditional (read-instr-calls t) (read-instr-at t) read-instr.Post
 read-instr-sub-read-conditional t c = search needs
@@ -183,34 +198,40 @@ read-instr-read-make-cont-requires : (t : ℕ) → read-instr-lts.Need-read-make
 read-instr-read-make-cont-requires t c κs = search needs
 
 read-instr-returns-3 : (t : ℕ) → read-instr-lts.Need-returns-3 (read-instr-calls t) (read-instr-at t) read-instr.Post
-unfolding itemed shaped
-read-instr-returns-3 t c = rw (at-code t (c .before), c .match2 .keys1) refl
+unfolding itemed shaped headMarked
+read-instr-returns-3 t c = rw (at-code t (c .before), c .match2 .keys1) (refl, refl)
 
 read-instr-returns-4 : (t : ℕ) → read-instr-lts.Need-returns-4 (read-instr-calls t) (read-instr-at t) read-instr.Post
-read-instr-returns-4 t c = c .read-simple .ensures ∙ ap (itemed _ _) (sym (at-code t (c .before .before .before) ∙ simple-anywhere _ _ _ _ _ _ (omega arith) (omega arith)))
+read-instr-returns-4 t c = let e = at-code t (c .before .before .before) ∙ simple-anywhere _ _ _ _ _ _ (omega arith) (omega arith) in (c .read-simple .ensures ∙ ap (itemed _ _) (sym e), rw e (simple-marked _ _ _ _ _ _ _ (omega arith) (omega arith)))
+
+read-instr-same-length : (t : ℕ) → read-instr-lts.Need-same-length (read-instr-calls t) (read-instr-at t) read-instr.Post
+read-instr-same-length t c = c .before .before .read-conditional .kept .1 .1 .1 .1 .1 .1 .0
 
 read-instr-returns-5 : (t : ℕ) → read-instr-lts.Need-returns-5 (read-instr-calls t) (read-instr-at t) read-instr.Post
-read-instr-returns-5 t c = c .read-conditional .ensures ∙ ap (itemed _ _) (sym (at-code t (c .before .before .before .before .before .before) ∙ deep-anywhere _ _ _ _ _ _ (omega arith) (omega arith) (omega arith) ∙ ap (deepAt _ _ _) (c .before .if4 .taken)))
+read-instr-returns-5 t c = let e = at-code t (c .before .before .before .before .before .before .before .before .before) ∙ deep-anywhere _ _ _ _ _ _ (omega arith) (omega arith) (omega arith) ∙ ap (deepAt _ _ _) (c .before .before .before .before .if4 .taken) in (c .before .before .read-conditional .ensures .0 ∙ ap (itemed _ _) (sym e), code-marked _ _ _ _ _ _ _ (sym (c .before .before .before .before .before .before .before .before .before .before .before .before .before .read-field .ensures) ∙ c .before .before .before .before .before .before .before .before .before .before .before .code .given .1) e (c .before .before .read-conditional .ensures .1))
+
+read-instr-same-length-2 : (t : ℕ) → read-instr-lts.Need-same-length-2 (read-instr-calls t) (read-instr-at t) read-instr.Post
+read-instr-same-length-2 t c = c .before .before .read-make-cont .kept .1 .1 .1 .1 .1 .1 .0
 
 read-instr-returns-6 : (t : ℕ) → read-instr-lts.Need-returns-6 (read-instr-calls t) (read-instr-at t) read-instr.Post
-read-instr-returns-6 t c = c .read-make-cont .ensures ∙ ap (itemed _ _) (sym (at-code t (c .before .before .before .before .before .before) ∙ deep-anywhere _ _ _ _ _ _ (omega arith) (omega arith) (omega arith) ∙ ap (deepAt _ _ _) (omega arith)))
+read-instr-returns-6 t c = let e = at-code t (c .before .before .before .before .before .before .before .before .before) ∙ deep-anywhere _ _ _ _ _ _ (omega arith) (omega arith) (omega arith) ∙ ap (deepAt _ _ _) {y = 5} (omega arith) in (c .before .before .read-make-cont .ensures .0 ∙ ap (itemed _ _) (sym e), code-marked _ _ _ _ _ _ _ (sym (c .before .before .before .before .before .before .before .before .before .before .before .before .before .read-field .ensures) ∙ c .before .before .before .before .before .before .before .before .before .before .before .code .given .1) e (c .before .before .read-make-cont .ensures .1))
 
 read-instr-returns-7 : (t : ℕ) → read-instr-lts.Need-returns-7 (read-instr-calls t) (read-instr-at t) read-instr.Post
-unfolding itemed
-read-instr-returns-7 t c = rw (at-code t (c .before .before .before) ∙ no-code _ _ _ _ _ _ (omega arith)) refl
+unfolding itemed headMarked
+read-instr-returns-7 t c = rw (at-code t (c .before .before .before) ∙ no-code _ _ _ _ _ _ (omega arith)) (refl, tt)
 
 abbrev read-list-Inv-loop : read-list-lts.InvT-loop
-read-list-Inv-loop s table own levels here₀ st₀ here st = (listed table own (listAt s levels (here₀ .0)) ≡ listedFrom table own st (listAt s levels (here .0))) × (5 * st .size ≤ 2 * here .0) × (st .tail ≤ st .size)
+read-list-Inv-loop s table own at levels keep marks₀ here₀ st₀ marks here st = (listed table own (listAt s levels (at .0)) ≡ listedFrom table own st (listAt s levels (here .0))) × (5 * st .size ≤ 2 * here .0) × (st .tail ≤ st .size) × Marking keep s levels marks₀ (at .0) marks (here .0) × (length marks ≡ length marks₀)
 
 abbrev read-list-μ-loop : read-list-lts.MeasureT-loop
-read-list-μ-loop s table own levels here₀ st₀ here st = 8 * length s - here .0
+read-list-μ-loop s table own at levels keep marks₀ here₀ st₀ marks here st = 8 * length s - here .0
 
 read-list-begin-requires : (t : ℕ) → read-list-lts.Need-begin-requires (read-list-calls t) (read-list-at t) read-list.Post read-list-Inv-loop read-list-μ-loop
 read-list-begin-requires t c κs = search needs
 
 read-list-loop-holds : (t : ℕ) → read-list-lts.Need-loop-holds (read-list-calls t) (read-list-at t) read-list.Post read-list-Inv-loop read-list-μ-loop
 unfolding begun
-read-list-loop-holds t c = rw (c .begin .ensures) (listed-begun _ _ _, omega arith, omega arith)
+read-list-loop-holds t c = rw (c .begin .ensures) (listed-begun _ _ _, omega arith, omega arith, marking-begun _ _ _ _ _, refl)
 
 read-list-read-instr-requires : (t : ℕ) → read-list-lts.Need-read-instr-requires (read-list-calls t) (read-list-at t) read-list.Post read-list-Inv-loop read-list-μ-loop
 read-list-read-instr-requires t c κs = search needs
@@ -221,26 +242,39 @@ read-list-enum-known-next t c = search needs
 read-list-finished-requires : (t : ℕ) → read-list-lts.Need-finished-requires (read-list-calls t) (read-list-at t) read-list.Post read-list-Inv-loop read-list-μ-loop
 read-list-finished-requires t c κs = search needs
 
+read-list-mark-of-requires : (t : ℕ) → read-list-lts.Need-mark-of-requires (read-list-calls t) (read-list-at t) read-list.Post read-list-Inv-loop read-list-μ-loop
+read-list-mark-of-requires t c κs = let e = c .before .before .before .before .before .before .before .before .before .loop .inv .0 ∙ turn-end _ _ _ _ _ _ _ (sym (c .before .before .before .before .before .before .before .read-instr .ensures .0) ∙ c .before .before .before .next .given .1) ∙ ap (Done (c .before .before .before .next .given .0 .0)) (sym (c .before .finished .ensures)) in listed-near _ _ _ _ _ _ _ (c .before .before .before .before .before .before .before .before .before .before .before .before .before .before .pre .1 .0) e
+
+read-list-set-mark-requires : (t : ℕ) → read-list-lts.Need-set-mark-requires (read-list-calls t) (read-list-at t) read-list.Post read-list-Inv-loop read-list-μ-loop
+read-list-set-mark-requires t c κs = search needs
+
+read-list-same-length : (t : ℕ) → read-list-lts.Need-same-length (read-list-calls t) (read-list-at t) read-list.Post read-list-Inv-loop read-list-μ-loop
+read-list-same-length t c = c .before .before .set-mark .kept .0 ∙ c .before .before .before .before .before .before .before .before .before .before .before .read-instr .kept .1 .1 .1 .1 .1 .1 .0 ∙ c .before .before .before .before .before .before .before .before .before .before .before .before .before .loop .inv .4
+
 read-list-returns : (t : ℕ) → read-list-lts.Need-returns (read-list-calls t) (read-list-at t) read-list.Post read-list-Inv-loop read-list-μ-loop
-read-list-returns t c = rw (c .finished .ensures) (sym (c .before .before .before .before .before .loop .inv .0 ∙ turn-end _ _ _ _ _ _ _ (sym (c .before .before .before .before .read-instr .ensures) ∙ c .before .before .next .given .1)))
+read-list-returns t c = let e = c .before .before .before .before .before .before .before .before .before .before .before .before .before .loop .inv .0 ∙ turn-end _ _ _ _ _ _ _ (sym (c .before .before .before .before .before .before .before .before .before .before .before .read-instr .ensures .0) ∙ c .before .before .before .before .before .before .before .next .given .1) ∙ ap (Done (c .before .before .before .before .before .before .before .next .given .0 .0)) (sym (c .before .before .before .before .before .finished .ensures)) in (sym e, list-marked _ _ _ _ _ _ _ _ _ _ _ _ (marking-end _ _ _ _ _ _ _ (c .before .before .before .before .before .before .before .before .before .before .before .before .before .loop .inv .3) _ _ (sym (c .before .before .before .before .before .before .before .before .before .before .before .read-instr .ensures .0) ∙ c .before .before .before .before .before .before .before .next .given .1) (c .before .before .before .before .before .before .before .before .before .before .before .read-instr .ensures .1)) e (c .before .before .before .mark-of .ensures) (c .before .before .set-mark .ensures))
 
 read-list-enum-known-next-2 : (t : ℕ) → read-list-lts.Need-enum-known-next-2 (read-list-calls t) (read-list-at t) read-list.Post read-list-Inv-loop read-list-μ-loop
 read-list-enum-known-next-2 t c = search needs
 
 read-list-state-after-requires : (t : ℕ) → read-list-lts.Need-state-after-requires (read-list-calls t) (read-list-at t) read-list.Post read-list-Inv-loop read-list-μ-loop
-read-list-state-after-requires t c κs = let w = turn-bits _ _ _ _ _ _ _ (sym (c .before .before .before .read-instr .ensures) ∙ c .before .next2 .given .1) in (omega arith, c .before .before .before .before .loop .inv .2)
+read-list-state-after-requires t c κs = let w = turn-bits _ _ _ _ _ _ _ (sym (c .before .before .before .before .before .read-instr .ensures .0) ∙ c .before .next2 .given .1) in (omega arith, c .before .before .before .before .before .before .before .loop .inv .2)
 
 read-list-loop-less : (t : ℕ) → read-list-lts.Need-loop-less (read-list-calls t) (read-list-at t) read-list.Post read-list-Inv-loop read-list-μ-loop
-read-list-loop-less t c = let w = turn-bits _ _ _ _ _ _ _ (sym (c .before .before .before .before .read-instr .ensures) ∙ c .before .before .next2 .given .1) in omega arith
+read-list-loop-less t c = let w = turn-bits _ _ _ _ _ _ _ (sym (c .before .before .before .before .before .before .read-instr .ensures .0) ∙ c .before .before .next2 .given .1) in omega arith
 
 read-list-loop-again : (t : ℕ) → read-list-lts.Need-loop-again (read-list-calls t) (read-list-at t) read-list.Post read-list-Inv-loop read-list-μ-loop
-read-list-loop-again t c = let w = turn-bits _ _ _ _ _ _ _ (sym (c .before .before .before .before .read-instr .ensures) ∙ c .before .before .next2 .given .1) in let z = tail-size (c .before .before .before .before .before .loop .st) (c .before .before .next2 .given .0 .1 .0) (c .before .before .before .before .before .loop .inv .2) in rw (c .state-after .ensures) (c .before .before .before .before .before .loop .inv .0 ∙ turn-more _ _ _ _ _ _ _ _ (sym (c .before .before .before .before .read-instr .ensures) ∙ c .before .before .next2 .given .1), omega arith, z .0)
+read-list-loop-again t c = let w = turn-bits _ _ _ _ _ _ _ (sym (c .before .before .before .before .before .before .read-instr .ensures .0) ∙ c .before .before .next2 .given .1) in let z = tail-size (c .before .before .before .before .before .before .before .before .loop .st) (c .before .before .next2 .given .0 .1 .0) (c .before .before .before .before .before .before .before .before .loop .inv .2) in rw (c .state-after .ensures) (c .before .before .before .before .before .before .before .before .loop .inv .0 ∙ turn-more _ _ _ _ _ _ _ _ (sym (c .before .before .before .before .before .before .read-instr .ensures .0) ∙ c .before .before .next2 .given .1), omega arith, z .0, marking-more _ _ _ _ _ _ _ (c .before .before .before .before .before .before .before .before .loop .inv .3) _ _ _ (sym (c .before .before .before .before .before .before .read-instr .ensures .0) ∙ c .before .before .next2 .given .1) (c .before .before .before .before .before .before .read-instr .ensures .1), c .before .before .before .before .before .before .read-instr .kept .1 .1 .1 .1 .1 .1 .0 ∙ c .before .before .before .before .before .before .before .before .loop .inv .4)
 
 read-list-enum-known-no : (t : ℕ) → read-list-lts.Need-enum-known-no (read-list-calls t) (read-list-at t) read-list.Post read-list-Inv-loop read-list-μ-loop
 read-list-enum-known-no t c = search needs
 
+read-list-same-length-2 : (t : ℕ) → read-list-lts.Need-same-length-2 (read-list-calls t) (read-list-at t) read-list.Post read-list-Inv-loop read-list-μ-loop
+read-list-same-length-2 t c = c .before .before .before .before .before .read-instr .kept .1 .1 .1 .1 .1 .1 .0 ∙ c .before .before .before .before .before .before .before .loop .inv .4
+
 read-list-returns-2 : (t : ℕ) → read-list-lts.Need-returns-2 (read-list-calls t) (read-list-at t) read-list.Post read-list-Inv-loop read-list-μ-loop
-read-list-returns-2 t c = sym (c .before .before .before .before .loop .inv .0 ∙ turn-bad _ _ _ _ _ _ _ _ (sym (c .before .before .before .read-instr .ensures) ∙ c .before .no .given .1))
+unfolding listMarked
+read-list-returns-2 t c = let e = c .before .before .before .before .before .before .before .loop .inv .0 ∙ turn-bad _ _ _ _ _ _ _ _ (sym (c .before .before .before .before .before .read-instr .ensures .0) ∙ c .before .no .given .1) in (sym e, rw (listed-refused _ _ _ _ _ e) tt)
 
 read-make-cont-read-field-requires : (t : ℕ) → read-make-cont-lts.Need-read-field-requires (read-make-cont-calls t) (read-make-cont-at t) read-make-cont.Post
 read-make-cont-read-field-requires t c κs = search needs
@@ -252,8 +286,8 @@ read-make-cont-enum-told : (t : ℕ) → read-make-cont-lts.Need-enum-told (read
 read-make-cont-enum-told t c = search needs
 
 read-make-cont-returns : (t : ℕ) → read-make-cont-lts.Need-returns (read-make-cont-calls t) (read-make-cont-at t) read-make-cont.Post
-unfolding itemed
-read-make-cont-returns t c = rw (count-cut _ _ _ _ _ (sym (c .before .before .read-field .ensures) ∙ c .enum-told .given .1)) refl
+unfolding itemed headMarked
+read-make-cont-returns t c = rw (count-cut _ _ _ _ _ (sym (c .before .before .read-field .ensures) ∙ c .enum-told .given .1)) (refl, tt)
 
 read-make-cont-read-list-requires : (t : ℕ) → read-make-cont-lts.Need-read-list-requires (read-make-cont-calls t) (read-make-cont-at t) read-make-cont.Post
 read-make-cont-read-list-requires t c κs = search needs
@@ -262,18 +296,24 @@ read-make-cont-enum-known-last : (t : ℕ) → read-make-cont-lts.Need-enum-know
 read-make-cont-enum-known-last t c = search needs
 
 read-make-cont-save-added-requires : (t : ℕ) → read-make-cont-lts.Need-save-added-requires (read-make-cont-calls t) (read-make-cont-at t) read-make-cont.Post
-read-make-cont-save-added-requires t c κs = listed-size _ _ _ _ _ _ _ (c .before .before .before .before .before .before .before .before .before .before .pre .1 .0) (sym (c .before .before .before .read-list .ensures) ∙ c .before .last .given .1)
+read-make-cont-save-added-requires t c κs = listed-size _ _ _ _ _ _ _ (c .before .before .before .before .before .before .before .before .before .before .before .before .before .before .pre .1 .0) (sym (c .before .before .before .before .before .read-list .ensures .0) ∙ c .before .last .given .1)
 
 read-make-cont-enum-known-no : (t : ℕ) → read-make-cont-lts.Need-enum-known-no (read-make-cont-calls t) (read-make-cont-at t) read-make-cont.Post
 read-make-cont-enum-known-no t c = search needs
 
+read-make-cont-same-length : (t : ℕ) → read-make-cont-lts.Need-same-length (read-make-cont-calls t) (read-make-cont-at t) read-make-cont.Post
+read-make-cont-same-length t c = c .before .before .before .before .before .before .read-list .kept .1 .1 .1 .1 .1 .1 .0
+
 read-make-cont-returns-2 : (t : ℕ) → read-make-cont-lts.Need-returns-2 (read-make-cont-calls t) (read-make-cont-at t) read-make-cont.Post
 unfolding itemed addedBy
-read-make-cont-returns-2 t c = let x = listed-done _ _ _ _ _ (sym (c .before .before .before .before .read-list .ensures) ∙ c .before .before .last .given .1) in rw (make-cont-read _ _ _ _ _ _ _ _ _ (sym (c .before .before .before .before .before .before .before .before .read-field .ensures) ∙ c .before .before .before .before .before .before .saved .given .1) (x .1), c .save-added .ensures, x .2) refl
+read-make-cont-returns-2 t c = let x = listed-done _ _ _ _ _ (sym (c .before .before .before .before .before .before .read-list .ensures .0) ∙ c .before .before .last .given .1) in let n = sym (c .before .before .before .before .before .before .before .before .before .before .before .read-field .ensures) ∙ c .before .before .before .before .before .before .before .before .before .saved .given .1 in (rw (make-cont-read _ _ _ _ _ _ _ _ _ n (x .1), c .save-added .ensures, x .2) refl, saved-marked _ _ _ _ _ _ _ _ _ _ n (value-of _ _ _ _ _ n .1 .0) (x .1) (c .before .before .before .before .before .before .read-list .ensures .1))
+
+read-make-cont-same-length-2 : (t : ℕ) → read-make-cont-lts.Need-same-length-2 (read-make-cont-calls t) (read-make-cont-at t) read-make-cont.Post
+read-make-cont-same-length-2 t c = c .before .before .before .before .before .read-list .kept .1 .1 .1 .1 .1 .1 .0
 
 read-make-cont-returns-3 : (t : ℕ) → read-make-cont-lts.Need-returns-3 (read-make-cont-calls t) (read-make-cont-at t) read-make-cont.Post
-unfolding itemed
-read-make-cont-returns-3 t c = rw (saved-refused _ _ _ _ _ _ _ _ _ (sym (c .before .before .before .before .before .before .before .read-field .ensures) ∙ c .before .before .before .before .before .saved .given .1) (listed-refused _ _ _ _ _ (sym (c .before .before .before .read-list .ensures) ∙ c .before .no .given .1))) refl
+unfolding itemed headMarked
+read-make-cont-returns-3 t c = rw (saved-refused _ _ _ _ _ _ _ _ _ (sym (c .before .before .before .before .before .before .before .before .before .before .read-field .ensures) ∙ c .before .before .before .before .before .before .before .before .saved .given .1) (listed-refused _ _ _ _ _ (sym (c .before .before .before .before .before .read-list .ensures .0) ∙ c .before .no .given .1))) (refl, tt)
 
 pub +read-conditional+read-instr+read-list+read-make-cont-spec : {M : Type 1} → statement M
 +read-conditional+read-instr+read-list+read-make-cont-spec =
@@ -292,8 +332,11 @@ pub +read-conditional+read-instr+read-list+read-make-cont-spec : {M : Type 1} �
     (read-conditional-conditional-added-requires t)
     (read-conditional-enum-known-no t)
     (read-conditional-enum-known-no-2 t)
+    (read-conditional-same-length t)
     (read-conditional-returns t)
+    (read-conditional-same-length-2 t)
     (read-conditional-returns-2 t)
+    (read-conditional-same-length-3 t)
     (read-conditional-returns-3 t))
     (λ t. read-instr-lts.spec (read-instr-calls t)
     (read-instr-at t)
@@ -311,7 +354,9 @@ pub +read-conditional+read-instr+read-list+read-make-cont-spec : {M : Type 1} �
     (read-instr-read-make-cont-requires t)
     (read-instr-returns-3 t)
     (read-instr-returns-4 t)
+    (read-instr-same-length t)
     (read-instr-returns-5 t)
+    (read-instr-same-length-2 t)
     (read-instr-returns-6 t)
     (read-instr-returns-7 t))
     (λ t. read-list-lts.spec (read-list-calls t)
@@ -324,12 +369,16 @@ pub +read-conditional+read-instr+read-list+read-make-cont-spec : {M : Type 1} �
     (read-list-read-instr-requires t)
     (read-list-enum-known-next t)
     (read-list-finished-requires t)
+    (read-list-mark-of-requires t)
+    (read-list-set-mark-requires t)
+    (read-list-same-length t)
     (read-list-returns t)
     (read-list-enum-known-next-2 t)
     (read-list-state-after-requires t)
     (read-list-loop-less t)
     (read-list-loop-again t)
     (read-list-enum-known-no t)
+    (read-list-same-length-2 t)
     (read-list-returns-2 t))
     λ t. read-make-cont-lts.spec (read-make-cont-calls t)
     (read-make-cont-at t)
@@ -342,5 +391,7 @@ pub +read-conditional+read-instr+read-list+read-make-cont-spec : {M : Type 1} �
     (read-make-cont-enum-known-last t)
     (read-make-cont-save-added-requires t)
     (read-make-cont-enum-known-no t)
+    (read-make-cont-same-length t)
     (read-make-cont-returns-2 t)
+    (read-make-cont-same-length-2 t)
     (read-make-cont-returns-3 t)

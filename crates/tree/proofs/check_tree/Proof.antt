@@ -20,17 +20,21 @@ enum-known-no c = search needs
 
 returns : tie.Need-returns
 unfolding checkedTold
-returns c = sym (ap checkedTold (judged-told _ (sym (c .before .before .before .read-accepted .ensures .0) ∙ c .enum-told .given .1) .is))
+returns c = sym (ap checkedTold (judged-told _ (sym (c .before .before .before .before .read-accepted .ensures .0) ∙ c .enum-told .given .1) .is))
 
 returns-2 : tie.Need-returns-2
 unfolding checkedTold
-returns-2 c = sym (ap checkedTold (judged-refused _ (sym (c .before .before .before .before .read-accepted .ensures .0) ∙ c .before .no .given .1)))
+returns-2 c = sym (ap checkedTold (judged-refused _ (sym (c .before .before .before .before .before .read-accepted .ensures .0) ∙ c .before .no .given .1)))
+
+slice-aggregate-read-accepted-2 : tie.Need-slice-aggregate-read-accepted-2
+slice-aggregate-read-accepted-2 c = search needs
 
 pub check-tree-spec : {M : Type 1} → statement M
 check-tree-spec =
     tie.close
     (tie.spec
     slice-aggregate-read-accepted
+    slice-aggregate-read-accepted-2
     read-accepted-requires
     enum-told
     enum-known-no

@@ -7,6 +7,7 @@ use Rattle.files.specs.laws.EntriesLaws.{entries-read}
 use Rattle.files.specs.laws.ReadingLaws.{list-bits}
 use Rattle.lists.specs.laws.ReadLaws.{listed-done, listed-refused, listed-size}
 use Rattle.tree.specs.laws.TemplateSteps.{count-cut, entries-stop, list-stop, list-done}
+use Rattle.tree.specs.laws.MarkedSteps.{also, also-by, template-unmarked, template-marked}
 use borrow.Author.Needs.{needs}
 use Rattle.tree.proofs.read_template.Statement.{statement}
 use Rattle.tree.proofs.read_template.Tie as tie
@@ -21,13 +22,13 @@ enum-told : tie.Need-enum-told
 enum-told c = search needs
 
 returns : tie.Need-returns
-returns c = count-cut _ _ _ _ _ (field-cut _ _ _ (c .before .before .read-field .ensures) (c .enum-told .given .1))
+returns c = also-by (count-cut _ _ _ _ _ (field-cut _ _ _ (c .before .before .read-field .ensures) (c .enum-told .given .1))) (template-unmarked _ _ _ _)
 
 cast-read-entries : tie.Need-cast-read-entries
 cast-read-entries c = search needs
 
 read-entries-requires : tie.Need-read-entries-requires
-read-entries-requires c κs = let p = c .before .before .before .before .before .before .before .pre in (omega arith, (p .1 .1 .1 .0, (p .1 .0, (p .1 .1 .0, field-below _ _ _ (c .before .before .before .before .read-field .ensures) (c .before .before .n .given .1)))))
+read-entries-requires c κs = let p = c .before .before .before .before .before .before .before .before .pre in (omega arith, (omega (arith, p .1 .1 .1 .0, p .1 .0), (p .1 .1 .0, field-below _ _ _ (c .before .before .before .before .read-field .ensures) (c .before .before .n .given .1))))
 
 enum-known-start : tie.Need-enum-known-start
 enum-known-start c = search needs
@@ -45,20 +46,20 @@ slice-write-table : tie.Need-slice-write-table
 slice-write-table c = search needs
 
 read-list-requires : tie.Need-read-list-requires
-read-list-requires c κs = let p = c .before .before .before .before .before .before .before .before .before .before .before .before .before .before .before .pre in (p .0, simp length-set (c .before .before .before .before .before .before .before .read-entries .kept .1 .0 ∙ p .1 .1 .1 .0), omega (arith, p .1 .0))
+read-list-requires c κs = let p = c .before .before .before .before .before .before .before .before .before .before .before .before .before .before .before .before .before .pre in (p .0, simp length-set (c .before .before .before .before .before .before .before .before .read-entries .kept .1 .0 ∙ p .1 .1 .1 .0), omega (arith, p .1 .0))
 
 enum-known-past : tie.Need-enum-known-past
 enum-known-past c = search needs
 
 since-requires : tie.Need-since-requires
-since-requires c κs = let e = entries-told _ (sym (c .before .before .before .before .before .before .before .before .before .before .before .read-entries .ensures .0) ∙ c .before .before .before .before .before .before .before .start .given .1) in omega (arith, entries-read _ _ _ (c .before .before .before .before .before .before .before .before .before .before .before .before .before .before .before .before .before .before .before .pre .1 .1 .0) _ _ (e .is) .past)
+since-requires c κs = let e = entries-told _ (sym (c .before .before .before .before .before .before .before .before .before .before .before .before .before .before .read-entries .ensures .0) ∙ c .before .before .before .before .before .before .before .before .before .before .start .given .1) in omega (arith, entries-read _ _ _ (c .before .before .before .before .before .before .before .before .before .before .before .before .before .before .before .before .before .before .before .before .before .before .before .pre .1 .1 .0) _ _ (e .is) .past)
 
 report-by-requires : tie.Need-report-by-requires
 report-by-requires c κs =
-    let e = entries-told _ (sym (c .before .before .before .before .before .before .before .before .before .before .before .before .read-entries .ensures .0) ∙ c .before .before .before .before .before .before .before .before .start .given .1) in
-    let l = listed-done _ _ _ _ _ (sym (c .before .before .before .before .read-list .ensures) ∙ c .before .before .past .given .1) in
-    let p = c .before .before .before .before .before .before .before .before .before .before .before .before .before .before .before .before .before .before .before .before .pre .0 in
-    (listed-size _ _ _ _ _ _ _ p (sym (c .before .before .before .before .read-list .ensures) ∙ c .before .before .past .given .1), omega (arith, p, c .since .ensures, list-bits _ _ _ _ _ (l .1)))
+    let e = entries-told _ (sym (c .before .before .before .before .before .before .before .before .before .before .before .before .before .before .before .read-entries .ensures .0) ∙ c .before .before .before .before .before .before .before .before .before .before .before .start .given .1) in
+    let l = listed-done _ _ _ _ _ (sym (c .before .before .before .before .before .before .read-list .ensures .0) ∙ c .before .before .past .given .1) in
+    let p = c .before .before .before .before .before .before .before .before .before .before .before .before .before .before .before .before .before .before .before .before .before .before .before .before .pre .0 in
+    (listed-size _ _ _ _ _ _ _ p (sym (c .before .before .before .before .before .before .read-list .ensures .0) ∙ c .before .before .past .given .1), omega (arith, p, c .since .ensures, list-bits _ _ _ _ _ (l .1)))
 
 enum-known-no : tie.Need-enum-known-no
 enum-known-no c = search needs
@@ -71,28 +72,34 @@ same-length c = search needs
 
 returns-2 : tie.Need-returns-2
 returns-2 c =
-    let e = entries-told _ (sym (c .before .before .before .before .before .before .before .before .before .before .before .before .before .read-entries .ensures .0) ∙ c .before .before .before .before .before .before .before .before .before .start .given .1) in
-    let slot = c .before .before .before .before .before .before .before .to-slot .ensures in
-    let l = listed-done _ _ _ _ _ (sym (rw slot at (c .before .before .before .before .before .read-list .ensures)) ∙ c .before .before .before .past .given .1) in
-    let p = c .before .before .before .before .before .before .before .before .before .before .before .before .before .before .before .before .before .before .before .before .before .pre in
-    let field = c .before .before .before .before .before .before .before .before .before .before .before .before .before .before .before .before .before .before .read-field .ensures in
-    let number = c .before .before .before .before .before .before .before .before .before .before .before .before .before .before .before .before .n .given .1 in
-    rw slot (list-done _ _ _ _ _ (field-read _ _ _ field number) (c .before .before .before .before .before .before .before .before .before .before .before .before .before .read-entries .ensures .1) (e .is) (p .1 .1 .0) (field-below _ _ _ field number) (p .1 .0) (p .1 .1 .1) (l .1) (sym (l .2)) (rw (c .before .since .ensures) at (c .report-by .ensures)))
+    let e = entries-told _ (sym (c .before .before .before .before .before .before .before .before .before .before .before .before .before .before .before .before .read-entries .ensures .0) ∙ c .before .before .before .before .before .before .before .before .before .before .before .before .start .given .1) in
+    let slot = c .before .before .before .before .before .before .before .before .before .before .to-slot .ensures in
+    let l = listed-done _ _ _ _ _ (sym (rw slot at (c .before .before .before .before .before .before .before .read-list .ensures .0)) ∙ c .before .before .before .past .given .1) in
+    let p = c .before .before .before .before .before .before .before .before .before .before .before .before .before .before .before .before .before .before .before .before .before .before .before .before .before .pre in
+    let field = c .before .before .before .before .before .before .before .before .before .before .before .before .before .before .before .before .before .before .before .before .before .read-field .ensures in
+    let number = c .before .before .before .before .before .before .before .before .before .before .before .before .before .before .before .before .before .before .before .n .given .1 in
+    rw slot (also (list-done _ _ _ _ _ (field-read _ _ _ field number) (c .before .before .before .before .before .before .before .before .before .before .before .before .before .before .before .before .read-entries .ensures .1) (e .is) (p .1 .1 .0) (field-below _ _ _ field number) (p .1 .0) (p .1 .1 .1) (l .1) (sym (l .2)) (rw (c .before .since .ensures) at (c .report-by .ensures))) (template-marked _ _ _ _ _ _ _ (field-read _ _ _ field number) (e .is) (l .1) (c .before .before .before .before .before .before .before .read-list .ensures .1)))
 
 same-length-2 : tie.Need-same-length-2
 same-length-2 c = search needs
 
 returns-3 : tie.Need-returns-3
 returns-3 c =
-    let e = entries-told _ (sym (c .before .before .before .before .before .before .before .before .before .before .before .read-entries .ensures .0) ∙ c .before .before .before .before .before .before .before .start .given .1) in
-    let slot = c .before .before .before .before .before .to-slot .ensures in
-    rw slot (list-stop _ _ _ _ _ (field-read _ _ _ (c .before .before .before .before .before .before .before .before .before .before .before .before .before .before .before .before .read-field .ensures) (c .before .before .before .before .before .before .before .before .before .before .before .before .before .before .n .given .1)) (c .before .before .before .before .before .before .before .before .before .before .before .read-entries .ensures .1) (e .is) (listed-refused _ _ _ _ _ (sym (rw slot at (c .before .before .before .read-list .ensures)) ∙ c .before .no .given .1)))
+    let e = entries-told _ (sym (c .before .before .before .before .before .before .before .before .before .before .before .before .before .before .read-entries .ensures .0) ∙ c .before .before .before .before .before .before .before .before .before .before .start .given .1) in
+    let slot = c .before .before .before .before .before .before .before .before .to-slot .ensures in
+    rw slot (also-by (list-stop _ _ _ _ _ (field-read _ _ _ (c .before .before .before .before .before .before .before .before .before .before .before .before .before .before .before .before .before .before .before .read-field .ensures) (c .before .before .before .before .before .before .before .before .before .before .before .before .before .before .before .before .before .n .given .1)) (c .before .before .before .before .before .before .before .before .before .before .before .before .before .before .read-entries .ensures .1) (e .is) (listed-refused _ _ _ _ _ (sym (rw slot at (c .before .before .before .before .before .read-list .ensures .0)) ∙ c .before .no .given .1))) (template-unmarked _ _ _ _))
 
 same-length-3 : tie.Need-same-length-3
 same-length-3 c = search needs
 
 returns-4 : tie.Need-returns-4
-returns-4 c = entries-stop _ _ _ _ _ (field-read _ _ _ (c .before .before .before .before .before .before .before .before .before .before .read-field .ensures) (c .before .before .before .before .before .before .before .before .n .given .1)) (c .before .before .before .before .before .read-entries .ensures .1) (entries-refused _ (sym (c .before .before .before .before .before .read-entries .ensures .0) ∙ c .before .no2 .given .1))
+returns-4 c = also-by (entries-stop _ _ _ _ _ (field-read _ _ _ (c .before .before .before .before .before .before .before .before .before .before .read-field .ensures) (c .before .before .before .before .before .before .before .before .n .given .1)) (c .before .before .before .before .before .read-entries .ensures .1) (entries-refused _ (sym (c .before .before .before .before .before .read-entries .ensures .0) ∙ c .before .no2 .given .1))) (template-unmarked _ _ _ _)
+
+same-length-4 : tie.Need-same-length-4
+same-length-4 c = search needs
+
+same-length-5 : tie.Need-same-length-5
+same-length-5 c = search needs
 
 pub read-template-spec : {M : Type 1} → statement M
 read-template-spec =
@@ -116,8 +123,10 @@ read-template-spec =
     enum-known-no
     enum-known-no-2
     same-length
-    returns-2
     same-length-2
-    returns-3
+    returns-2
     same-length-3
+    same-length-4
+    returns-3
+    same-length-5
     returns-4)

@@ -8,30 +8,30 @@ use Rattle.files.specs.Tree.{templatesAt}
 use Rattle.files.specs.RowFilled.{Unfilled}
 use Rattle.tree.specs.Summary.{templatesTold, toldFrom, summaryAfter}
 use Rattle.tree.specs.Filled.{templatesFilled}
-use Rattle.tree.specs.laws.TemplateSteps.{templates-none, templates-stop, templates-on, next-unfilled, next-small, told-all}
+use Rattle.tree.specs.laws.TemplateSteps.{templates-none, templates-stop, templates-on, next-unfilled, next-small, this, told-all}
+use lib.ListN.{length}
+use Rattle.tree.specs.laws.MarkedSteps.{also-by, templates-unmarked, Marking, marking-begun, marking-more, marking-done}
 use borrow.Author.Needs.{needs}
 use Rattle.tree.proofs.read_templates.Statement.{statement}
 use Rattle.tree.proofs.read_templates.Tie as tie
 
 abbrev Inv-loop : tie.InvT-loop
-Inv-loop s table₀ count own₀ here₀ sum₀ table own here sum = (own ≤ count) × Unfilled own table × (sum .size ≤ 1 + 2097152 * own)
+Inv-loop s table₀ count keep marks₀ own₀ here₀ sum₀ table marks own here sum = (own ≤ count) × Unfilled own table × (sum .size ≤ 1 + 2097152 * own)
     × (templatesTold (templatesAt s count 0 count (here₀ .0)) ≡ toldFrom own sum (templatesAt s count own (count - own) (here .0)))
     × (templatesFilled s count 0 count (here₀ .0) table₀ ≡ templatesFilled s count own (count - own) (here .0) table)
+    × Marking keep s count marks₀ (here₀ .0) marks own (here .0) × (length marks ≡ length marks₀)
 
 abbrev μ-loop : tie.MeasureT-loop
-μ-loop s table₀ count own₀ here₀ sum₀ table own here sum = count - own
-
-cast-t12 : tie.Need-cast-t12 Inv-loop μ-loop
-cast-t12 c = search needs
+μ-loop s table₀ count keep marks₀ own₀ here₀ sum₀ table marks own here sum = count - own
 
 loop-holds : tie.Need-loop-holds Inv-loop μ-loop
 unfolding begun
 loop-holds c =
-    let k = c .before .before .pre in
-    (search needs, k .1 .1, search needs, rw sub-zero (told-all _ _ _ (k .1 .0)), rw sub-zero refl)
+    let k = c .before .before .before .pre in
+    (search needs, k .1 .1, search needs, rw sub-zero (told-all _ _ _ (k .1 .0)), rw sub-zero refl, marking-begun _ _ _ _ _, refl)
 
 read-template-requires : tie.Need-read-template-requires Inv-loop μ-loop
-read-template-requires c κs = let k = c .before .before .before .before .before .pre in let i = c .before .before .loop .inv in (k .0, (omega arith, (k .1 .0, i .1)))
+read-template-requires c κs = let k = c .before .before .before .before .before .before .before .pre in let i = c .before .before .before .loop .inv in (k .0, (omega arith, (k .1 .0, i .1)))
 
 enum-known-past : tie.Need-enum-known-past Inv-loop μ-loop
 enum-known-past c = search needs
@@ -40,7 +40,7 @@ cast-summary-after : tie.Need-cast-summary-after Inv-loop μ-loop
 cast-summary-after c = search needs
 
 summary-after-requires : tie.Need-summary-after-requires Inv-loop μ-loop
-summary-after-requires c κs = let k = c .before .before .before .before .before .before .before .before .before .before .before .pre in let i = c .before .before .before .before .before .before .before .before .loop .inv in let small = next-small _ _ _ _ _ (k .1 .0) (c .before .before .before .before .before .read-template .ensures) (c .before .past .given .1) (k .0) in (small, omega arith)
+summary-after-requires c κs = let k = c .before .before .before .before .before .before .before .before .before .before .before .before .before .before .before .pre in let i = c .before .before .before .before .before .before .before .before .before .before .before .loop .inv in let small = next-small _ _ _ _ _ (k .1 .0) (c .before .before .before .before .before .before .before .read-template .ensures .0, c .before .before .before .before .before .before .before .read-template .ensures .1 .0) (c .before .past .given .1) (k .0) in (small, omega arith)
 
 enum-known-no : tie.Need-enum-known-no Inv-loop μ-loop
 enum-known-no c = search needs
@@ -49,7 +49,7 @@ same-length : tie.Need-same-length Inv-loop μ-loop
 same-length c = search needs
 
 returns : tie.Need-returns Inv-loop μ-loop
-returns c = let i = c .before .before .before .before .before .before .before .before .loop .inv in let d = templates-stop _ _ _ _ _ _ (c .before .before .before .before .before .before .before .loop-test .taken) (c .before .before .before .before .before .read-template .ensures) (c .before .no .given .1) in (d .0 ∙ sym (i .3), d .1 ∙ sym (i .4))
+returns c = let i = c .before .before .before .before .before .before .before .before .before .before .before .loop .inv in let d = templates-stop _ _ _ _ _ _ (c .before .before .before .before .before .before .before .before .before .before .loop-test .taken) (c .before .before .before .before .before .before .before .read-template .ensures .0, c .before .before .before .before .before .before .before .read-template .ensures .1 .0) (c .before .no .given .1) in also-by (d .0 ∙ sym (i .3), d .1 ∙ sym (i .4)) (templates-unmarked _ _ _ _)
 
 add-own : tie.Need-add-own Inv-loop μ-loop
 add-own c = search needs
@@ -60,18 +60,27 @@ loop-less c = search needs
 loop-again : tie.Need-loop-again Inv-loop μ-loop
 unfolding summaryAfter
 loop-again c =
-    let k = c .before .before .before .before .before .before .before .before .before .before .before .before .pre in
-    let i = c .before .before .before .before .before .before .before .before .before .loop .inv in
-    let less = c .before .before .before .before .before .before .before .before .loop-test .taken in
-    let d = templates-on _ _ _ _ _ _ less (c .before .before .before .before .before .before .read-template .ensures) (k .1 .0) (c .before .before .past .given .1) (c .summary-after .ensures) in
-    let small = next-small _ _ _ _ _ (k .1 .0) (c .before .before .before .before .before .before .read-template .ensures) (c .before .before .past .given .1) (k .0) in
-    (search needs, next-unfilled _ _ _ _ _ (k .1 .0) (c .before .before .before .before .before .before .read-template .ensures) (c .before .before .past .given .1) less (i .1), rw (c .summary-after .ensures) (omega arith), i .3 ∙ d .0, i .4 ∙ d .1)
+    let k = c .before .before .before .before .before .before .before .before .before .before .before .before .before .before .before .before .pre in
+    let i = c .before .before .before .before .before .before .before .before .before .before .before .before .loop .inv in
+    let less = c .before .before .before .before .before .before .before .before .before .before .before .loop-test .taken in
+    let d = templates-on _ _ _ _ _ _ less (c .before .before .before .before .before .before .before .before .read-template .ensures .0, c .before .before .before .before .before .before .before .before .read-template .ensures .1 .0) (k .1 .0) (c .before .before .past .given .1) (c .summary-after .ensures) in
+    let small = next-small _ _ _ _ _ (k .1 .0) (c .before .before .before .before .before .before .before .before .read-template .ensures .0, c .before .before .before .before .before .before .before .before .read-template .ensures .1 .0) (c .before .before .past .given .1) (k .0) in
+    (search needs, next-unfilled _ _ _ _ _ (k .1 .0) (c .before .before .before .before .before .before .before .before .read-template .ensures .0, c .before .before .before .before .before .before .before .before .read-template .ensures .1 .0) (c .before .before .past .given .1) less (i .1), rw (c .summary-after .ensures) (omega arith), i .3 ∙ d .0, i .4 ∙ d .1, marking-more _ _ _ _ _ (i .5) _ less (this _ _ _ _ _ (k .1 .0) (c .before .before .before .before .before .before .before .before .read-template .ensures .0, c .before .before .before .before .before .before .before .before .read-template .ensures .1 .0) (c .before .before .past .given .1) .is) (c .before .before .before .before .before .before .before .before .read-template .ensures .1 .1), c .before .before .before .before .before .before .before .before .read-template .kept .1 .1 .1 .1 .1 .1 .0 ∙ i .6)
 
 same-length-2 : tie.Need-same-length-2 Inv-loop μ-loop
 same-length-2 c = search needs
 
 returns-2 : tie.Need-returns-2 Inv-loop μ-loop
-returns-2 c = let i = c .before .loop .inv in let d = templates-none _ _ _ _ _ _ (c .loop-test .left) in (d .0 ∙ sym (i .3), d .1 ∙ sym (i .4))
+returns-2 c = let i = c .before .loop .inv in let d = templates-none _ _ _ _ _ _ (c .loop-test .left) in (d .0 ∙ sym (i .3), (d .1 ∙ sym (i .4), marking-done _ _ _ _ _ (i .5) (c .loop-test .left)))
+
+cast-t14 : tie.Need-cast-t14 Inv-loop μ-loop
+cast-t14 c = search needs
+
+same-length-3 : tie.Need-same-length-3 Inv-loop μ-loop
+same-length-3 c = search needs
+
+same-length-4 : tie.Need-same-length-4 Inv-loop μ-loop
+same-length-4 c = search needs
 
 pub read-templates-spec : {M : Type 1} → statement M
 read-templates-spec =
@@ -79,7 +88,7 @@ read-templates-spec =
     (tie.spec
     Inv-loop
     μ-loop
-    cast-t12
+    cast-t14
     loop-holds
     read-template-requires
     enum-known-past
@@ -87,9 +96,11 @@ read-templates-spec =
     summary-after-requires
     enum-known-no
     same-length
+    same-length-2
     returns
     add-own
     loop-less
     loop-again
-    same-length-2
+    same-length-3
+    same-length-4
     returns-2)

@@ -1,39 +1,22 @@
--- `tree_machine::run_file` meets its contract. Assumes nothing.
-use mathlib.Core.Path.{ap, _∙_}
+-- `tree_machine::run_file` meets its contract: one link for each 5 bits is enough. Assumes nothing.
+use Prim.Native.Nat.{_≤_}
+use native.Mathlib.Omega.{arith}
 use lib.ListN.{length}
-use Rattle.machines.specs.Start.{zeros}
-use Rattle.machines.specs.laws.Start.{zeros-length}
-use Rattle.tree_machine.specs.laws.FileLaws.{file-ready, file-good, file-refused}
 use borrow.Author.Needs.{needs}
 use Rattle.tree_machine.proofs.run_file.Statement.{statement}
 use Rattle.tree_machine.proofs.run_file.Tie as tie
 
-read-accepted-requires : tie.Need-read-accepted-requires
-unfolding zeros
-read-accepted-requires c κs = c .before .before .before .before .before .before .before .pre .1
+run-marked-requires-2 : tie.Need-run-marked-requires-2
+run-marked-requires-2 c κs = (c .before .before .before .before .before .before .before .before .before .before .before .before .before .pre .0, c .before .before .before .before .before .before .before .before .before .before .before .before .before .pre .1, λ (h : length (c .before .before .before .before .before .before .before .before .before .before .before .before .before .args .file .now) ≤ 65536). omega arith)
 
-enum-known-sum : tie.Need-enum-known-sum
-enum-known-sum c = search needs
+slice-aggregate-run-marked : tie.Need-slice-aggregate-run-marked
+slice-aggregate-run-marked c = search needs
 
-cast-run-read : tie.Need-cast-run-read
-cast-run-read c = search needs
+run-marked-requires : tie.Need-run-marked-requires
+run-marked-requires c κs = search needs
 
-run-read-requires : tie.Need-run-read-requires
-run-read-requires c κs =
-    let pre = c .before .before .before .before .before .before .before .before .before .before .before .before .before .before .before .before .before .before .before .pre in
-    let read = c .before .before .before .before .before .before .before .before .before .before .before .read-accepted in
-    let sum = c .before .before .before .before .before .before .before .sum .given .1 in (
-      pre .0,
-      file-ready _ _ _ (read .ensures .0) sum _ (read .ensures .1),
-      read .kept .1 .0 ∙ ap length (pre .1) ∙ zeros-length 16384,
-      file-good _ _ _ (read .ensures .0) sum,
-    )
-
-enum-known-number : tie.Need-enum-known-number
-enum-known-number c = search needs
-
-refused-requires : tie.Need-refused-requires
-refused-requires c κs = search needs
+slice-aggregate-run-marked-2 : tie.Need-slice-aggregate-run-marked-2
+slice-aggregate-run-marked-2 c = search needs
 
 same-length : tie.Need-same-length
 same-length c = search needs
@@ -51,24 +34,34 @@ same-length-5 : tie.Need-same-length-5
 same-length-5 c = search needs
 
 returns : tie.Need-returns
-returns c = c .before .before .before .before .before .before .before .before .run-read .ensures
+returns c = search needs
 
 same-length-6 : tie.Need-same-length-6
 same-length-6 c = search needs
 
+same-length-7 : tie.Need-same-length-7
+same-length-7 c = search needs
+
+same-length-8 : tie.Need-same-length-8
+same-length-8 c = search needs
+
+same-length-9 : tie.Need-same-length-9
+same-length-9 c = search needs
+
+same-length-10 : tie.Need-same-length-10
+same-length-10 c = search needs
+
 returns-2 : tie.Need-returns-2
-returns-2 c = file-refused _ _ _ _ _ _ _ _ (c .before .before .before .before .before .before .read-accepted .ensures .0) (c .before .before .number .given .1) (c .refused .ensures)
+returns-2 c = search needs
 
 pub run-file-spec : {M : Type 1} → statement M
 run-file-spec =
     tie.close
     (tie.spec
-    read-accepted-requires
-    enum-known-sum
-    cast-run-read
-    run-read-requires
-    enum-known-number
-    refused-requires
+    slice-aggregate-run-marked
+    run-marked-requires
+    slice-aggregate-run-marked-2
+    run-marked-requires-2
     same-length
     same-length-2
     same-length-3
@@ -76,4 +69,8 @@ run-file-spec =
     same-length-5
     returns
     same-length-6
+    same-length-7
+    same-length-8
+    same-length-9
+    same-length-10
     returns-2)

@@ -14,13 +14,15 @@ use Rattle.tree.specs.laws.Judged.{ReadAs, judged-told, judged-refused}
 use Rattle.tree.specs.declared.Summary.{Summary}
 use Rattle.tree.specs.declared.Judged.{Judged}
 use Rattle.tree.specs.declared.Judged.the-variants.{Accepted, Refused}
-use Rattle.links.specs.TreeSteps.{linkedFrom, FileReady}
+use Rattle.lists.specs.declared.Keep.the-variants.{Pasts}
+use Rattle.tree.specs.Marked.{markedAll, templatesMarked}
+use Rattle.tree.specs.laws.Laid.{short, template-has}
+use Rattle.links.specs.TreeSteps.{linkedFrom, FileReady, FileMarked}
 use Rattle.owners.specs.Owners.{ownerOf}
 use Rattle.owners.specs.declared.Owner.{Owner}
 use Rattle.machines.specs.Runs.{Memory, Ran, ran, refusedRun, startState, onTree}
 use Rattle.machines.specs.Slots.{slotAt}
-use Rattle.machines.specs.Start.{zeros, refusal}
-use Rattle.machines.specs.laws.Start.{zeros-length}
+use Rattle.machines.specs.Start.{refusal}
 use Rattle.machines.specs.Steps.{ranFrom}
 use Rattle.machines.specs.declared.Run.{Run}
 use Rattle.tree_code.specs.Fetch.{linkedProgram}
@@ -34,9 +36,6 @@ unfolding onTree linkedFrom
 linked-ran o s table L L₀ count b start m r k good long e i h =
     let c = accepted-checked s (k .templates) (k .past) (good ∙ k .read) in
     h ∙ rw (e, i, good, k .read, k .tabled) (tree-run s (k .templates) (k .past) c L₀ long o b (m .globals))
-
-pub zeros-hold : (s : List ℕ) (n : ℕ) → 8 * length s ≤ 5 * n → 8 * length s ≤ 5 * length (zeros n)
-zeros-hold s n h = rw (zeros-length n) h
 
 -- ---- a file s that was judged
 module _ (s : List ℕ) (x : Judged) (m : Summary) (asked : x ≡ judgedTold (treeAccepted s)) (there : x ≡ Accepted m) where
@@ -56,8 +55,18 @@ module _ (s : List ℕ) (x : Judged) (m : Summary) (asked : x ≡ judgedTold (tr
     counted = ap (λ (y : Summary). y .count) (sym (file .summary));
   }
 
+  pub file-short : length s ≤ 65536
+  file-short = short s is-read
+
   pub file-good : treeAccepted s ≡ treeRead s
   file-good = file .is ∙ sym is-read
+
+-- what reading left in the links
+pub file-marked : (s M L : List ℕ) → 8 * length s ≤ 5 * length M → templatesMarked Pasts M L (treeRead s) → FileMarked s L
+unfolding templatesMarked
+file-marked s M L long m ts q e i d h l =
+    let is : L ≡ markedAll Pasts M ts = rw e at m in
+    rw is (template-has s e i d l Pasts M long .1)
 
 pub file-refused : (s : List ℕ) (x : Judged) (o : Owner) (b : ℕ) (m : Memory) (n p : ℕ) (r : Run) → x ≡ judgedTold (treeAccepted s) → x ≡ Refused n p
     → r ≡ refusal n p

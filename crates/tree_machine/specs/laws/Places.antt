@@ -16,7 +16,8 @@ use Rattle.files.specs.Accepted.{treeChecked}
 use Rattle.files.specs.laws.AcceptedLaws.{none-refused}
 use Rattle.files.specs.laws.AcceptedLaws.{Checked, checked}
 use Rattle.links.specs.Links.{linkedAll}
-use Rattle.links.specs.laws.Templates.{TemplateLaid, short, template-there, template-stands, template-links}
+use Rattle.tree.specs.laws.Laid.{TemplateLaid, short, template-there}
+use Rattle.links.specs.laws.Templates.{template-stands, template-links}
 use Rattle.machines.specs.Fetched.{Fetched, bad, first, look, treeAt, noTemplate}
 use Rattle.machines.specs.Slots.{slotAt}
 use Rattle.machines.specs.laws.Slots.{RowStands, row-stands, slot-resolve}

@@ -29,7 +29,7 @@ past-requires : tie.Need-past-requires
 past-requires c κs = let h = c .before .before .before .before .before .pre in let a = c .before .before .before .before .before .args in let p = parts (a .s .now) (a .table .now) (a .out .now) (a .own) (a .count) (a .byte) (a .at .0) (h .1) (h .2) (h .3) (h .5) in omega (arith, h .0, p .inside, p .end-is)
 
 read-entries-requires : tie.Need-read-entries-requires
-read-entries-requires c κs = let h = c .before .before .before .before .before .before .pre in (h .0, (h .1, (h .2, (h .3, c .before .before .bits-at .ensures .1))))
+read-entries-requires c κs = let h = c .before .before .before .before .before .before .pre in (h .0, (omega (arith, h .1, h .2), (h .3, c .before .before .bits-at .ensures .1)))
 
 enum-known-past : tie.Need-enum-known-past
 enum-known-past c = search needs

@@ -1,16 +1,16 @@
--- `linear_machine::run_accepted` meets its contract. Assumes nothing.
+-- `linear_machine::run_4` meets its contract. Assumes nothing.
 use borrow.Author.Needs.{needs}
 use mathlib.Core.Path.{refl}
 use Rattle.machines.specs.Start.{zeros}
-use Rattle.linear_machine.proofs.run_accepted.Statement.{statement}
-use Rattle.linear_machine.proofs.run_accepted.Tie as tie
+use Rattle.linear_machine.proofs.run_4.Statement.{statement}
+use Rattle.linear_machine.proofs.run_4.Tie as tie
 
 slice-aggregate-run-file : tie.Need-slice-aggregate-run-file
 slice-aggregate-run-file c = search needs
 
 run-file-requires : tie.Need-run-file-requires
 unfolding zeros
-run-file-requires c κs = (search needs, refl)
+run-file-requires c κs = let p = c .before .before .before .before .before .before .before .before .before .before .pre in (p .0, record { size = 1024; room = p .1; zero = refl })
 
 same-length : tie.Need-same-length
 same-length c = search needs
@@ -27,8 +27,8 @@ same-length-4 c = search needs
 returns : tie.Need-returns
 returns c = search needs
 
-pub run-accepted-spec : {M : Type 1} → statement M
-run-accepted-spec =
+pub run-4-spec : {M : Type 1} → statement M
+run-4-spec =
     tie.close
     (tie.spec
     slice-aggregate-run-file

@@ -12,7 +12,7 @@ use Rattle.files.specs.Code.{Code, done, Instr, unless-i, cont-i, simple, put}
 use Rattle.files.specs.Reading.{Got, got, refused, Head, stop, item, bad, withField, withList, withDeep, shaped, headAt, before, after, deepOf, listAt}
 use Rattle.files.specs.laws.ReadingLaws.{list-step}
 use Rattle.files.specs.laws.Heads.{deep-down}
-use Rattle.emit.specs.Written.{operandsAt}
+use Rattle.lists.specs.Pass.{operandsAt}
 
 -- ---- what was read on the way to what is there
 abbrev There : Head → Type 0

@@ -1,0 +1,116 @@
+-- `flatten::flatten_marked` meets its contract: each answer leads to its case of `flattened`. Assumes nothing.
+use Prim.Native.Nat.{ℕ}
+use native.Mathlib.Omega.{arith}
+use mathlib.Core.Path.{sym, ap, _∙_}
+use lib.ListN.{length, length-set, length-replicate}
+use Rattle.tree.specs.laws.Judged.{judged-refused}
+use Rattle.flatten.specs.laws.FileSteps.{flatten-refused, flatten-far, flatten-short, some-bytes, file-short, file-to-write, flatten-written}
+use borrow.Author.Needs.{needs}
+use Rattle.flatten.proofs.flatten_marked.Statement.{statement}
+use Rattle.flatten.proofs.flatten_marked.Tie as tie
+
+read-accepted-requires : tie.Need-read-accepted-requires
+read-accepted-requires c κs = search needs
+
+enum-known-sum : tie.Need-enum-known-sum
+enum-known-sum c = search needs
+
+returns : tie.Need-returns
+returns c =
+    let read = c .before .before .before .before .before .before .before .before .before .before .read-accepted .ensures in
+    let told = sym (read .0) ∙ c .before .before .before .before .sum .given .1 in
+    flatten-far _ _ told (c .before .if1 .taken)
+
+returns-2 : tie.Need-returns-2
+returns-2 c =
+    let read = c .before .before .before .before .before .before .before .before .before .before .read-accepted .ensures in
+    let told = sym (read .0) ∙ c .before .before .before .before .sum .given .1 in
+    flatten-short _ _ told (c .before .if1 .left) (c .if2 .taken)
+
+slice-write-out : tie.Need-slice-write-out
+slice-write-out c =
+    let read = c .before .before .before .before .before .before .before .before .before .before .read-accepted .ensures in
+    let told = sym (read .0) ∙ c .before .before .before .before .sum .given .1 in
+    let out = c .before .before .before .before .before .before .before .before .before .before .before .before .before .before .before .before .before .args .out .now in
+    omega (arith, c .if2 .left, some-bytes _ out told)
+
+cast-write-templates : tie.Need-cast-write-templates
+cast-write-templates c = search needs
+
+write-templates-requires : tie.Need-write-templates-requires
+write-templates-requires c κs =
+    let read = c .before .before .before .before .before .before .before .before .before .before .before .before .before .read-accepted .ensures in
+    let told = sym (read .0) ∙ c .before .before .before .before .before .before .before .sum .given .1 in
+    let out = c .before .before .before .before .before .before .before .before .before .before .before .before .before .before .before .before .before .before .before .before .args .out .now in (
+      file-short _ out told,
+      c .before .before .before .before .before .before .before .before .before .before .before .before .before .read-accepted .kept .1 .0 ∙ ap length (c .before .before .before .before .before .before .before .before .before .before .before .before .before .before .before .before .before .before .before .before .pre .0) ∙ length-replicate {A = ℕ} 16384 0,
+      file-to-write _ out told (c .before .before .before .before .if1 .left) (read .1 .0) _ _ (read .1 .1) (c .before .before .before .before .before .before .before .before .before .before .before .before .before .before .before .before .before .before .before .before .pre .1) _ (simp length-set (c .before .before .before .if2 .left)),
+    )
+
+enum-known-no : tie.Need-enum-known-no
+enum-known-no c = search needs
+
+same-length-7 : tie.Need-same-length-7
+same-length-7 c = c .before .before .write-templates .kept .1 .1 .1 .1 .0 ∙ simp length-set
+
+returns-3 : tie.Need-returns-3
+returns-3 c =
+    let read = c .before .before .before .before .before .before .before .before .before .before .before .before .before .before .before .before .read-accepted .ensures in
+    let told = sym (read .0) ∙ c .before .before .before .before .before .before .before .before .before .before .sum .given .1 in
+    flatten-written _ _ told (c .before .before .before .before .before .before .before .if1 .left) (read .1 .0) _ _ (read .1 .1) (c .before .before .before .before .before .before .before .before .before .before .before .before .before .before .before .before .before .before .before .before .before .before .before .pre .1) _ (simp length-set (c .before .before .before .before .before .before .if2 .left)) (simp length-set)
+    (c .before .before .write-templates .ensures)
+
+returns-4 : tie.Need-returns-4
+returns-4 c = flatten-refused _ _ (judged-refused _ (sym (c .before .before .before .before .before .before .before .read-accepted .ensures .0) ∙ c .before .no .given .1))
+
+cast-t18 : tie.Need-cast-t18
+cast-t18 c = search needs
+
+same-length : tie.Need-same-length
+same-length c = search needs
+
+same-length-2 : tie.Need-same-length-2
+same-length-2 c = search needs
+
+same-length-3 : tie.Need-same-length-3
+same-length-3 c = search needs
+
+same-length-4 : tie.Need-same-length-4
+same-length-4 c = search needs
+
+same-length-5 : tie.Need-same-length-5
+same-length-5 c = search needs
+
+same-length-6 : tie.Need-same-length-6
+same-length-6 c = search needs
+
+same-length-8 : tie.Need-same-length-8
+same-length-8 c = search needs
+
+same-length-9 : tie.Need-same-length-9
+same-length-9 c = search needs
+
+pub flatten-marked-spec : {M : Type 1} → statement M
+flatten-marked-spec =
+    tie.close
+    (tie.spec
+    read-accepted-requires
+    enum-known-sum
+    cast-t18
+    same-length
+    same-length-2
+    returns
+    same-length-3
+    same-length-4
+    returns-2
+    slice-write-out
+    cast-write-templates
+    write-templates-requires
+    enum-known-no
+    same-length-5
+    same-length-6
+    same-length-7
+    returns-3
+    same-length-8
+    same-length-9
+    returns-4)

@@ -1,0 +1,41 @@
+-- `linear_machine::run_64` meets its contract. Assumes nothing.
+use borrow.Author.Needs.{needs}
+use mathlib.Core.Path.{refl}
+use native.Mathlib.Omega.{arith}
+use Rattle.machines.specs.Start.{zeros}
+use Rattle.linear_machine.proofs.run_64.Statement.{statement}
+use Rattle.linear_machine.proofs.run_64.Tie as tie
+
+slice-aggregate-run-file : tie.Need-slice-aggregate-run-file
+slice-aggregate-run-file c = search needs
+
+run-file-requires : tie.Need-run-file-requires
+unfolding zeros
+run-file-requires c κs = (c .before .before .before .before .before .before .before .before .before .before .pre, record { size = 16384; room = λ few. omega arith; zero = refl })
+
+same-length : tie.Need-same-length
+same-length c = search needs
+
+same-length-2 : tie.Need-same-length-2
+same-length-2 c = search needs
+
+same-length-3 : tie.Need-same-length-3
+same-length-3 c = search needs
+
+same-length-4 : tie.Need-same-length-4
+same-length-4 c = search needs
+
+returns : tie.Need-returns
+returns c = search needs
+
+pub run-64-spec : {M : Type 1} → statement M
+run-64-spec =
+    tie.close
+    (tie.spec
+    slice-aggregate-run-file
+    run-file-requires
+    same-length
+    same-length-2
+    same-length-3
+    same-length-4
+    returns)
