@@ -16,7 +16,8 @@ enum {
     EXPORTER_GLOBALS = 256, EXPORTER_STACK = 256, EXPORTER_STORE = 2048, EXPORTER_FRAMES = 2048, /* cells, exactly */
     EXPORTER_TREE_FILE = 65536, EXPORTER_LINEAR_FILE = 262144,     /* longest files, in bytes */
     EXPORTER_TREE_BUDGET = 1000000, EXPORTER_LINEAR_BUDGET = 2000000, /* largest budgets, in steps */
-    EXPORTER_CLIP_WORDS = 8, EXPORTER_CLIPS = 256, EXPORTER_CLIP_BYTES = 48 /* words of a clip, most clips, list bytes a clip */
+    EXPORTER_CLIP_WORDS = 8, EXPORTER_CLIPS = 256, EXPORTER_CLIP_BYTES = 48, /* words of a clip, most clips, list bytes a clip */
+    EXPORTER_TRIM_LIST = 196608 /* longest list of a trimmed file, in bytes */
 };
 
 /* Whose run it is. The house reads and sets globals 0 to 63 alone; a vendor reads all and sets 64 to 255 alone. */
@@ -24,6 +25,7 @@ enum { EXPORTER_HOUSE, EXPORTER_VENDOR, EXPORTER_HOUSE_GLOBALS = 64 };
 
 /* The slots of a result. */
 enum { EXPORTER_REFUSAL, EXPORTER_LENGTH_OR_PLACE, EXPORTER_FLATTEN_SLOTS };
+enum { EXPORTER_LIST_LENGTH = 2, EXPORTER_TRIM_SLOTS };
 enum {
     EXPORTER_END, EXPORTER_NUMBER, EXPORTER_PLACE, EXPORTER_ANSWER, EXPORTER_STEPS,
     EXPORTER_ON_STACK, EXPORTER_IN_STORE, EXPORTER_IN_FRAMES, EXPORTER_RUN_SLOTS
@@ -82,6 +84,19 @@ void exporter_back(const uint8_t *file, size_t file_len,
 void exporter_join(const uint8_t *prologue, size_t prologue_len,
                    const uint8_t *file, size_t file_len,
                    uint8_t *out, size_t out_len,
+                   uint64_t *result, size_t result_len);
+
+/* Trims a tree file: orphan templates and entries that no instruction names are taken out until nothing more can go, and the rest is renumbered in its old
+   order (request 4's check is left aside). list gets a line for each template and then for each of its entries, in the old file's order: template, entry (0
+   for the template itself), and the new number or `gone`. The trimmed file is never longer than the file, a list never longer than EXPORTER_TRIM_LIST bytes.
+   result[0]: 0 accepted, else the refusal's number, 1 to 7 or 9.
+   result[1]: accepted: the trimmed file's length in bytes; refused: the place; of 9 the bytes needed, by the file's output before the list's.
+   result[2]: accepted: the list's length in bytes; refused: 0.
+   Accepted: the first result[1] bytes of out are the trimmed file, the first result[2] bytes of list the list; the others are as they were. Refused: all are.
+   result_len is 3 or more; slots after the first 3 stay. Where it is less, nothing at all is done. */
+void exporter_trim(const uint8_t *file, size_t file_len,
+                   uint8_t *out, size_t out_len,
+                   uint8_t *list, size_t list_len,
                    uint64_t *result, size_t result_len);
 
 /* Runs a tree file.

@@ -30,7 +30,7 @@ typedef struct {
 static const Lengths right_lengths = { GLOBALS, STACK, STORE, FRAMES, RESULT };
 
 static uint64_t seed, differences;
-static uint64_t flatten_tally[33], back_tally[33], join_tally[33], grouped[2], tree_tally[4][32], linear_tally[4][32];
+static uint64_t flatten_tally[33], back_tally[33], join_tally[33], trim_tally[33], trimmed_away[2], grouped[2], tree_tally[4][32], linear_tally[4][32];
 static uint64_t came_back, changed_back; /* sheets that came back from their linear file, and files with a byte changed that still go back */
 static uint64_t ends_of[2], barred[2]; /* by owner: ends that are no refusals, and those that are 25 */
 
@@ -306,6 +306,65 @@ static void compare_joining(Random *random, const File *file)
     if (chance(random, 30)) {
         generate_prologue(random, &second);
         compare_groupings(random, &prologue, &second, file);
+    }
+}
+
+/* Trimming (request 5) */
+
+/* Answers whether it was accepted. The trimmed file is then in trimmed, and result[2] is the list's length. */
+static bool trim_both(Random *random, const File *file, size_t out_len, size_t list_len, size_t result_len, File *trimmed, uint64_t plain_result[4])
+{
+    static uint8_t library_list[FILE_ROOM], plain_list[FILE_ROOM];
+    uint64_t library_result[4];
+    bool at_end = next_end(), inside;
+    memset(library_out, (int)below(random, 256), out_len);
+    memcpy(plain_out, library_out, out_len);
+    memset(library_list, (int)below(random, 256), list_len);
+    memcpy(plain_list, library_list, list_len);
+    for (unsigned i = 0; i < 4; i++)
+        library_result[i] = plain_result[i] = draw(random);
+    calling = "trim";
+    exporter_trim(lend_file(file, at_end), file->len, lend(&lent.out, library_out, out_len, at_end), out_len,
+                  lend(&lent.second, library_list, list_len, at_end), list_len,
+                  lend(&lent.result, library_result, result_len * sizeof(uint64_t), at_end), result_len);
+    check_file(file);
+    inside = take_back(&lent.out, library_out);
+    inside = take_back(&lent.second, library_list) && inside;
+    inside = take_back(&lent.result, library_result) && inside;
+    plain_trim(file->bytes, file->len, plain_out, out_len, plain_list, list_len, plain_result, result_len);
+    if ((!inside || memcmp(library_result, plain_result, sizeof library_result) != 0 || memcmp(library_out, plain_out, out_len) != 0
+         || memcmp(library_list, plain_list, list_len) != 0) && differs("trim")) {
+        printf("  out_len %zu, list_len %zu, result_len %zu%s\n", out_len, list_len, result_len, inside ? "" : ", written beside what was lent");
+        tell_results("library", library_result, 4);
+        tell_results("plain  ", plain_result, 4);
+        dump("file", file->bytes, file->len);
+    }
+    if (result_len < 3)
+        return false;
+    trim_tally[plain_result[0]]++;
+    trimmed->len = plain_result[0] == 0 ? plain_result[1] : 0;
+    memcpy(trimmed->bytes, library_out, trimmed->len);
+    return plain_result[0] == 0;
+}
+
+/* The trimmed file trimmed again is the same file, and request 4 does not refuse it. */
+static void compare_trimming(Random *random, const File *file)
+{
+    static File trimmed, again;
+    uint64_t result[4], other[4];
+    if (!trim_both(random, file, 65536, 196608, 3, &trimmed, result))
+        return;
+    trimmed_away[trimmed.len < file->len]++;
+    trim_both(random, file, trimmed.len, result[2], 4, &again, other);
+    trim_both(random, file, trimmed.len - 1, chance(random, 50) ? 196608 : 0, 3, &again, other);
+    trim_both(random, file, trimmed.len, result[2] - 1, 3, &again, other);
+    if (chance(random, 5))
+        trim_both(random, file, 65536, 196608, below(random, 3), &again, other);
+    bool same = trim_both(random, &trimmed, 65536, 196608, 3, &again, other) && again.len == trimmed.len && memcmp(again.bytes, trimmed.bytes, again.len) == 0;
+    convert_both(&flattening, random, &trimmed, 262144, 2, other);
+    if ((!same || (other[0] != 0 && other[0] != 8)) && differs("request 5: the trimmed file")) {
+        dump("file", file->bytes, file->len);
+        dump("trimmed", trimmed.bytes, trimmed.len);
     }
 }
 
@@ -589,6 +648,8 @@ static void compare_sheet(Random *random)
         compare_bad_start(random, &sheet, globals, true);
     if (chance(random, 20))
         compare_joining(random, &sheet);
+    if (chance(random, 40))
+        compare_trimming(random, &sheet);
     if (flat.len > 0 && chance(random, 60)) {
         damage(random, &flat);
         compare_linear(random, &flat, globals, owner);
@@ -638,6 +699,11 @@ static void print_tallies(void)
     for (unsigned n = 0; n < 33; n++)
         if (join_tally[n] > 0)
             printf(" %u x%" PRIu64, n, join_tally[n]);
+    printf("\ntrim:");
+    for (unsigned n = 0; n < 33; n++)
+        if (trim_tally[n] > 0)
+            printf(" %u x%" PRIu64, n, trim_tally[n]);
+    printf("; shorter x%" PRIu64 ", as long x%" PRIu64, trimmed_away[1], trimmed_away[0]);
     printf("; groupings refused x%" PRIu64 ", accepted x%" PRIu64 "\n", grouped[0], grouped[1]);
     print_tally("tree", tree_tally);
     print_tally("linear", linear_tally);
@@ -673,6 +739,9 @@ static bool all_came_up(void)
         all = all && back_tally[backs[i]] > 0;
     for (unsigned n = 0; n < 10; n++)
         all = all && (join_tally[n] > 0 || n == 8);
+    for (unsigned n = 0; n <= 9; n++)
+        all = all && (trim_tally[n] > 0 || n == 8);
+    all = all && trimmed_away[0] > 0 && trimmed_away[1] > 0;
     all = all && join_tally[30] > 0 && grouped[0] > 0 && grouped[1] > 0;
     return all && all_ends_came_up(tree_tally, true) && all_ends_came_up(linear_tally, false);
 }

@@ -1,6 +1,7 @@
 #include "plain.h"
 
 #include <stdbool.h>
+#include <stdio.h>
 #include <string.h>
 
 enum {
@@ -680,6 +681,130 @@ void plain_join(const uint8_t *prologue, size_t prologue_len, const uint8_t *fil
     memcpy(out, joined_file, length);
     result[0] = 0;
     result[1] = length;
+}
+
+/* Trimming (request 5): round after round the templates other than 0 that no closure of a template still there names are taken out, until a round takes none;
+   then the entries that no instruction of their template names. The rest keeps its order. */
+
+static uint8_t trim_list[TEMPLATES * INDICES * 12];
+
+/* Marks the entries that instructions of the list name. */
+static void mark_named(const Node *node, bool *named)
+{
+    for (; node != NULL; node = node->next) {
+        if (named_kind[node->code] != NO_KIND)
+            named[node->n1] = true;
+        mark_named(node->first, named);
+        mark_named(node->second, named);
+    }
+}
+
+/* Takes out the orphans of one round; whether there were any. */
+static bool take_orphans_out(bool there[], bool named[][INDICES])
+{
+    bool closed[TEMPLATES] = { true }, any = false;
+    for (unsigned t = 0; t < templates; t++)
+        for (unsigned n = 1; there[t] && n < INDICES; n++)
+            if (named[t][n] && kinds[t][n] == TEMPLATE_NUMBER)
+                closed[held[t][n]] = true;
+    for (unsigned t = 0; t < templates; t++)
+        if (there[t] && !closed[t]) {
+            there[t] = false;
+            any = true;
+        }
+    return any;
+}
+
+static unsigned entry_width(uint64_t place)
+{
+    if (bits_at(place, 2) != CONSTANT)
+        return 10;
+    uint64_t tag = bits_at(place + 2, 3);
+    return tag == NARROW_TAG ? 5 + NARROW_BITS : tag == WIDE_TAG ? 5 + INTEGER_BITS : 5;
+}
+
+static void renumber_list(Node *node, const unsigned *new_index)
+{
+    for (; node != NULL; node = node->next) {
+        if (named_kind[node->code] != NO_KIND)
+            node->n1 = (uint8_t)new_index[node->n1];
+        renumber_list(node->first, new_index);
+        renumber_list(node->second, new_index);
+    }
+}
+
+static uint8_t *put_list_line(uint8_t *to, unsigned template, unsigned entry, bool stays, unsigned number)
+{
+    char line[32];
+    int length = stays ? snprintf(line, sizeof line, "%u %u %u\n", template, entry, number) : snprintf(line, sizeof line, "%u %u gone\n", template, entry);
+    memcpy(to, line, (size_t)length);
+    return to + length;
+}
+
+static size_t write_trimmed(const uint8_t *file, const bool there[], bool named[][INDICES])
+{
+    unsigned new_number[TEMPLATES], count = 0;
+    uint8_t *line = trim_list;
+    for (unsigned t = 0; t < templates; t++)
+        new_number[t] = there[t] ? count++ : 0;
+    memset(joined_file, 0, sizeof joined_file);
+    joined_bits = 0;
+    put_bits(count, 8);
+    for (unsigned t = 0; t < templates; t++) {
+        unsigned entries = (unsigned)bits_at(trees[t].entries_from - 8, 8), left = 0, new_index[INDICES] = { 0 };
+        for (unsigned n = 1; n <= entries; n++)
+            if (named[t][n])
+                new_index[n] = ++left;
+        line = put_list_line(line, t, 0, there[t], new_number[t]);
+        for (unsigned n = 1; n <= entries; n++)
+            line = put_list_line(line, t, n, there[t] && named[t][n], new_index[n]);
+        if (!there[t])
+            continue;
+        put_bits(left, 8);
+        uint64_t place = trees[t].entries_from;
+        for (unsigned n = 1; n <= entries; place += entry_width(place), n++) {
+            if (!named[t][n])
+                continue;
+            if (kinds[t][n] == TEMPLATE_NUMBER) {
+                put_bits(TEMPLATE_NUMBER, 2);
+                put_bits(new_number[held[t][n]], 8);
+            } else {
+                copy_file_bits(file, place, place + entry_width(place));
+            }
+        }
+        renumber_list(trees[t].code.head, new_index);
+        put_list(trees[t].code.head);
+    }
+    return (size_t)(line - trim_list);
+}
+
+void plain_trim(const uint8_t *file, size_t file_len, uint8_t *out, size_t out_len, uint8_t *list, size_t list_len,
+                uint64_t *result, size_t result_len)
+{
+    if (result_len < 3)
+        return;
+    bool there[TEMPLATES], named[TEMPLATES][INDICES] = { { false } };
+    size_t length = 0, bytes = 0;
+    node_count = 0;
+    bool fits = read_templates(file, file_len) && all_closed() && all_indices_fit();
+    if (fits) {
+        for (unsigned t = 0; t < templates; t++) {
+            there[t] = true;
+            mark_named(trees[t].code.head, named[t]);
+        }
+        while (take_orphans_out(there, named))
+            ;
+        bytes = write_trimmed(file, there, named);
+        length = (size_t)((joined_bits + 7) / 8);
+        fits = (length <= out_len || refuse(9, length)) && (bytes <= list_len || refuse(9, bytes));
+    }
+    result[0] = fits ? 0 : refusal;
+    result[1] = fits ? length : refusal_place;
+    result[2] = fits ? bytes : 0;
+    if (fits) {
+        memcpy(out, joined_file, length);
+        memcpy(list, trim_list, bytes);
+    }
 }
 
 /* Linear files */

@@ -25,6 +25,14 @@ void plain_join(const uint8_t *prologue, size_t prologue_len,
                 uint8_t *out, size_t out_len,
                 uint64_t *result, size_t result_len);
 
+/* Writes a tree file without orphan templates and unnamed entries to the first bytes of out, and what became of each to the first bytes of list.
+   result[0]: 0 accepted, else the refusal's number. result[1]: the file's length, or the refusal's place. result[2]: the list's length, or 0.
+   A refusal leaves out and list as they were. Does nothing at all where result_len is below 3. */
+void plain_trim(const uint8_t *file, size_t file_len,
+                uint8_t *out, size_t out_len,
+                uint8_t *list, size_t list_len,
+                uint64_t *result, size_t result_len);
+
 /* Runs a tree file. owner 0 is the house, 1 a vendor. globals 256 cells, stack 256, store 2,048, frames 2,048.
    result[0]: how it ended: 0 halted, 1 wrong, 2 out of budget, 3 refused.
    result[1]: 0, the wrong number, 19, or the refusal's number.

@@ -24,6 +24,12 @@ void exporter_join(const uint8_t *prologue, size_t prologue_len, const uint8_t *
     plain_join(prologue, prologue_len, file, file_len, out, out_len, result, result_len);
 }
 
+void exporter_trim(const uint8_t *file, size_t file_len, uint8_t *out, size_t out_len, uint8_t *list, size_t list_len,
+                   uint64_t *result, size_t result_len)
+{
+    plain_trim(file, file_len, out, out_len, list, list_len, result, result_len);
+}
+
 void exporter_run_tree(const uint8_t *file, size_t file_len, uint64_t budget, uint64_t owner, uint64_t *globals, size_t globals_len,
                        uint64_t *stack, size_t stack_len, uint64_t *store, size_t store_len,
                        uint64_t *frames, size_t frames_len, uint64_t *result, size_t result_len)

@@ -127,7 +127,8 @@ fn write_make_cont(
 ) -> Wrote
     requires { ⌜ (length (now s) ≤ 65536) × (n < 256) × (back ≤ length (now out))
         × SavedToWrite (now s) (now marks) levels (at .0) front back ⌝ }
-    ensures { λ r. ⌜ ((w : SavedToWrite (now (s .entry)) (now (marks .entry)) levels (at .0) front back) → SavedDone n w r (now (out .entry)) (now (out .exit))) ⌝ }
+    ensures { λ r. ⌜ ((w : SavedToWrite (now (s .entry)) (now (marks .entry)) levels (at .0) front back)
+        → SavedDone n w r (now (out .entry)) (now (out .exit))) ⌝ }
 {
     let saved = measure(marks, at);
     let cut = back - saved.size;

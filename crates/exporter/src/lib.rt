@@ -12,11 +12,14 @@ ghost use Rattle.machines.specs.Runs.{lent, treeRun, linearRun};
 ghost use Rattle.pull.specs.Pull.{pulled, pulledList};
 ghost use Rattle.unflatten.specs.Back.{backed};
 ghost use Rattle.exporter.specs.Exporter.{outcomeSlots, outcomeResult, outcomeOutput, endSlots, runSlots, exported, runExported};
+ghost use Rattle.trim.specs.Function.{trimmedInto};
+ghost use Rattle.exporter.specs.Trims.{trimSlots, trimResult, trimOutput, trimLines};
 ghost use Rattle.exporter.specs.Answers.{FieldsFit, AnswerFits};
 use cells::Value;
 use files::Outcome;
 use machines::End;
 use machines::Run;
+use trim::Trimmed;
 
 // The cell of an answer.
 fn answer_cell(v: Value) -> u64
@@ -197,4 +200,41 @@ pub extern "C" fn exporter_pull_list(
     }
     let answer = pull::pull_list(clips, file, budget, list);
     put_outcome(result, answer);
+}
+
+// ---- trimming
+
+fn put_three(result: &mut [u64], a: u64, b: u64, d: u64)
+    requires { ⌜ 3 ≤ length (now result) ⌝ }
+    ensures { λ _. ⌜ now (result .exit) ≡ sets (now (result .entry)) 0 (a ∷ b ∷ d ∷ []) ⌝ }
+{
+    result[0] = a;
+    result[1] = b;
+    result[2] = d;
+}
+
+fn put_trimmed(result: &mut [u64], answer: Trimmed)
+    requires { ⌜ 3 ≤ length (now result) ⌝ }
+    ensures { λ _. ⌜ now (result .exit) ≡ sets (now (result .entry)) 0 (trimSlots answer) ⌝ }
+{
+    match answer {
+        Trimmed::Written(n, m) => put_three(result, 0, n as u64, m as u64),
+        Trimmed::Refused(n, p) => put_three(result, n as u64, p as u64, 0),
+    }
+}
+
+#[no_mangle]
+pub extern "C" fn exporter_trim(file: &[u8], out: &mut [u8], list: &mut [u8], result: &mut [u64])
+    ensures { λ _. ⌜ now (out .exit)
+        ≡ trimOutput (trimmedInto (now (file .entry)) (length (now (out .entry))) (length (now (list .entry)))) (now (out .entry)) (now (result .entry)) ⌝ }
+    ensures { λ _. ⌜ now (list .exit)
+        ≡ trimLines (trimmedInto (now (file .entry)) (length (now (out .entry))) (length (now (list .entry)))) (now (list .entry)) (now (result .entry)) ⌝ }
+    ensures { λ _. ⌜ now (result .exit)
+        ≡ trimResult (trimmedInto (now (file .entry)) (length (now (out .entry))) (length (now (list .entry)))) (now (result .entry)) ⌝ }
+{
+    if result.len() < 3 {
+        return;
+    }
+    let answer = trim::trim(file, out, list);
+    put_trimmed(result, answer);
 }

@@ -53,7 +53,15 @@ fn is_prologue(s: &[u8], table: &[u64], count: u8) -> bool
         return false;
     }
     let mut none = [0u32; 1];
-    match lists::read_list(s, table, 0, BitPlace::from_slot(table[0]), 15, Keep::Pasts, &mut none) {
+    match lists::read_list(
+        s,
+        table,
+        0,
+        BitPlace::from_slot(table[0]),
+        15,
+        Keep::Pasts,
+        &mut none,
+    ) {
         Listed::Done(_, facts) => facts.class == 1,
         Listed::Refused(_, _) => false,
     }

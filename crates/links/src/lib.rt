@@ -76,14 +76,7 @@ fn link_arms(
         (listAt (now (s .entry)) levels (second .0)) ⌝ }
 {
     set_link(links, at, second);
-    link_list(
-        s,
-        links,
-        at.past(5),
-        second.back(5),
-        past,
-        levels,
-    );
+    link_list(s, links, at.past(5), second.back(5), past, levels);
     link_list(s, links, second, past.back(5), past, levels);
 }
 

@@ -11,7 +11,7 @@ ghost use Rattle.tree_file.specs.File.{operandsBits};
 ghost use Rattle.rewrite.specs.Tokens.{operandCount, indexIn, newOperand, newOperands, operandsAt, tokensBits, renewed, TokensAt};
 
 // How many operand bytes follow a code of this shape.
-fn operand_count(shape: u8) -> usize
+pub fn operand_count(shape: u8) -> usize
     ensures { λ r. ⌜ r ≡ operandCount shape ⌝ }
 {
     match shape {

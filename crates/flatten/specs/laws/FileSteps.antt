@@ -121,7 +121,8 @@ all-flattenable all M few has front (t ∷ ts) own e l h =
     let k = lowest-none offsetTemplate own t ts h in
     let a : all ≡ (front ++ (t ∷ [])) ++ ts = e ∙ sym (append-assoc front (t ∷ []) ts) in
     let b : length (front ++ (t ∷ [])) ≡ own + 1 = length-append front (t ∷ []) ∙ omega arith in
-    (slot, k .0, subst (λ (x : Template). Has Sizes M (x .start) (x .code)) at (has own t (omega arith)), all-flattenable all M few has (front ++ (t ∷ [])) ts (own + 1) a b (k .1))
+    let has-this : Has Sizes M (t .start) (t .code) = subst (λ (x : Template). Has Sizes M (x .start) (x .code)) at (has own t (omega arith)) in
+    (slot, k .0, has-this, all-flattenable all M few has (front ++ (t ∷ [])) ts (own + 1) a b (k .1))
 
 -- ---- the flattener
 module _ (s old : List ℕ) where

@@ -74,7 +74,7 @@ module _ {s L : List ℕ} {l p : ℕ} (w : ToLink s L l p) where
       let i : m .0 ≡ p + 5 + bits (a .first) = f ∙ h .0 .0 in
       let j : q .0 ≡ p + 5 + bits (a .first) + bits (a .second) = g ∙ ap (linkAt L) i ∙ h .1 .0 in
       let n : t .next ≡ p + (5 + bits (a .first) + bits (a .second)) =
-          subst (λ (i : Instr). t .next ≡ p + bitsI i) (a .is) (next-is e o) in
+      subst (λ (i : Instr). t .next ≡ p + bitsI i) (a .is) (next-is e o) in
       let k : q .0 ≡ t .next = omega (arith, j, n) in
       (λ z. ArmsPart (place (i z)) (place (k z))) ∙ ap (λ (x : Instr). partsOf p (item x (t .next))) (sym (a .is)) ∙ ap (partsOf p) (sym (t .head))
 

@@ -66,7 +66,12 @@ module _ {s table : List ℕ} {count : ℕ} (r : FileReady s table count) where
       pub list-to-link : ToLink s L 15 (getD table (256 * own) 0)
       unfolding template
       list-to-link =
-          record { code = template .code; past = template .start + bits (template .code); read = list-is; has = rw slot-start (has own none (omega arith) within) }
+          record {
+            code = template .code;
+            past = template .start + bits (template .code);
+            read = list-is;
+            has = rw slot-start (has own none (omega arith) within);
+          }
 
       -- the lists of the templates after it keep what they have
       pub next-has : {L′ : List ℕ} → L′ ≡ linkedGot L (getD table (256 * own) 0) 0 0 (listAt s 15 (getD table (256 * own) 0))

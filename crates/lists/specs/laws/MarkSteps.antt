@@ -62,8 +62,7 @@ module _ (k : Keep) where
   pub simple-marked : (M s : List ℕ) (a v q n : ℕ) → 1 ≤ n → n ≤ 3 → headMarked k M M a (simpleAt s v q n)
   unfolding headMarked shaped
   simple-marked M s a v q n h i =
-      each (λ n. headMarked k M M a (simpleAt s v q n)) 1 3
-      (
+      each (λ n. headMarked k M M a (simpleAt s v q n)) 1 3 (
         simple-same M a v [],
         (
           with-operand M a q _ (fieldRead s q 8) (λ x z. simple-same M a v (x ∷ [])),
@@ -173,5 +172,5 @@ list-marked k table own s l M₀ M M′ p v u f inside e w m =
     let x = listed-done table own (listAt s l p) u f e in
     let b = list-bits s l p (x .0) (u .0) (x .1) in
     let z : v ≡ markOf k (x .0) (p + bits (x .0)) =
-        w ∙ ap (λ (y : Facts). markBy k y (u .0)) (sym (x .2)) ∙ mark-by k table own (x .0) (u .0) ∙ ap (markOf k (x .0)) (b .0) in
+    w ∙ ap (λ (y : Facts). markBy k y (u .0)) (sym (x .2)) ∙ mark-by k table own (x .0) (u .0) ∙ ap (markOf k (x .0)) (b .0) in
     rw (x .1) (m ∙ rw (inside (x .0) (u .0) (x .1), z) refl)

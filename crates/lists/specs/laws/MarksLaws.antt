@@ -91,8 +91,7 @@ module _ (k : Keep) where
         still-in M M′ _ r (λ i a b. s i (omega arith) (omega arith)) (h .2),
       )
   still-in M M′ p (make-cont n x r) s h =
-      let f : Same (p + 13) (p + 13 + bits x) M M′ = λ i a b. s i (omega arith) (omega arith) in
-      (
+      let f : Same (p + 13) (p + 13 + bits x) M M′ = λ i a b. s i (omega arith) (omega arith) in (
         (own-still M M′ _ x _ f (h .0 .0), still-in M M′ _ x (λ i a b. f i (omega arith) b) (h .0 .1)),
         still-in M M′ _ r (λ i a b. s i (omega arith) (omega arith)) (h .1),
       )
@@ -127,7 +126,7 @@ module _ (k : Keep) where
       let hx : Has k M₁ (p + 5) x = whole M (p + 5) x (omega arith) (marked-in M (p + 5) x (omega arith)) in
       let hy : Has k M₂ m y = whole M₁ m y (omega arith) (marked-in M₁ m y (omega arith)) in
       let s₁ : Same (p + 5) m M₁ M₃ =
-          λ i a b. inside-kept M₂ q r i (λ a′ b′. omega arith) ∙ marked-kept M₁ m y i (λ a′ b′. omega arith) in
+      λ i a b. inside-kept M₂ q r i (λ a′ b′. omega arith) ∙ marked-kept M₁ m y i (λ a′ b′. omega arith) in
       let s₂ : Same m q M₂ M₃ = λ i a b. inside-kept M₂ q r i (λ a′ b′. omega arith) in
       (still-has M₁ M₃ (p + 5) x s₁ hx, still-has M₂ M₃ m y s₂ hy, marked-in M₂ q r (omega arith))
   marked-in M p (make-cont n x r) room =

@@ -33,6 +33,11 @@ use Rattle.join.proofs.join.Kinds as join
 use Rattle.join.proofs.join.Reads as join-reads
 use Rattle.exporter.proofs.exporter_join.Kinds as exporter-join
 use Rattle.exporter.proofs.exporter_join.Reads as exporter-join-reads
+use Rattle.trim.specs.declared.Trimmed.{Trimmed}
+use Rattle.trim.proofs.trim.Kinds as trim
+use Rattle.trim.proofs.trim.Reads as trim-reads
+use Rattle.exporter.proofs.exporter_trim.Kinds as exporter-trim
+use Rattle.exporter.proofs.exporter_trim.Reads as exporter-trim-reads
 use Rattle.unflatten.proofs.back.Kinds as back
 use Rattle.unflatten.proofs.back.Reads as back-reads
 use Rattle.exporter.proofs.exporter_back.Kinds as exporter-back
@@ -136,3 +141,13 @@ join-promised κs a x e p = record { answer = p .0; output = p .1 }
 pub exporter-join-only : Only 4 exporter-join.ps exporter-join.r exporter-join-reads.Learnt {B = List ℕ × List ℕ}
     (λ κs x e. (now (e .1 .1 .0), now (e .1 .1 .1 .0)))
 exporter-join-only κs a x y e f p q = (λ i. (fixed (p .0) (q .0) i, fixed (p .1) (q .1) i))
+
+-- trim::trim(file, out, list): its answer, out and list
+pub trim-only : Only 3 trim.ps trim.r trim-reads.Learnt {B = Trimmed × (List ℕ × List ℕ)}
+    (λ κs x e. (x, (now (e .1 .0), now (e .1 .1 .0))))
+trim-only κs a x y e f p q = (λ i. (fixed (p .0) (q .0) i, (fixed (p .1 .0) (q .1 .0) i, fixed (p .1 .1) (q .1 .1) i)))
+
+-- exporter::exporter_trim(file, out, list, result): out, list and result
+pub exporter-trim-only : Only 4 exporter-trim.ps exporter-trim.r exporter-trim-reads.Learnt {B = List ℕ × (List ℕ × List ℕ)}
+    (λ κs x e. (now (e .1 .0), (now (e .1 .1 .0), now (e .1 .1 .1 .0))))
+exporter-trim-only κs a x y e f p q = (λ i. (fixed (p .0) (q .0) i, (fixed (p .1 .0) (q .1 .0) i, fixed (p .1 .1) (q .1 .1) i)))

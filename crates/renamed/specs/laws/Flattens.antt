@@ -20,10 +20,14 @@ use Rattle.readback.specs.laws.Bytes.{file-bytes}
 use Rattle.machines.specs.Fetched.{noTemplate}
 use Rattle.machines.specs.Runs.{Memory, linearRun}
 use Rattle.renamed.specs.laws.Ends.{EndAlike-renamed}
-use Rattle.renamed.specs.laws.Reindexed.{reindex, same-closed}
+use Rattle.renamed.specs.laws.Reindexed.{same-closed}
 use Rattle.renamed.specs.laws.Linears.{same-flat}
-use Rattle.renamed.specs.laws.Trim.{sift, rank, newIndex, trimTemplate, trim, Written}
-use Rattle.renamed.specs.laws.Reached.{reached, linear-reached-alike}
+use Rattle.rewrite.specs.Reindex.{reindex}
+use Rattle.trim.specs.Kept.{sift, rank}
+use Rattle.trim.specs.Trim.{newIndex, trimTemplate, trim}
+use Rattle.trim.specs.Reached.{reached}
+use Rattle.renamed.specs.laws.Trim.{Written}
+use Rattle.renamed.specs.laws.Reached.{linear-reached-alike}
 
 same-offsets : (f : ℕ → ℕ) (c : Code) → offsetsFit (reindex f c) ≡ offsetsFit c
 unfolding offsetsFit reindex

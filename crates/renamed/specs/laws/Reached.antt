@@ -22,54 +22,15 @@ use Rattle.files.specs.Valid.{Bytes}
 use Rattle.readback.specs.laws.TreeFacts.{TreeFacts, tree-facts}
 use Rattle.files.specs.laws.AcceptedLaws.{none-refused}
 use Rattle.files.specs.laws.AcceptedLaws.{checked, checked-read, flat-checked}
+use Rattle.trim.specs.Reached.{marked, reached}
+use Rattle.trim.specs.Standing.{Leads}
+use Rattle.trim.specs.laws.ReachedLaws.{or-left, or-right, Up, closes-up, marked-more}
+use Rattle.trim.specs.laws.RoundsLaws.{reached-leads}
 use Rattle.machines.specs.Fetched.{noTemplate}
 use Rattle.machines.specs.Runs.{Memory, checkedRun, linearRun}
 use Rattle.renamed.specs.laws.Reindexed.{Names}
 use Rattle.renamed.specs.laws.Ends.{EndAlike-renamed}
-use Rattle.renamed.specs.laws.Trim.{Keeps, Written, or-left, or-right, tree-trim-alike, linear-trim-alike}
-
--- ---- the definitions
--- what is marked after templates of numbers t on: k, and what those of them that are marked name
-unfoldable pub marked : ℕ → (ℕ → Bool) → List Template → ℕ → Bool
-unfolding closes
-marked t k [] u = k u
-marked t k (x ∷ ts) u = marked (t + 1) (λ v. k v || (k t && closes (x .entries) v (x .code))) ts u
-
-unfoldable pub reached : List Template → ℕ → Bool
-unfolding marked
-reached ts u = marked 0 (λ v. eqb v 0) ts u
-
--- ---- tests
-or-cases : {P : Type 0} (a b : Bool) → (a || b) ≡ true → (a ≡ true → P) → (b ≡ true → P) → P
-or-cases true b e f g = f refl
-or-cases false b e f g = g e
-
-never : {P : Type 0} → _≡_ {A = Bool} false true → P
-never e = let z : _≡_ {A = ℕ} 0 1 = cc in absurd (omega arith)
-
--- ---- templates that are named are above their own
-module _ (own T : ℕ) where
-  found-up : (es : List Entry) (n u : ℕ) → EntriesOk own T es → isTemplate u (entryOf es n) ≡ true → (own < u) × (u < T)
-  unfolding entryOf isTemplate
-  found-up es zero u k e = never e
-  found-up [] (suc n) u k e = never e
-  found-up (constant t x ∷ es) (suc zero) u k e = never e
-  found-up (global g ∷ es) (suc zero) u k e = never e
-  found-up (template t ∷ es) (suc zero) u k e = let h : t ≡ u = eqb-true t u e in omega arith
-  found-up (x ∷ es) (suc (suc n)) u k e = found-up es (suc n) u (k .1) e
-
-  closes-up : (es : List Entry) (c : Code) (u : ℕ) → EntriesOk own T es → closes es u c ≡ true → (own < u) × (u < T)
-  unfolding closes
-  closes-up es done u k e = never e
-  closes-up es (neutral op ns r) u k e =
-      or-cases (eqb op 7 && isTemplate u (entryOf es (getD ns 0 0))) (closes es u r) e
-      (λ h. found-up es (getD ns 0 0) u k (and-eq-true-iff (eqb op 7) (isTemplate u (entryOf es (getD ns 0 0))) .0 h .1)) (λ h. closes-up es r u k h)
-  closes-up es (return r) u k e = closes-up es r u k e
-  closes-up es (call m r) u k e = closes-up es r u k e
-  closes-up es (unless-false x y r) u k e =
-      or-cases (closes es u x) (closes es u y || closes es u r) e (λ h. closes-up es x u k h)
-      (λ h. or-cases (closes es u y) (closes es u r) h (λ h. closes-up es y u k h) (λ h. closes-up es r u k h))
-  closes-up es (make-cont m x r) u k e = or-cases (closes es u x) (closes es u r) e (λ h. closes-up es x u k h) (λ h. closes-up es r u k h)
+use Rattle.renamed.specs.laws.Trim.{Keeps, Written, tree-trim-alike, linear-trim-alike}
 
 -- ---- where the indices suit, a template that is named is named by a closure
 closure-names : (es : List Entry) (Q : ℕ → Type 0) (c : Code) → indicesFit es c ≡ true → ((u : ℕ) → closes es u c ≡ true → Q u)
@@ -102,38 +63,6 @@ closure-names es Q (make-cont m x r) f h =
       closure-names es Q r (k .1) (λ u e. h u (or-right (closes es u x) (closes es u r) e)),
     )
 
--- ---- marks
-abbrev Up : ℕ → Template → Type 0
-Up t x = (u : ℕ) → closes (x .entries) u (x .code) ≡ true → t < u
-
-marked-more : (t : ℕ) (k : ℕ → Bool) (ts : List Template) (u : ℕ) → k u ≡ true → marked t k ts u ≡ true
-unfolding marked
-marked-more t k [] u e = e
-marked-more t k (x ∷ ts) u e =
-    marked-more (t + 1) (λ v. k v || (k t && closes (x .entries) v (x .code))) ts u (or-left (k u) (k t && closes (x .entries) u (x .code)) e)
-
--- what is marked in the end, up to the next template's number, is marked
-marked-back : (t : ℕ) (k : ℕ → Bool) (ts : List Template) (u : ℕ) → Each Up t ts → u ≤ t → marked t k ts u ≡ true → k u ≡ true
-unfolding marked
-marked-back t k [] u up h e = e
-marked-back t k (x ∷ ts) u up h e =
-    or-cases (k u) (k t && closes (x .entries) u (x .code))
-    (marked-back (t + 1) (λ v. k v || (k t && closes (x .entries) v (x .code))) ts u (up .1) (omega arith) e)
-    (λ g. g)
-    (λ g. let l = up .0 u (and-eq-true-iff (k t) (closes (x .entries) u (x .code)) .0 g .1) in absurd (omega arith))
-
-marked-next : (t : ℕ) (k : ℕ → Bool) (ts : List Template) (i u : ℕ) → Each Up t ts → i < length ts → marked t k ts (t + i) ≡ true
-    → closes (getD ts i noTemplate .entries) u (getD ts i noTemplate .code) ≡ true → marked t k ts u ≡ true
-unfolding marked
-marked-next t k [] i u up h e c = absurd (omega arith)
-marked-next t k (x ∷ ts) zero u up h e c =
-    let z : t + 0 ≡ t = omega arith in
-    let own : k t ≡ true = rw z at (marked-back t k (x ∷ ts) (t + 0) up (omega arith) e) in
-    marked-more (t + 1) (λ v. k v || (k t && closes (x .entries) v (x .code))) ts u (or-right (k u) (k t && closes (x .entries) u (x .code)) (rw (own, c) refl))
-marked-next t k (x ∷ ts) (suc i) u up h e c =
-    let z : t + suc i ≡ t + 1 + i = omega arith in
-    marked-next (t + 1) (λ v. k v || (k t && closes (x .entries) v (x .code))) ts i u (up .1) (omega arith) (rw z at e) c
-
 -- ---- an accepted file
 -- THE LAW
 module _ (s : List ℕ) (ts : List Template) (q : ℕ) (e : treeChecked s ≡ got ts q) where
@@ -143,24 +72,28 @@ module _ (s : List ℕ) (ts : List Template) (q : ℕ) (e : treeChecked s ≡ go
   up-all : Each Up 0 ts
   up-all = each-weaker (λ n x h u c. closes-up n (length ts) (x .entries) (x .code) u (h .writable .entries-ok) c .0) 0 ts (facts .each)
 
-  pub reached-keeps : Keeps (reached ts) ts
-  unfolding reached
-  reached-keeps = record {
-    template-0 = marked-more 0 (λ v. eqb v 0) ts 0 refl;
+  -- what stays with template 0 and with what it names may stay alone
+  pub leads-keep : (keep : ℕ → Bool) → keep 0 ≡ true → Each (Leads keep) 0 ts → Keeps keep ts
+  leads-keep keep zero-stays leads = record {
+    template-0 = zero-stays;
     not-empty = facts .at-least-one;
     few = facts .at-most-64;
     named = λ t h k.
         let x : Template = getD ts t noTemplate in
         let z : 0 + t ≡ t = omega arith in
         let f = each-at _ 0 ts (facts .each) t h noTemplate in
-        closure-names (x .entries) (λ u. (marked 0 (λ v. eqb v 0) ts u ≡ true) × (u < length ts)) (x .code)
+        closure-names (x .entries) (λ u. (keep u ≡ true) × (u < length ts)) (x .code)
         (none-refused indexedTemplate 0 ts t noTemplate (checked s ts q e .indexed) h)
         (λ u c. (
-          marked-next 0 (λ v. eqb v 0) ts t u up-all h (rw z k) c,
+          each-at (Leads keep) 0 ts leads t h noTemplate (rw z k) u c,
           closes-up (0 + t) (length ts) (x .entries) (x .code) u
               (f .writable .entries-ok) c .1,
         ));
   }
+
+  pub reached-keeps : Keeps (reached ts) ts
+  unfolding reached
+  reached-keeps = leads-keep (reached ts) (marked-more 0 (λ v. eqb v 0) ts 0 refl) (reached-leads ts up-all)
 
   -- the file with only these templates, and only the entries that are named, ends alike on the tree machine
   pub tree-reached-alike : (s′ : List ℕ) (ts′ : List Template) {q′ : ℕ} → Written (reached ts) ts ts′ → treeChecked s′ ≡ got ts′ q′

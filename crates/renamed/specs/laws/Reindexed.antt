@@ -12,26 +12,14 @@ use borrow.Author.Tests.{eqb-true, leb-true, leb-false}
 use Rattle.files.specs.Code.{Code, done, neutral, return, call, unless-false, make-cont, bits}
 use Rattle.files.specs.Entries.{Entry, constant, global, template}
 use Rattle.files.specs.Grammar.{isEmpty, isOpen, isClosed, entryOf}
+use Rattle.rewrite.specs.Reindex.{reindexed, reindex}
 use Rattle.rules.specs.declared.Plain.{Plain}
 use Rattle.rules.specs.declared.Plain.the-variants.{Global, SetGlobal}
 use Rattle.machines.specs.Fetched.{namedBy, asLiteral, asClosure, asGlobal, ruleOf, resolve}
 use Rattle.renamed.specs.laws.Renaming.{Renaming, renamed}
 use Rattle.lockstep.specs.laws.Plain.{PlainLike, closureI, globalI, setGlobalI, sameI}
 
--- ---- the definitions
--- f: the new index of an entry. Codes up to 9 name an entry.
-unfoldable pub reindexed : (ℕ → ℕ) → ℕ → List ℕ → List ℕ
-reindexed f op ns = cond (leb op 9) (map f ns) ns
-
-unfoldable pub reindex : (ℕ → ℕ) → Code → Code
-unfolding reindexed
-reindex f done = done
-reindex f (neutral op ns r) = neutral op (reindexed f op ns) (reindex f r)
-reindex f (return r) = return (reindex f r)
-reindex f (call n r) = call n (reindex f r)
-reindex f (unless-false x y r) = unless-false (reindex f x) (reindex f y) (reindex f r)
-reindex f (make-cont n x r) = make-cont n (reindex f x) (reindex f r)
-
+-- ---- the definition
 -- P of each index that the code names
 unfoldable pub Names : (ℕ → Type 0) → Code → Type 0
 Names P done = Unit

@@ -15,10 +15,12 @@ use lib.ListN.{getD}
 use Rattle.machines.specs.Fetched.{noTemplate}
 use Rattle.machines.specs.Runs.{Memory, checkedRun}
 use Rattle.renamed.specs.laws.Ends.{EndAlike-renamed}
-use Rattle.renamed.specs.laws.Reindexed.{reindexed, reindex}
-use Rattle.renamed.specs.laws.Trim.{sift, rank, names, newIndex, renumber, trimTemplate, trim}
+use Rattle.rewrite.specs.Reindex.{reindexed, reindex}
+use Rattle.trim.specs.Kept.{sift, rank}
+use Rattle.trim.specs.Trim.{names, newIndex, renumber, trimTemplate, trim}
+use Rattle.trim.specs.Reached.{marked, reached}
 use Rattle.files.specs.Orphans.{isTemplate, closes}
-use Rattle.renamed.specs.laws.Reached.{marked, reached, tree-reached-alike}
+use Rattle.renamed.specs.laws.Reached.{tree-reached-alike}
 
 -- template 0: entries 7, template 2, global 5; closure 2, push, global 3, return. Template 1, an orphan: global 9; return. Template 2: return.
 abbrev sheet : List ℕ

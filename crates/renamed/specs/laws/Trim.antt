@@ -1,5 +1,5 @@
--- Templates trimmed (request 5): some templates and the entries that no instruction names are taken out, and the rest is renumbered in its old
--- order. Where template 0 stays and what the templates that stay name stays too, the trimmed file ends alike. Assumes nothing.
+-- Templates trimmed (request 5; definitions in the crate trim). Where template 0 stays and what the templates that stay name stays too,
+-- the trimmed file ends alike. Assumes nothing.
 use mathlib.Core.Path.{_≡_, refl, sym, ap, _∙_}
 use mathlib.Core.Bool.{Bool, true, false, cond, _&&_, _||_}
 use mathlib.Core.List.{List, [], _∷_, map}
@@ -17,129 +17,21 @@ use Rattle.files.specs.Reading.{got}
 use Rattle.files.specs.Linear.{linearFile}
 use Rattle.files.specs.Accepted.{treeChecked, flatChecked}
 use Rattle.files.specs.Valid.{Bytes}
-use Rattle.rules.specs.laws.Lists.{by-lt}
+use Rattle.trim.specs.Kept.{sift, rank}
+use Rattle.trim.specs.Trim.{names, newIndex, renumber, trimTemplate, trim}
+use Rattle.trim.specs.laws.KeptLaws.{rank-most}
+use Rattle.trim.specs.laws.ReachedLaws.{or-left, or-right}
+use Rattle.rewrite.specs.Reindex.{reindex}
 use Rattle.machines.specs.Fetched.{noTemplate}
 use Rattle.machines.specs.Runs.{Memory, checkedRun, linearRun}
 use Rattle.renamed.specs.laws.Renaming.{Renaming}
-use Rattle.renamed.specs.laws.Reindexed.{reindex, Names, EntryR, noneE, constantE, globalE, templateE}
+use Rattle.renamed.specs.laws.Ranks.{sift-at, entry-at, rank-one}
+use Rattle.renamed.specs.laws.Reindexed.{Names, EntryR, noneE, constantE, globalE, templateE}
 use Rattle.renamed.specs.laws.Ends.{EndAlike-renamed}
 use Rattle.renamed.specs.laws.Trees.{TemplateR, Trimmed, tree-trimmed-alike}
 use Rattle.renamed.specs.laws.Linears.{linear-trimmed-alike}
 
--- ---- what is kept, and its new number
--- those of a list whose numbers, counted from n on, are kept
-unfoldable pub sift : {A : Type 0} → (ℕ → Bool) → ℕ → List A → List A
-sift k n [] = []
-sift k n (x ∷ xs) = cond (k n) (x ∷ sift k (suc n) xs) (sift k (suc n) xs)
-
--- how many of the m numbers from n on are kept
-unfoldable pub rank : (ℕ → Bool) → ℕ → ℕ → ℕ
-rank k n zero = 0
-rank k n (suc m) = cond (k n) (suc (rank k (suc n) m)) (rank k (suc n) m)
-
--- ---- the trimmed templates
--- an instruction of the list names entry n
-unfoldable pub names : ℕ → Code → Bool
-names n done = false
-names n (neutral op ns r) = (leb op 9 && eqb (getD ns 0 0) n) || names n r
-names n (return r) = names n r
-names n (call m r) = names n r
-names n (unless-false x y r) = names n x || (names n y || names n r)
-names n (make-cont m x r) = names n x || names n r
-
--- entries are numbered from 1
-unfoldable pub newIndex : Code → ℕ → ℕ
-unfolding names rank
-newIndex c zero = 0
-newIndex c (suc i) = suc (rank (λ j. names (suc j) c) 0 i)
-
-unfoldable pub renumber : (ℕ → ℕ) → Entry → Entry
-renumber r (constant t x) = constant t x
-renumber r (global g) = global g
-renumber r (template t) = template (r t)
-
-unfoldable pub trimTemplate : (ℕ → ℕ) → Template → Template
-unfolding renumber sift names newIndex reindex
-trimTemplate r t = record {
-  entries = map (renumber r) (sift (λ j. names (suc j) (t .code)) 0 (t .entries));
-  start = t .start;
-  code = reindex (newIndex (t .code)) (t .code);
-}
-
--- keep: the templates that stay
-unfoldable pub trim : (ℕ → Bool) → List Template → List Template
-unfolding rank sift trimTemplate
-trim keep ts = map (trimTemplate (rank keep 0)) (sift keep 0 ts)
-
--- ---- laws of what is kept
-module _ (k : ℕ → Bool) where
-  sift-at : {A : Type 0} (d : A) (xs : List A) (n i : ℕ) → i < length xs → k (n + i) ≡ true → getD (sift k n xs) (rank k n i) d ≡ getD xs i d
-  unfolding sift rank
-  sift-at d [] n i h e = absurd (omega arith)
-  sift-at d (x ∷ xs) n zero h e = let z : n + 0 ≡ n = omega arith in rw (rw z at e) refl
-  sift-at d (x ∷ xs) n (suc i) h e = pick (k n) (sift-at d xs (suc n) i (omega arith) (rw s at e))
-    where
-      s : n + suc i ≡ suc n + i
-      s = omega arith
-
-      pick : (b : Bool) → getD (sift k (suc n) xs) (rank k (suc n) i) d ≡ getD xs i d
-          → getD (cond b (x ∷ sift k (suc n) xs) (sift k (suc n) xs)) (cond b (suc (rank k (suc n) i)) (rank k (suc n) i)) d ≡ getD xs i d
-      pick true h = h
-      pick false h = h
-
-  entry-at : (es : List Entry) (n i : ℕ) → k (n + i) ≡ true → entryOf (sift k n es) (suc (rank k n i)) ≡ entryOf es (suc i)
-  unfolding sift rank entryOf
-  entry-at [] n i e = refl
-  entry-at (x ∷ es) n zero e = let z : n + 0 ≡ n = omega arith in rw (rw z at e) refl
-  entry-at (x ∷ es) n (suc i) e = pick (k n) (entry-at es (suc n) i (rw s at e))
-    where
-      s : n + suc i ≡ suc n + i
-      s = omega arith
-
-      pick : (b : Bool) → entryOf (sift k (suc n) es) (suc (rank k (suc n) i)) ≡ entryOf es (suc i)
-          → entryOf (cond b (x ∷ sift k (suc n) es) (sift k (suc n) es)) (suc (cond b (suc (rank k (suc n) i)) (rank k (suc n) i))) ≡ entryOf es (suc i)
-      pick true h = h
-      pick false h = h
-
-  -- what is kept further on has a greater number
-  rank-grows : (n i j : ℕ) → i < j → k (n + i) ≡ true → rank k n i < rank k n j
-  unfolding rank
-  rank-grows n i zero h e = absurd (omega arith)
-  rank-grows n zero (suc j) h e = let z : n + 0 ≡ n = omega arith in rw (rw z at e) (omega arith)
-  rank-grows n (suc i) (suc j) h e = pick (k n) (rank-grows (suc n) i j (omega arith) (rw s at e))
-    where
-      s : n + suc i ≡ suc n + i
-      s = omega arith
-
-      pick : (b : Bool) → rank k (suc n) i < rank k (suc n) j
-          → cond b (suc (rank k (suc n) i)) (rank k (suc n) i) < cond b (suc (rank k (suc n) j)) (rank k (suc n) j)
-      pick true h = omega arith
-      pick false h = h
-
-  pub rank-most : (n m : ℕ) → rank k n m ≤ m
-  unfolding rank
-  rank-most n zero = omega arith
-  rank-most n (suc m) = pick (k n) (rank-most (suc n) m)
-    where
-      pick : (b : Bool) → rank k (suc n) m ≤ m → cond b (suc (rank k (suc n) m)) (rank k (suc n) m) ≤ suc m
-      pick true h = omega arith
-      pick false h = omega arith
-
-  pub rank-one : (i j : ℕ) → k i ≡ true → k j ≡ true → rank k 0 i ≡ rank k 0 j → i ≡ j
-  rank-one i j e e′ h =
-      let z : (n : ℕ) → 0 + n ≡ n = λ n. omega arith in
-      by-lt i j
-      (λ l. let g = rank-grows 0 i j l (rw (z i) e) in absurd (omega arith))
-      (λ l. by-lt j i (λ l. let g = rank-grows 0 j i l (rw (z j) e′) in absurd (omega arith)) (λ l′. omega arith))
-
 -- ---- what a list names
-pub or-left : (a b : Bool) → a ≡ true → (a || b) ≡ true
-or-left a b e = rw e refl
-
-pub or-right : (a b : Bool) → b ≡ true → (a || b) ≡ true
-or-right true b e = refl
-or-right false b e = e
-
 named-all : (c : Code) (Q : ℕ → Type 0) → ((n : ℕ) → names n c ≡ true → Q n) → Names Q c
 unfolding names Names
 named-all done Q h = tt

@@ -206,3 +206,7 @@ module _ {s : List ℕ} {p : ℕ} (c : Code) (v : Valid c) (h : Stands s p (list
         here = rw list-is h;
         size = ap length list-is ∙ list-length c;
       }
+
+  pub list-all : listAt .all ≡ tokens c (end ∷ [])
+  unfolding listAt
+  list-all = refl

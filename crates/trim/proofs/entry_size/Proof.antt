@@ -1,0 +1,38 @@
+-- `trim::entry_size` meets its contract. Assumes nothing.
+use Rattle.trim.specs.laws.EntryLaws.{size-other, size-narrow, size-wide, size-plain}
+use borrow.Author.Needs.{needs}
+use Rattle.trim.proofs.entry_size.Statement.{statement}
+use Rattle.trim.proofs.entry_size.Tie as tie
+
+bits-at-requires : tie.Need-bits-at-requires
+bits-at-requires c κs = search needs
+
+returns : tie.Need-returns
+returns c = λ size w. size-other w _ (c .before .bits-at .ensures .0) (c .if1 .taken)
+
+past-requires : tie.Need-past-requires
+past-requires c κs = search needs
+
+bits-at-requires-2 : tie.Need-bits-at-requires-2
+bits-at-requires-2 c κs = search needs
+
+returns-2 : tie.Need-returns-2
+returns-2 c = λ size w. size-narrow w _ (c .before .before .before .before .bits-at .ensures .0) (c .before .before .before .if1 .left) _ _ (c .before .before .past .ensures) (c .before .bits-at2 .ensures .0) (c .if2 .taken)
+
+returns-3 : tie.Need-returns-3
+returns-3 c = λ size w. size-wide w _ (c .before .before .before .before .before .bits-at .ensures .0) (c .before .before .before .before .if1 .left) _ _ (c .before .before .before .past .ensures) (c .before .before .bits-at2 .ensures .0) (c .if3 .taken)
+
+returns-4 : tie.Need-returns-4
+returns-4 c = λ size w. size-plain w _ (c .before .before .before .before .before .bits-at .ensures .0) (c .before .before .before .before .if1 .left) _ _ (c .before .before .before .past .ensures) (c .before .before .bits-at2 .ensures .0) (c .before .if2 .left) (c .if3 .left)
+
+pub entry-size-spec : {M : Type 1} → statement M
+entry-size-spec =
+    tie.close
+    (tie.spec
+    bits-at-requires
+    returns
+    past-requires
+    bits-at-requires-2
+    returns-2
+    returns-3
+    returns-4)

@@ -1,0 +1,65 @@
+-- `trim::put_template` meets its contract. Assumes nothing.
+use native.Mathlib.Omega.{arith}
+use mathlib.Core.Path.{ap, _∙_}
+use lib.ListN.{length}
+use Rattle.bit_writer.specs.laws.Laws.{put-length}
+use Rattle.trim.specs.laws.MarkLaws.{span-tokens}
+use Rattle.trim.specs.laws.TemplateLaws.{count-few, span-places, template-room, template-entries, template-put}
+use borrow.Author.Needs.{needs}
+use Rattle.trim.proofs.put_template.Statement.{statement}
+use Rattle.trim.proofs.put_template.Tie as tie
+
+put-field-requires : tie.Need-put-field-requires
+put-field-requires c κs = let p = c .before .before .before .before .before .before .before .before .pre in
+    let w = p .1 in
+    let r = template-room w (p .0 .0) in (omega (arith, p .0 .3), omega arith, omega (arith, c .before .before .before .before .before .before .before .before .fits .left), omega (arith, r, p .0 .3, p .0 .4))
+
+past-requires : tie.Need-past-requires
+past-requires c κs = let p = c .before .before .before .before .before .before .before .before .before .before .before .pre in
+    let w = p .1 in
+    let r = template-room w (p .0 .0) in omega (arith, r)
+
+put-entries-requires : tie.Need-put-entries-requires
+put-entries-requires c κs = let p = c .before .before .before .before .before .before .before .before .before .before .before .before .before .pre in
+    let w = p .1 in
+    let r = template-room w (p .0 .0) in
+    let d = c .before .before .before .before .put-field .ensures in
+    ((p .0 .0, p .0 .1, p .0 .2, ap length (d .1) ∙ put-length _ _ _ ∙ p .0 .3, count-few w), template-entries w _ _ (p .0 .0) (c .before .past2 .ensures) (omega (arith, d .0, p .0 .4)))
+
+since-requires : tie.Need-since-requires
+since-requires c κs = let q = span-places (c .before .before .before .before .before .before .before .before .before .before .before .before .before .before .before .before .pre .1) in omega (arith, q)
+
+rewrite-requires : tie.Need-rewrite-requires
+rewrite-requires c κs = let p = c .before .before .before .before .before .before .before .before .before .before .before .before .before .before .before .before .before .before .pre in
+    let w = p .1 in
+    let r = template-room w (p .0 .0) in
+    let d = c .before .before .before .before .before .before .before .before .before .put-field .ensures in
+    let q = span-places w in
+    let e = c .before .before .before .before .put-entries .ensures (template-entries w _ _ (p .0 .0) (c .before .before .before .before .before .before .past2 .ensures) (omega (arith, d .0, p .0 .4))) in
+    let l = c .before .before .before .before .put-entries .kept .1 .1 .1 .1 .1 .0 in
+    let m = ap length (d .1) ∙ put-length _ _ _ ∙ p .0 .3 in
+    ((omega (arith, p .0 .0), omega (arith, l, m), p .0 .2, omega (arith, l, m, r, q, d .0, e .0, p .0 .4, c .before .since .ensures)), rw (c .before .since .ensures) (span-tokens w))
+
+same-length : tie.Need-same-length
+same-length c = search needs
+
+returns : tie.Need-returns
+returns c = λ w is counted.
+    let p = c .before .before .before .before .before .before .before .before .before .before .before .before .before .before .before .before .before .before .before .before .before .pre in
+    let d = c .before .before .before .before .before .before .before .before .before .before .before .before .put-field .ensures in
+    let e = c .before .before .before .before .before .before .before .put-entries .ensures (template-entries w _ _ (p .0 .0) (c .before .before .before .before .before .before .before .before .before .past2 .ensures) (omega (arith, d .0, p .0 .4))) in
+    let k = c .before .before .rewrite .ensures in
+    let m = rw (c .before .before .before .before .since .ensures) at (k .1) in
+    template-put w _ _ is _ counted _ _ _ _ _ _ _ _ _ (p .0 .0) (p .0 .4) (c .before .before .before .before .since .ensures) (d .1) (d .0) (e .0) (e .1) (m (span-tokens w)) (k .0)
+
+pub put-template-spec : {M : Type 1} → statement M
+put-template-spec =
+    tie.close
+    (tie.spec
+    put-field-requires
+    past-requires
+    put-entries-requires
+    since-requires
+    rewrite-requires
+    same-length
+    returns)
