@@ -77,6 +77,17 @@ void exporter_back(const uint8_t *file, size_t file_len,
                    uint8_t *out, size_t out_len,
                    uint64_t *result, size_t result_len);
 
+/* Tabulates a basic file: one list in basic byte code, whose instructions carry their constants, global numbers and templates, and its padding. The tabulated
+   file is a tree file of at most EXPORTER_TREE_FILE bytes.
+   result[0]: 0 accepted, else the refusal's number: 1 to 6 as of a tree file; 26: more than 255 entries, 64 templates or 65,536 tabulated bytes; 9.
+   result[1]: accepted: the tabulated file's length in bytes; refused: the place; of 6 the lowest template, by the tabulator's numbers, whose list is not
+   closed (it may be above 255); of 26 place 0; of 9 the bytes needed.
+   Accepted: the first result[1] bytes of out are the tabulated file, the others are as they were. Refused: all of out is.
+   result_len is 2 or more; slots after the first 2 stay. Where it is less, nothing at all is done. */
+void exporter_tabulate(const uint8_t *basic, size_t basic_len,
+                       uint8_t *out, size_t out_len,
+                       uint64_t *result, size_t result_len);
+
 /* Joins a prologue and a tree file: a prologue has one template and an open list, and so may the file.
    result[0]: 0 accepted, else the refusal's number, 1 to 7, 9 or 30.
    result[1]: accepted: the joined file's length in bytes; refused: the place.

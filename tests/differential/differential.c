@@ -699,12 +699,13 @@ static void print_tallies(void)
     for (unsigned n = 0; n < 33; n++)
         if (join_tally[n] > 0)
             printf(" %u x%" PRIu64, n, join_tally[n]);
-    printf("\ntrim:");
+    printf("; groupings refused x%" PRIu64 ", accepted x%" PRIu64 "\n", grouped[0], grouped[1]);
+    printf("trim:");
     for (unsigned n = 0; n < 33; n++)
         if (trim_tally[n] > 0)
             printf(" %u x%" PRIu64, n, trim_tally[n]);
     printf("; shorter x%" PRIu64 ", as long x%" PRIu64, trimmed_away[1], trimmed_away[0]);
-    printf("; groupings refused x%" PRIu64 ", accepted x%" PRIu64 "\n", grouped[0], grouped[1]);
+    printf("\n");
     print_tally("tree", tree_tally);
     print_tally("linear", linear_tally);
     printf("house: ended x%" PRIu64 ", 25 x%" PRIu64 "; vendor: ended x%" PRIu64 ", 25 x%" PRIu64 "\n", ends_of[HOUSE], barred[HOUSE], ends_of[VENDOR],

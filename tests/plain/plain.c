@@ -343,6 +343,84 @@ static uint32_t flat_length(const Node *node)
 
 static bool read_list(unsigned t, unsigned level, List *list);
 
+/* Basic byte code (request 6): literal carries its constant, global and set-global! a number, closure a list. */
+
+typedef struct {
+    unsigned width; /* of the entry's bits in a table */
+    uint64_t bits;
+} Carried;
+
+static bool reading_basic;
+static Carried carried[TEMPLATES][INDICES]; /* the entries of a template, by first use */
+static unsigned carried_count[TEMPLATES];
+static bool too_many_entries;
+static uint64_t tabulated_bits;
+static Category basic_lists[TREE_LIMIT * 8 / 5 + 1]; /* of each template's list */
+
+/* An entry of template t, unless it has it. Of a 65th template none is kept: there may be no more than 64. */
+static void use_entry(unsigned t, unsigned width, uint64_t bits)
+{
+    if (t >= TEMPLATES)
+        return;
+    for (unsigned n = 0; n < carried_count[t]; n++)
+        if (carried[t][n].width == width && carried[t][n].bits == bits)
+            return;
+    if (carried_count[t] == INDICES - 1) {
+        too_many_entries = true;
+        return;
+    }
+    carried[t][carried_count[t]++] = (Carried){ width, bits };
+    tabulated_bits += width;
+}
+
+static bool read_literal(Node *node, unsigned t)
+{
+    uint32_t kind;
+    uint64_t from = at;
+    if (!field(2, &kind))
+        return false;
+    if (kind != CONSTANT)
+        return refuse(3, at - 2);
+    if (!read_constant(&node->held))
+        return false;
+    use_entry(t, (unsigned)(at - from), bits_at(from, (unsigned)(at - from)));
+    return true;
+}
+
+static bool read_closure(Node *node, unsigned t, unsigned level)
+{
+    List list = { 0 };
+    unsigned number = templates++;
+    node->held = number;
+    use_entry(t, 10, (uint64_t)number << 10 | TEMPLATE_NUMBER << 8);
+    if (number < TEMPLATES)
+        carried_count[number] = 0;
+    if (!read_list(number, level + 1, &list))
+        return false;
+    basic_lists[number] = list.category;
+    if (number < TEMPLATES)
+        trees[number].code = list;
+    return true;
+}
+
+/* What a code of basic code carries; in a table it would have an index of eight bits. */
+static bool read_carried(Node *node, unsigned t, unsigned level)
+{
+    uint32_t number;
+    tabulated_bits += 5 + 8 * (node->code >= LITERAL && node->code <= SET_GLOBAL ? 1 : tree_operands(node->code));
+    if (node->code == LITERAL)
+        return read_literal(node, t);
+    if (node->code == CLOSURE)
+        return read_closure(node, t, level);
+    if (node->code != GLOBAL && node->code != SET_GLOBAL)
+        return read_operands(node, t);
+    if (!field(8, &number))
+        return false;
+    node->held = number;
+    use_entry(t, 10, (uint64_t)GLOBAL_NUMBER << 8 | number);
+    return true;
+}
+
 static bool read_inner_lists(Node *node, unsigned t, unsigned level, Progress *p)
 {
     List first = { 0 }, second = { 0 };
@@ -376,17 +454,18 @@ static bool read_list(unsigned t, unsigned level, List *list)
             break;
         if (!is_tree_code(code))
             return refuse(3, at - 5);
-        if (level == LAST_LEVEL && (code == CONDITIONAL || code == MAKE_CONT))
+        if (level == LAST_LEVEL && (code == CONDITIONAL || code == MAKE_CONT || (reading_basic && code == CLOSURE)))
             return refuse(4, at - 5);
         Node *node = &nodes[node_count++];
         node->code = (uint8_t)code;
-        if (!read_operands(node, t) || !read_inner_lists(node, t, level, &progress))
+        if (!(reading_basic ? read_carried(node, t, level) : read_operands(node, t)) || !read_inner_lists(node, t, level, &progress))
             return false;
         *link = node;
         link = &node->next;
         list->length += flat_length(node);
     }
     *link = NULL;
+    tabulated_bits += 5;
     list->category = category_of(&progress);
     return true;
 }
@@ -446,6 +525,31 @@ static bool read_tree(const uint8_t *file, size_t len)
 {
     node_count = 0;
     return read_templates(file, len) && all_closed() && all_indices_fit() && no_orphan();
+}
+
+/* A basic file: one list. 1 to 6, and 26: more than 255 entries, 64 templates or 65,536 tabulated bytes (T and each E have eight bits, code 0 five). */
+static bool read_basic(const uint8_t *file, size_t len)
+{
+    node_count = 0;
+    templates = 1;
+    carried_count[0] = 0;
+    too_many_entries = false;
+    tabulated_bits = 8;
+    if (!open_file(file, len, TREE_LIMIT))
+        return false;
+    reading_basic = true;
+    bool read = read_list(0, 1, &trees[0].code);
+    reading_basic = false;
+    if (!read || !padding() || !nothing_more())
+        return false;
+    basic_lists[0] = trees[0].code.category;
+    for (unsigned t = 0; t < templates; t++)
+        if (basic_lists[t] != CLOSED_LIST)
+            return refuse(6, t);
+    tabulated_bits += 8 * (uint64_t)templates;
+    if (templates > TEMPLATES || too_many_entries || (tabulated_bits + 7) / 8 > TREE_LIMIT)
+        return refuse(26, 0);
+    return true;
 }
 
 /* Flattening, into a buffer of our own: a refusal must leave the caller's as it was. */
@@ -1337,15 +1441,16 @@ static void tell_ended(const Machine *m, uint64_t *result)
     result[7] = m->in_frames;
 }
 
-void plain_run_tree(const uint8_t *file, size_t file_len, uint64_t budget, uint64_t owner, uint64_t *globals, size_t globals_len,
-                    uint64_t *stack, size_t stack_len, uint64_t *store, size_t store_len,
-                    uint64_t *frames, size_t frames_len, uint64_t *result, size_t result_len)
+/* Of a tree file or of a basic file: the machine's nodes are the same, and a saved place is a bit number in the file that is run. */
+static void run_nodes(bool (*read)(const uint8_t *, size_t), const uint8_t *file, size_t file_len, uint64_t budget, uint64_t owner, uint64_t *globals,
+                      size_t globals_len, uint64_t *stack, size_t stack_len, uint64_t *store, size_t store_len,
+                      uint64_t *frames, size_t frames_len, uint64_t *result, size_t result_len)
 {
     bool lengths_fit = globals_len == GLOBALS && stack_len == STACK && store_len == STORE && frames_len == FRAMES;
     Machine m = { .globals = globals, .stack = stack, .store = store, .frames = frames, .vendor = owner == VENDOR };
     if (result_len < 8)
         return;
-    if (!may_start(lengths_fit, budget, TREE_BUDGET, owner, globals) || !read_tree(file, file_len)) {
+    if (!may_start(lengths_fit, budget, TREE_BUDGET, owner, globals) || !read(file, file_len)) {
         tell_refused(result);
         return;
     }
@@ -1354,6 +1459,20 @@ void plain_run_tree(const uint8_t *file, size_t file_len, uint64_t budget, uint6
     start(&m);
     run_tree(&m, budget);
     tell_ended(&m, result);
+}
+
+void plain_run_tree(const uint8_t *file, size_t file_len, uint64_t budget, uint64_t owner, uint64_t *globals, size_t globals_len,
+                    uint64_t *stack, size_t stack_len, uint64_t *store, size_t store_len,
+                    uint64_t *frames, size_t frames_len, uint64_t *result, size_t result_len)
+{
+    run_nodes(read_tree, file, file_len, budget, owner, globals, globals_len, stack, stack_len, store, store_len, frames, frames_len, result, result_len);
+}
+
+void plain_run_basic(const uint8_t *file, size_t file_len, uint64_t budget, uint64_t owner, uint64_t *globals, size_t globals_len,
+                     uint64_t *stack, size_t stack_len, uint64_t *store, size_t store_len,
+                     uint64_t *frames, size_t frames_len, uint64_t *result, size_t result_len)
+{
+    run_nodes(read_basic, file, file_len, budget, owner, globals, globals_len, stack, stack_len, store, store_len, frames, frames_len, result, result_len);
 }
 
 void plain_run_linear(const uint8_t *file, size_t file_len, uint64_t budget, uint64_t owner, uint64_t *globals, size_t globals_len,

@@ -47,6 +47,14 @@ void plain_run_tree(const uint8_t *file, size_t file_len, uint64_t budget, uint6
                     uint64_t *frames, size_t frames_len,
                     uint64_t *result, size_t result_len);
 
+/* The same for a basic file (document 02, Ask 6). */
+void plain_run_basic(const uint8_t *file, size_t file_len, uint64_t budget, uint64_t owner,
+                     uint64_t *globals, size_t globals_len,
+                     uint64_t *stack, size_t stack_len,
+                     uint64_t *store, size_t store_len,
+                     uint64_t *frames, size_t frames_len,
+                     uint64_t *result, size_t result_len);
+
 /* The same for a linear file. */
 void plain_run_linear(const uint8_t *file, size_t file_len, uint64_t budget, uint64_t owner,
                       uint64_t *globals, size_t globals_len,

@@ -12,6 +12,7 @@ ghost use Rattle.machines.specs.Runs.{lent, treeRun, linearRun};
 ghost use Rattle.pull.specs.Pull.{pulled, pulledList};
 ghost use Rattle.unflatten.specs.Back.{backed};
 ghost use Rattle.exporter.specs.Exporter.{outcomeSlots, outcomeResult, outcomeOutput, endSlots, runSlots, exported, runExported};
+ghost use Rattle.basic.specs.Checked.{tabulatedFile};
 ghost use Rattle.trim.specs.Function.{trimmedInto};
 ghost use Rattle.exporter.specs.Trims.{trimSlots, trimResult, trimOutput, trimLines};
 ghost use Rattle.exporter.specs.Answers.{FieldsFit, AnswerFits};
@@ -121,6 +122,20 @@ pub extern "C" fn exporter_back(file: &[u8], out: &mut [u8], result: &mut [u64])
         return;
     }
     let answer = unflatten::back(file, out);
+    put_outcome(result, answer);
+}
+
+#[no_mangle]
+pub extern "C" fn exporter_tabulate(file: &[u8], out: &mut [u8], result: &mut [u64])
+    ensures { λ _. ⌜ now (out .exit)
+        ≡ outcomeOutput (written (now (out .entry)) (tabulatedFile (now (file .entry)) (length (now (out .entry)))))
+        (now (out .entry)) (now (result .entry)) ⌝ }
+    ensures { λ _. ⌜ now (result .exit) ≡ outcomeResult (answered (tabulatedFile (now (file .entry)) (length (now (out .entry))))) (now (result .entry)) ⌝ }
+{
+    if result.len() < 2 {
+        return;
+    }
+    let answer = tabulate::tabulate(file, out);
     put_outcome(result, answer);
 }
 

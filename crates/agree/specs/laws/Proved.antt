@@ -3,13 +3,10 @@ use Prim.Native.Nat.{ℕ, _+_, _*_, _-_, _≤_, _<_}
 use native.Mathlib.Omega.{arith}
 use mathlib.Core.Path.{_≡_, refl, sym, ap, _∙_}
 use mathlib.Core.Bool.{Bool, true, false, cond}
-use mathlib.Core.List.{List, map}
+use mathlib.Core.List.{List}
 use lib.Dec.{leb}
-use lib.ListN.{length, getD, length-replicate, length-map, List·getD-map}
-use lib.Seq.{ext-getD}
-use borrow.Author.Tests.{le-leb, eq-eqb}
-use Rattle.cells.specs.Cells.{tagOf, frameCell, framePlace}
-use Rattle.cells.specs.laws.Laws.{frame-back}
+use lib.ListN.{length, getD, length-replicate}
+use borrow.Author.Tests.{le-leb}
 use Rattle.cells.specs.declared.Value.{Value}
 use Rattle.files.specs.Reading.{got, refused}
 use Rattle.files.specs.Tree.{Template}
@@ -20,9 +17,7 @@ use Rattle.flatten.specs.Flatten.{flattened}
 use Rattle.readback.specs.laws.Templates.{linears}
 use Rattle.files.specs.laws.AcceptedLaws.{accepted-checked, flat-accepted-led, flat-accepted-checked}
 use Rattle.readback.specs.laws.ReadBack.{flattened-reads}
-use Rattle.rules.specs.Rules.{Data}
-use Rattle.rules.specs.laws.Lists.{by-lt}
-use Rattle.lockstep.specs.laws.Frames.{noneF, moreF, FrameFits}
+use Rattle.lockstep.specs.laws.Frames.{noneF}
 use Rattle.owners.specs.Owners.{isOwner, ownerOf}
 use Rattle.owners.specs.declared.Owner.{Owner}
 use Rattle.machines.specs.Fetched.{noTemplate, noLinear}
@@ -30,17 +25,11 @@ use Rattle.machines.specs.Machine.{treeProgram, linearProgram, noCounts, Ending
 use Rattle.machines.specs.Runs.{Memory, started, byOwner, fitGlobals, startState, endOf, memoryOf, reported, programRun, onTree, onLinear, treeRun, linearRun}
 use Rattle.machines.specs.declared.End.the-variants.{Halted, OutOfBudget}
 use Rattle.lockstep.specs.laws.Lockstep.{Agree, Rel, Alike-ends, forward, backward}
-use Rattle.lockstep.specs.laws.Same.{FramesR, Same, same-but-places}
+use Rattle.lockstep.specs.laws.Same.{same-but-places}
 use Rattle.agree.specs.laws.Places.{Twins, Pair, pair, programs-agree}
 use Rattle.agree.specs.laws.Files.{file-twins}
-use Rattle.agree.specs.Demand3.{aside, linearCounts, treeCounts, jumpsMade, firstArms, EndAlike, StartsFrom, Ends, Forward, Backward}
-
--- ---- frames that are the same but for their code places
-aside-frame : (n t e p : ℕ) → FrameFits n t e p → aside (frameCell n t e p) ≡ frameCell n t e 0
-unfolding aside
-aside-frame n t e p k =
-    let b = frame-back n t e p (k .n-fits) (k .t-fits) (k .e-fits) (k .p-fits) in
-    rw (eq-eqb (tagOf (frameCell n t e p)) 10 (b .4), b .3) (omega arith)
+use Rattle.agree.specs.laws.Aside.{frames-alike}
+use Rattle.agree.specs.Demand3.{linearCounts, treeCounts, jumpsMade, firstArms, EndAlike, StartsFrom, Ends, Forward, Backward}
 
 halts : (e : Ending) (c : ℕ) (v : Value) → endOf e c ≡ Halted v → e ≡ halted
 unfolding endOf
@@ -56,28 +45,8 @@ module _ (ts : List Template) (ls : List Linear) (twins : (t : ℕ) → Twins (g
   abbrev R : ℕ → ℕ → ℕ → ℕ → ℕ → Type 0
   R = Pair ts ls twins
 
-  one-template : {t p t′ q j : ℕ} → R t p t′ q j → t ≡ t′
-  one-template (pair h z) = refl
-
-  frames-aside : {f g : List ℕ} {fr J : ℕ} → FramesR R f g fr J → (i : ℕ) → i < fr → aside (getD f i 0) ≡ aside (getD g i 0)
-  frames-aside noneF i h = absurd (omega arith)
-  frames-aside {f} {g} (moreF {base = base} {n = n} {t = t} {t′ = t′} {e = e} {p = p} {q = q} fs same x y k l r u m) i h =
-      by-lt i base
-      (λ a. frames-aside fs i a)
-      (λ a. by-lt i (base + n)
-      (λ b. let z : i ≡ base + (i - base) = omega arith in ap aside (rw z (same (i - base) (omega arith))))
-      (λ b. let z : i ≡ base + n = omega arith in
-      rw (z, x, y) (aside-frame n t e p k ∙ ap (λ t. frameCell n t e 0) (one-template r) ∙ sym (aside-frame n t′ e q l))))
-
-  frames-alike : {d d′ : Data} {J : ℕ} → Same R d d′ J → map aside (d .frames) ≡ map aside (d′ .frames)
-  unfolding aside
-  frames-alike {d} {d′} s =
-      ext-getD 0 (map aside (d .frames)) (map aside (d′ .frames))
-      (length-map (d .frames) aside ∙ s .size ∙ sym (length-map (d′ .frames) aside ∙ s .size′))
-      (λ i h. List·getD-map aside (d .frames) i 0 ∙ at i ∙ sym (List·getD-map aside (d′ .frames) i 0))
-    where
-      at : (i : ℕ) → aside (getD (d .frames) i 0) ≡ aside (getD (d′ .frames) i 0)
-      at i = by-lt i (d .fr) (λ a. frames-aside (s .frames-ok) i a) (λ a. ap aside (s .above i a))
+  one-template : (t p t′ q j : ℕ) → R t p t′ q j → t ≡ t′
+  one-template t p t′ q j (pair h z) = refl
 
   abbrev A : (own : Owner) → Agree R (same-but-places R own) 1 ⊥ (treeProgram ts) (linearProgram ls)
   A own = programs-agree ts ls twins own
@@ -95,7 +64,7 @@ module _ (ts : List Template) (ls : List Linear) (twins : (t : ℕ) → Twins (g
         same-globals = ap (λ m. m .globals) (s .mem-same);
         same-stack = ap (λ m. m .stack) (s .mem-same);
         same-store = ap (λ m. m .store) (s .mem-same);
-        same-frames = frames-alike s;
+        same-frames = frames-alike R one-template s;
         same-stack-used = ap (λ r. r .sp) (s .regs-same);
         same-store-used = ap (λ r. r .st) (s .regs-same);
         same-frames-used = s .fr-same;

@@ -38,6 +38,10 @@ use Rattle.trim.proofs.trim.Kinds as trim
 use Rattle.trim.proofs.trim.Reads as trim-reads
 use Rattle.exporter.proofs.exporter_trim.Kinds as exporter-trim
 use Rattle.exporter.proofs.exporter_trim.Reads as exporter-trim-reads
+use Rattle.tabulate.proofs.tabulate.Kinds as tabulate
+use Rattle.tabulate.proofs.tabulate.Reads as tabulate-reads
+use Rattle.exporter.proofs.exporter_tabulate.Kinds as exporter-tabulate
+use Rattle.exporter.proofs.exporter_tabulate.Reads as exporter-tabulate-reads
 use Rattle.unflatten.proofs.back.Kinds as back
 use Rattle.unflatten.proofs.back.Reads as back-reads
 use Rattle.exporter.proofs.exporter_back.Kinds as exporter-back
@@ -126,6 +130,16 @@ back-only κs a x y e f p q = (λ i. (fixed (p .0) (q .0) i, fixed (p .1) (q .1)
 pub exporter-back-only : Only 3 exporter-back.ps exporter-back.r exporter-back-reads.Learnt {B = List ℕ × List ℕ}
     (λ κs x e. (now (e .1 .0), now (e .1 .1 .0)))
 exporter-back-only κs a x y e f p q = (λ i. (fixed (p .0) (q .0) i, fixed (p .1) (q .1) i))
+
+-- tabulate::tabulate(basic, out): its answer, and out
+pub tabulate-only : Only 2 tabulate.ps tabulate.r tabulate-reads.Learnt {B = Outcome × List ℕ}
+    (λ κs x e. (x, now (e .1 .0)))
+tabulate-only κs a x y e f p q = (λ i. (fixed (p .0) (q .0) i, fixed (p .1) (q .1) i))
+
+-- exporter::exporter_tabulate(basic, out, result): out and result
+pub exporter-tabulate-only : Only 3 exporter-tabulate.ps exporter-tabulate.r exporter-tabulate-reads.Learnt {B = List ℕ × List ℕ}
+    (λ κs x e. (now (e .1 .0), now (e .1 .1 .0)))
+exporter-tabulate-only κs a x y e f p q = (λ i. (fixed (p .0) (q .0) i, fixed (p .1) (q .1) i))
 
 -- join::join(prologue, file, out): its answer, and out
 pub join-only : Only 3 join.ps join.r join-reads.Learnt {B = Outcome × List ℕ}

@@ -17,7 +17,9 @@ use Rattle.machines.specs.Runs.{Memory, checkedRun}
 use Rattle.renamed.specs.laws.Ends.{EndAlike-renamed}
 use Rattle.rewrite.specs.Reindex.{reindexed, reindex}
 use Rattle.trim.specs.Kept.{sift, rank}
-use Rattle.trim.specs.Trim.{names, newIndex, renumber, trimTemplate, trim}
+use Rattle.trim.specs.Trim.{names, newIndex, renumber, trimTemplate, trim, namedFrom, there, stays, trimmed}
+use Rattle.trim.specs.Lines.{told, newLine, entryLines, templateLines, linesFrom, trimList}
+use Rattle.text.specs.Text.{digitsBy, digitsWithin, decimal, line}
 use Rattle.trim.specs.Reached.{marked, reached}
 use Rattle.files.specs.Orphans.{isTemplate, closes}
 use Rattle.renamed.specs.laws.Reached.{tree-reached-alike}
@@ -70,3 +72,20 @@ code-same (suc (suc t)) = refl
 pub row : (b o : ℕ) (m : Memory) → EndAlike-renamed (checkedRun sheet b o m) (checkedRun trimmedSheet b o m)
 row =
     tree-reached-alike sheet templates 160 sheet-read trimmedSheet trimmedTemplates (record { same-entries = entries-same; same-code = code-same }) trimmed-read
+
+-- its list: 0 0 0, 0 1 gone, 0 2 1, 0 3 2, 1 0 gone, 1 1 gone, 2 0 1
+abbrev sheetList : List ℕ
+sheetList =
+    48 ∷ 32 ∷ 48 ∷ 32 ∷ 48 ∷ 10 ∷ 48 ∷ 32 ∷ 49 ∷ 32 ∷ 103 ∷ 111 ∷ 110 ∷ 101 ∷ 10 ∷ 48 ∷ 32 ∷ 50 ∷ 32 ∷ 49 ∷ 10 ∷ 48 ∷ 32 ∷ 51 ∷ 32 ∷ 50 ∷ 10 ∷ 49 ∷ 32
+    ∷ 48 ∷ 32 ∷ 103 ∷ 111 ∷ 110 ∷ 101 ∷ 10 ∷ 49 ∷ 32 ∷ 49 ∷ 32 ∷ 103 ∷ 111 ∷ 110 ∷ 101 ∷ 10 ∷ 50 ∷ 32 ∷ 48 ∷ 32 ∷ 49 ∷ 10 ∷ []
+
+list-row : trimList templates ≡ sheetList
+unfolding trimList linesFrom templateLines entryLines newLine told stays there namedFrom closes isTemplate entryOf names newIndex rank decimal line digitsWithin
+    digitsBy
+list-row = refl
+
+rounds-entries : (t : ℕ) → getD trimmedTemplates t noTemplate .entries ≡ getD (trimmed templates) t noTemplate .entries
+unfolding trimmed trim sift rank trimTemplate names newIndex renumber reindexed reindex stays there namedFrom closes isTemplate entryOf
+rounds-entries zero = refl
+rounds-entries (suc zero) = refl
+rounds-entries (suc (suc t)) = refl

@@ -10,14 +10,25 @@ use Rattle.files.specs.Reading.{got}
 use Rattle.files.specs.Tree.{Template}
 use Rattle.files.specs.laws.AcceptedLaws.{checked-read, flat-checked}
 use Rattle.readback.specs.laws.Bytes.{file-bytes}
+use Rattle.readback.specs.laws.Templates.{linears}
+use Rattle.readback.specs.laws.ReadBack.{flattened-reads}
+use Rattle.agree.specs.laws.Files.{file-twins}
+use Rattle.owners.specs.declared.Owner.{Owner}
+use Rattle.sound.specs.laws.Files.{tree-ok, linear-ok}
+use Rattle.sound.specs.laws.Runs.{FitGlobals}
+use Rattle.machines.specs.Machine.{treeProgram, linearProgram}
 use Rattle.tree_file.specs.File.{templateBits, treeFile, placed}
 use Rattle.tree_file.specs.laws.Written.{tree-writable}
 use Rattle.machines.specs.Fetched.{noTemplate}
-use Rattle.machines.specs.Runs.{Memory, checkedRun, linearRun}
+use Rattle.machines.specs.Runs.{Memory, checkedRun, linearRun, programRun}
 use Rattle.trim.specs.Trim.{trim, stays, trimmed}
 use Rattle.trim.specs.laws.RoundsLaws.{stays-leads}
-use Rattle.renamed.specs.laws.Ends.{EndAlike-renamed}
-use Rattle.renamed.specs.laws.Trim.{Keeps, Written, tree-trim-alike, linear-trim-alike}
+use Rattle.renamed.specs.laws.Ends.{EndAlike-renamed, Renamed}
+use Rattle.renamed.specs.laws.Renaming.{Renaming}
+use Rattle.renamed.specs.laws.Programs.{programs-alike}
+use Rattle.renamed.specs.laws.Trees.{SameDistance, tree-twins}
+use Rattle.renamed.specs.laws.Linears.{SameByte, linear-twins}
+use Rattle.renamed.specs.laws.Trim.{Keeps, Written, renaming, trimmed as twins, tree-trim-alike, linear-trim-alike}
 use Rattle.renamed.specs.laws.Reached.{leads-keep}
 use Rattle.renamed.specs.laws.Flattens.{trimmed-flattens}
 use Rattle.renamed.specs.laws.Again.{first-stays, trimmed-checked}
@@ -43,7 +54,7 @@ module _ (s : List ℕ) (ts : List Template) (q : ℕ) where
   unfolding trimmed
   written = record { same-entries = placed-entries 8 (trim (stays ts) ts); same-code = placed-code 8 (trim (stays ts) ts) }
 
-  keeps : treeChecked s ≡ got ts q → Keeps (stays ts) ts
+  pub keeps : treeChecked s ≡ got ts q → Keeps (stays ts) ts
   keeps e = leads-keep s ts q e (stays ts) (first-stays s ts q e) (stays-leads ts (tree-writable s ts q (checked-read s ts q e) .each))
 
   -- the tree machine, request 4's check left aside
@@ -62,3 +73,29 @@ module _ (s : List ℕ) (ts : List Template) (q : ℕ) where
   linear-trimmed-ends e =
       linear-trim-alike (stays ts) ts (keeps (flat-checked s ts q e)) read-again written s (treeFile (trimmed ts)) e (flat-trimmed e) (file-bytes s ts q e)
       (file-bytes (treeFile (trimmed ts)) read-again (8 * length (treeFile (trimmed ts))) (flat-trimmed e))
+
+  -- ---- template for template: in every cell the number is the new one that the list tells (`Renumbered`: t′ ≡ rank (stays ts) 0 t), whatever program ran
+  abbrev pub as-listed : treeChecked s ≡ got ts q → Renaming
+  as-listed e = renaming (stays ts) ts (keeps e)
+
+  pub tree-trimmed-renamed : (e : treeChecked s ≡ got ts q) (own : Owner) (b : ℕ) (g : List ℕ) → FitGlobals g
+      → Renamed (as-listed e) (programRun own (treeProgram ts) b g) (programRun own (treeProgram read-again) b g)
+  tree-trimmed-renamed e own b g =
+      programs-alike (as-listed e) (SameDistance (as-listed e) ts read-again) own (treeProgram ts) (treeProgram read-again)
+      (tree-twins (as-listed e) ts read-again (twins (stays ts) ts (keeps e) read-again written)) (rw e at (tree-ok s))
+      (rw (trimmed-checked s ts q e) at (tree-ok (treeFile (trimmed ts)))) b g
+
+  pub linear-trimmed-renamed : (e : flatChecked s ≡ got ts q) (own : Owner) (b : ℕ) (g : List ℕ) → FitGlobals g
+      → Renamed (as-listed (flat-checked s ts q e)) (programRun own (linearProgram (linears 1 ts)) b g)
+      (programRun own (linearProgram (linears 1 read-again)) b g)
+  linear-trimmed-renamed e own b g =
+      let c = flat-checked s ts q e in
+      let s′ = treeFile (trimmed ts) in
+      let q′ = 8 * length (treeFile (trimmed ts)) in
+      let t = file-twins s ts q c in
+      let t′ = file-twins s′ read-again q′ (trimmed-checked s ts q c) in
+      let w = twins (stays ts) ts (keeps c) read-again written in
+      programs-alike (as-listed c) (SameByte (as-listed c) ts read-again (linears 1 ts) (linears 1 read-again) t t′ w) own (linearProgram (linears 1 ts))
+      (linearProgram (linears 1 read-again)) (linear-twins (as-listed c) ts read-again (linears 1 ts) (linears 1 read-again) t t′ w)
+      (rw (flattened-reads s ts q e) at (linear-ok (linearFile ts) (file-bytes s ts q e)))
+      (rw (flattened-reads s′ read-again q′ (flat-trimmed e)) at (linear-ok (linearFile read-again) (file-bytes s′ read-again q′ (flat-trimmed e)))) b g

@@ -1,0 +1,83 @@
+-- `basic::read_basic` meets its contract: 1, the list, its padding, the end. Assumes nothing.
+use Rattle.basic.specs.laws.FileLaws.{file-long, file-unread, padding-within, file-padding, file-more, file-whole}
+use Rattle.basic.specs.laws.StepLaws.{list-is, list-refused}
+use mathlib.Core.Path.{sym, ap, _∙_}
+use native.Mathlib.Omega.{arith}
+use borrow.Author.Needs.{needs}
+use Rattle.basic.proofs.read_basic.Statement.{statement}
+use Rattle.basic.proofs.read_basic.Tie as tie
+
+returns : tie.Need-returns
+returns c = file-long _ (c .if1 .taken)
+
+read-list-requires : tie.Need-read-list-requires
+read-list-requires c κs = search needs
+
+enum-known-end : tie.Need-enum-known-end
+enum-known-end c = search needs
+
+to-byte-requires : tie.Need-to-byte-requires
+to-byte-requires c κs = search needs
+
+zero-bits-requires : tie.Need-zero-bits-requires
+zero-bits-requires c κs =
+    let w = list-is _ _ _ _ _ (sym (c .before .before .end .given .1) ∙ c .before .before .before .before .read-list .ensures) in
+    (omega (arith, c .before .before .before .before .before .if1 .left), rw (c .to-byte .ensures) (padding-within _ (c .before .before .before .before .before .if1 .left) _ _ w))
+
+enum-known-next : tie.Need-enum-known-next
+enum-known-next c = search needs
+
+nothing-more-requires : tie.Need-nothing-more-requires
+nothing-more-requires c κs = search needs
+
+enum-told : tie.Need-enum-told
+enum-told c = search needs
+
+enum-known-place : tie.Need-enum-known-place
+enum-known-place c = search needs
+
+enum-known-place-2 : tie.Need-enum-known-place-2
+enum-known-place-2 c = search needs
+
+enum-known-no : tie.Need-enum-known-no
+enum-known-no c = search needs
+
+returns-2 : tie.Need-returns-2
+returns-2 c =
+    let w = list-is _ _ _ _ _ (sym (c .before .before .before .before .before .before .before .before .before .end .given .1) ∙ c .before .before .before .before .before .before .before .before .before .before .before .read-list .ensures) in
+    file-whole _ (c .before .before .before .before .before .before .before .before .before .before .before .before .if1 .left) _ _ w _ (sym (rw (c .before .before .before .before .before .before .before .to-byte .ensures) at (c .before .before .before .before .before .before .zero-bits .ensures)) ∙ c .before .before .before .before .next .given .1) _
+    (sym (c .before .before .nothing-more .ensures) ∙ c .enum-told .given .1)
+
+returns-3 : tie.Need-returns-3
+returns-3 c =
+    let w = list-is _ _ _ _ _ (sym (c .before .before .before .before .before .before .before .before .before .before .end .given .1) ∙ c .before .before .before .before .before .before .before .before .before .before .before .before .read-list .ensures) in
+    file-more _ (c .before .before .before .before .before .before .before .before .before .before .before .before .before .if1 .left) _ _ w _ (sym (rw (c .before .before .before .before .before .before .before .before .to-byte .ensures) at (c .before .before .before .before .before .before .before .zero-bits .ensures)) ∙ c .before .before .before .before .before .next .given .1) _
+    (sym (c .before .before .before .nothing-more .ensures) ∙ c .before .place .given .1)
+
+returns-4 : tie.Need-returns-4
+returns-4 c =
+    let w = list-is _ _ _ _ _ (sym (c .before .before .before .before .before .before .end .given .1) ∙ c .before .before .before .before .before .before .before .before .read-list .ensures) in
+    file-padding _ (c .before .before .before .before .before .before .before .before .before .if1 .left) _ _ w _ (sym (rw (c .before .before .before .before .to-byte .ensures) at (c .before .before .before .zero-bits .ensures)) ∙ c .before .place2 .given .1)
+
+returns-5 : tie.Need-returns-5
+returns-5 c = file-unread _ (c .before .before .before .before .if1 .left) _ _ (list-refused _ _ _ _ _ (sym (c .before .no .given .1) ∙ c .before .before .before .read-list .ensures))
+
+pub read-basic-spec : {M : Type 1} → statement M
+read-basic-spec =
+    tie.close
+    (tie.spec
+    returns
+    read-list-requires
+    enum-known-end
+    to-byte-requires
+    zero-bits-requires
+    enum-known-next
+    nothing-more-requires
+    enum-told
+    enum-known-place
+    enum-known-place-2
+    enum-known-no
+    returns-2
+    returns-3
+    returns-4
+    returns-5)

@@ -1,0 +1,72 @@
+-- `basic::read_constant` meets its contract: each test leads to its case of constantAt. Assumes nothing.
+use native.Mathlib.Omega.{arith}
+use mathlib.Core.Path.{refl}
+use Rattle.fields.specs.laws.Laws.{lies, cut-by, whole-by}
+use Rattle.files.specs.laws.EntriesLaws.{width-narrow, width-wide}
+use Rattle.files.specs.laws.EntriesSteps.{field-cut, field-read}
+use Rattle.basic.specs.laws.TokenLaws.{constant-plain, constant-read, constant-cut, constant-bad}
+use borrow.Author.Needs.{needs}
+use Rattle.basic.proofs.read_constant.Statement.{statement}
+use Rattle.basic.proofs.read_constant.Tie as tie
+
+returns : tie.Need-returns
+returns c = constant-plain _ _ _ _ (c .before .before .pre .1) (c .if1 .taken)
+
+read-word-requires : tie.Need-read-word-requires
+read-word-requires c κs = search needs
+
+enum-known-x : tie.Need-enum-known-x
+enum-known-x c = search needs
+
+enum-told : tie.Need-enum-told
+enum-told c = search needs
+
+returns-2 : tie.Need-returns-2
+returns-2 c = constant-cut _ _ _ _ 32 (omega arith) (width-narrow _ (c .before .before .before .if2 .taken)) (field-cut _ _ 32 (c .before .before .read-word .ensures) (c .enum-told .given .1))
+
+cast-t9 : tie.Need-cast-t9
+cast-t9 c = search needs
+
+returns-3 : tie.Need-returns-3
+returns-3 c = constant-read _ _ _ _ 32 (omega arith) (width-narrow _ (c .before .before .before .before .if2 .taken)) _ _ (field-read _ _ 32 (c .before .before .before .read-word .ensures) (c .before .x .given .1))
+
+within-requires : tie.Need-within-requires
+within-requires c κs = search needs
+
+wide-at-requires : tie.Need-wide-at-requires
+wide-at-requires c κs =
+    let a = c .before .before .before .before .before .before .args in
+    let h = lies (a .s .now) (a .at .0) 48 (c .before .within .ensures) (c .if4 .taken) in
+    (search needs, omega (arith, h))
+
+past-requires : tie.Need-past-requires
+past-requires c κs = search needs
+
+returns-4 : tie.Need-returns-4
+returns-4 c =
+    constant-read _ _ _ _ 48 (omega arith) (width-wide _ (c .before .before .before .before .if3 .taken)) _ _
+    (field-read _ _ 48 (whole-by _ _ 48 (c .before .before .before .within .ensures) (c .before .before .if4 .taken) (c .before .wide-at .ensures) (c .past .ensures)) refl)
+
+returns-5 : tie.Need-returns-5
+returns-5 c = constant-cut _ _ _ _ 48 (omega arith) (width-wide _ (c .before .before .if3 .taken)) (field-cut _ _ 48 (cut-by _ _ 48 (c .before .within .ensures) (c .if4 .left)) refl)
+
+returns-6 : tie.Need-returns-6
+returns-6 c = constant-bad _ _ _ _ (omega (arith, c .before .before .if1 .left, c .before .if2 .left, c .if3 .left))
+
+pub read-constant-spec : {M : Type 1} → statement M
+read-constant-spec =
+    tie.close
+    (tie.spec
+    returns
+    read-word-requires
+    enum-known-x
+    enum-told
+    returns-2
+    cast-t9
+    returns-3
+    within-requires
+    wide-at-requires
+    past-requires
+    returns-4
+    returns-5
+    returns-6)

@@ -1,0 +1,71 @@
+-- `basic::read_token` meets its contract: by its code. Assumes nothing.
+use native.Mathlib.Omega.{arith}
+use Rattle.files.specs.laws.EntriesSteps.{field-cut, field-read, field-below}
+use Rattle.basic.specs.laws.TokenLaws.{code-cut, code-literal, code-deep, code-closure, code-global, code-set-global, code-other}
+use borrow.Author.Needs.{needs}
+use Rattle.basic.proofs.read_token.Statement.{statement}
+use Rattle.basic.proofs.read_token.Tie as tie
+
+read-field-requires : tie.Need-read-field-requires
+read-field-requires c κs = search needs
+
+enum-known-code : tie.Need-enum-known-code
+enum-known-code c = search needs
+
+enum-told : tie.Need-enum-told
+enum-told c = search needs
+
+returns : tie.Need-returns
+returns c = code-cut _ _ _ (field-cut _ _ 5 (c .before .before .read-field .ensures) (c .enum-told .given .1))
+
+read-literal-requires : tie.Need-read-literal-requires
+read-literal-requires c κs = search needs
+
+returns-2 : tie.Need-returns-2
+returns-2 c = code-deep _ _ _ _ _ (field-read _ _ 5 (c .before .before .before .before .before .read-field .ensures) (c .before .before .before .code .given .1)) (c .before .match2 .keys2) (c .if1 .taken)
+
+read-global-requires : tie.Need-read-global-requires
+read-global-requires c κs = search needs
+
+read-global-requires-2 : tie.Need-read-global-requires-2
+read-global-requires-2 c κs = search needs
+
+read-shaped-requires : tie.Need-read-shaped-requires
+read-shaped-requires c κs = (c .before .before .before .before .before .before .pre, field-below _ _ 5 (c .before .before .before .before .read-field .ensures) (c .before .before .code .given .1))
+
+returns-3 : tie.Need-returns-3
+returns-3 c = code-literal _ _ _ _ _ (field-read _ _ 5 (c .before .before .before .before .before .read-field .ensures) (c .before .before .before .code .given .1)) (c .before .match2 .keys1) (c .read-literal .ensures)
+
+returns-4 : tie.Need-returns-4
+returns-4 c = code-closure _ _ _ _ _ (field-read _ _ 5 (c .before .before .before .before .before .read-field .ensures) (c .before .before .before .code .given .1)) (c .before .match2 .keys2) (c .if1 .left)
+
+returns-5 : tie.Need-returns-5
+returns-5 c = code-global _ _ _ _ _ (field-read _ _ 5 (c .before .before .before .before .before .read-field .ensures) (c .before .before .before .code .given .1)) (c .before .match2 .keys3) (c .read-global .ensures)
+
+returns-6 : tie.Need-returns-6
+returns-6 c = code-set-global _ _ _ _ _ (field-read _ _ 5 (c .before .before .before .before .before .read-field .ensures) (c .before .before .before .code .given .1)) (c .before .match2 .keys4) (c .read-global2 .ensures)
+
+returns-7 : tie.Need-returns-7
+returns-7 c =
+    let r = c .before .match2 .rest in
+    code-other _ _ _ _ _ (field-read _ _ 5 (c .before .before .before .before .before .read-field .ensures) (c .before .before .before .code .given .1)) (r .0 .0 .0 .1) (r .0 .0 .1) (r .0 .1) (r .1)
+    (c .read-shaped .ensures)
+
+pub read-token-spec : {M : Type 1} → statement M
+read-token-spec =
+    tie.close
+    (tie.spec
+    read-field-requires
+    enum-known-code
+    enum-told
+    returns
+    read-literal-requires
+    returns-2
+    read-global-requires
+    read-global-requires-2
+    read-shaped-requires
+    returns-3
+    returns-4
+    returns-5
+    returns-6
+    returns-7)

@@ -1,0 +1,6 @@
+-- The laws of the crate basic_program.
+pub mod Entries
+pub mod Spots
+pub mod Bodies
+pub mod Known
+pub mod Rows

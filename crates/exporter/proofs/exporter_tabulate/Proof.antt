@@ -1,0 +1,31 @@
+-- `exporter::exporter_tabulate` meets its contract: nothing is done without room for two slots; else the contract of `tabulate`. Assumes nothing.
+use borrow.Author.Needs.{needs}
+use borrow.Author.Tests.{le-leb, lt-leb}
+use Rattle.exporter.specs.Exporter.{outcomeOutput, outcomeResult}
+use Rattle.exporter.proofs.exporter_tabulate.Statement.{statement}
+use Rattle.exporter.proofs.exporter_tabulate.Tie as tie
+
+returns : tie.Need-returns
+unfolding outcomeOutput outcomeResult
+returns c = let h = lt-leb 2 _ (c .if1 .taken) in (rw h, rw h)
+
+tabulate-requires : tie.Need-tabulate-requires
+tabulate-requires c κs = search needs
+
+put-outcome-requires : tie.Need-put-outcome-requires
+put-outcome-requires c κs = search needs
+
+same-length : tie.Need-same-length
+same-length c = search needs
+
+same-length-2 : tie.Need-same-length-2
+same-length-2 c = search needs
+
+returns-2 : tie.Need-returns-2
+unfolding outcomeOutput outcomeResult
+returns-2 c = let h = le-leb 2 _ (c .before .before .before .before .before .before .before .before .if1 .left) in (rw h (c .before .before .before .before .before .before .tabulate .ensures .1), rw (h, ← c .before .before .before .before .before .before .tabulate .ensures .0) (c .before .before .put-outcome .ensures))
+
+pub exporter-tabulate-spec : {M : Type 1} → statement M
+exporter-tabulate-spec =
+    tie.close
+    (tie.spec returns tabulate-requires put-outcome-requires same-length same-length-2 returns-2)

@@ -1,0 +1,61 @@
+-- `tabulate::check_basic` meets its contract: 1 to 5, 6, 26. Assumes nothing.
+use Rattle.tabulate.specs.laws.CheckLaws.{file-unread, list-in, not-closed, judged-in}
+use mathlib.Core.Path.{sym, _∙_}
+use borrow.Author.Needs.{needs}
+use Rattle.tabulate.proofs.check_basic.Statement.{statement}
+use Rattle.tabulate.proofs.check_basic.Tie as tie
+
+read-basic-requires : tie.Need-read-basic-requires
+read-basic-requires c κs = search needs
+
+enum-known-end : tie.Need-enum-known-end
+enum-known-end c = search needs
+
+judge-lists-requires : tie.Need-judge-lists-requires
+judge-lists-requires c κs = let k = list-in _ _ (c .before .end .given .1) (c .before .before .before .read-basic .ensures) in (k .1, k .0)
+
+enum-known-count : tie.Need-enum-known-count
+enum-known-count c = search needs
+
+within-limits-requires : tie.Need-within-limits-requires
+within-limits-requires c κs =
+    let k = list-in _ _ (c .before .before .before .before .before .before .end .given .1) (c .before .before .before .before .before .before .before .before .read-basic .ensures) in
+    (k .1, c .before .before .before .before .before .before .before .before .before .before .before .pre, judged-in _ _ (c .before .before .before .before .before .before .end .given .1) (c .before .before .before .before .before .before .before .before .read-basic .ensures) _ _ (c .before .before .count .given .1) (c .before .before .before .before .judge-lists .ensures))
+
+enum-known-t : tie.Need-enum-known-t
+enum-known-t c = search needs
+
+enum-known-no : tie.Need-enum-known-no
+enum-known-no c = search needs
+
+number-requires : tie.Need-number-requires
+number-requires c κs = search needs
+
+same-length : tie.Need-same-length
+same-length c = c .before .before .within-limits .ensures .1 ∙ sym (c .before .before .before .before .before .before .before .before .before .before .before .before .before .before .pre)
+
+returns : tie.Need-returns
+returns c = c .before .before .within-limits .ensures
+
+returns-2 : tie.Need-returns-2
+returns-2 c = (not-closed _ _ (c .before .before .before .before .before .end .given .1) (c .before .before .before .before .before .before .before .read-basic .ensures) _ _ (c .before .t .given .1) (c .before .before .before .judge-lists .ensures), c .before .before .before .before .before .before .before .before .before .before .pre)
+
+returns-3 : tie.Need-returns-3
+returns-3 c = (rw (c .number .ensures) (file-unread _ _ _ (c .before .before .no .given .1) (c .before .before .before .before .read-basic .ensures)), c .before .before .before .before .before .before .before .pre)
+
+pub check-basic-spec : {M : Type 1} → statement M
+check-basic-spec =
+    tie.close
+    (tie.spec
+    read-basic-requires
+    enum-known-end
+    judge-lists-requires
+    enum-known-count
+    within-limits-requires
+    enum-known-t
+    enum-known-no
+    number-requires
+    same-length
+    returns
+    returns-2
+    returns-3)

@@ -1,0 +1,106 @@
+-- `tabulate::put_templates` meets its contract: template after template. Assumes nothing.
+use Rattle.tabulate.specs.laws.WriteLaws.{writing-begin, template-in, one-put, writing-end, writing-next}
+use Rattle.tabulate.specs.laws.JudgeLaws.{from-walk, from-low, from-read, own-list, own-list-is, told-none, next-as}
+use Rattle.bit_writer.specs.laws.Laws.{put-length}
+use Rattle.tabulate.specs.Put.{TemplatesIn, Writing}
+use Rattle.basic.specs.laws.StepLaws.{list-is}
+use lib.ListN.{length}
+use mathlib.Core.Path.{_≡_, refl, sym, ap, _∙_}
+use Prim.Native.Nat.{ℕ, _+_, _*_, _-_, _≤_, _<_}
+use native.Mathlib.Omega.{arith}
+use borrow.Author.Needs.{needs}
+use Rattle.tabulate.proofs.put_templates.Statement.{statement}
+use Rattle.tabulate.proofs.put_templates.Tie as tie
+
+abbrev Inv-loop : tie.InvT-loop
+Inv-loop s end table₀ out₀ here₀ own₀ place₀ table out here own place =
+    (length table ≡ 256) × (length out ≡ length out₀) × ((w : TemplatesIn s (end .0) out₀ (place₀ .0))
+    → Writing s (end .0) own (here .0) (w .few .whole .list) out₀ (place₀ .0) out (place .0)) × (own < 64)
+
+abbrev μ-loop : tie.MeasureT-loop
+μ-loop s end table₀ out₀ here₀ own₀ place₀ table out here own place = 64 - own
+
+loop-holds : tie.Need-loop-holds Inv-loop μ-loop
+loop-holds c = (c .before .before .before .pre .1, refl, λ w. writing-begin w, omega arith)
+
+read-list-requires : tie.Need-read-list-requires Inv-loop μ-loop
+read-list-requires c κs = search needs
+
+enum-known-past : tie.Need-enum-known-past Inv-loop μ-loop
+enum-known-past c = search needs
+
+enum-told : tie.Need-enum-told Inv-loop μ-loop
+enum-told c = search needs
+
+same-length : tie.Need-same-length Inv-loop μ-loop
+same-length c = c .before .before .before .loop .inv .0 ∙ sym (c .before .before .before .before .before .before .before .pre .1)
+
+same-length-2 : tie.Need-same-length-2 Inv-loop μ-loop
+same-length-2 c = c .before .before .before .loop .inv .1
+
+returns : tie.Need-returns Inv-loop μ-loop
+returns c = λ w. let k = c .before .before .before .loop .inv .2 w in let r = from-read (k .from) in told-none _ _ _ _ (c .enum-told .given .1) (c .before .before .read-list .ensures) _ _ (r .1)
+
+add-put-template : tie.Need-add-put-template Inv-loop μ-loop
+add-put-template c = search needs
+
+put-template-requires : tie.Need-put-template-requires Inv-loop μ-loop
+put-template-requires c κs =
+    let w = c .before .before .before .before .before .before .before .before .before .before .pre .3 in
+    (c .before .before .before .before .before .before .before .before .before .before .pre .0, c .before .before .before .before .before .before .loop .inv .0, omega (arith, c .before .before .before .before .before .before .before .before .before .before .pre .2, c .before .before .before .before .before .before .loop .inv .1), template-in (c .before .before .before .before .before .before .loop .inv .2 w) _ (own-list (c .before .before .before .before .before .before .loop .inv .2 w .from) (w .few .few) _ _ (list-is _ _ _ _ _ (sym (c .before .before .before .past .given .1) ∙ c .before .before .before .before .before .read-list .ensures))) (own-list-is (c .before .before .before .before .before .before .loop .inv .2 w .from) (w .few .few) _ _ (list-is _ _ _ _ _ (sym (c .before .before .before .past .given .1) ∙ c .before .before .before .before .before .read-list .ensures))))
+
+next-closure-requires : tie.Need-next-closure-requires Inv-loop μ-loop
+next-closure-requires c κs = (omega (arith, c .before .before .before .before .before .before .before .before .before .before .before .before .before .before .before .pre .0), from-walk (c .before .before .before .before .before .before .before .before .before .before .before .loop .inv .2 (c .before .before .before .before .before .before .before .before .before .before .before .before .before .before .before .pre .3) .from))
+
+enum-told-2 : tie.Need-enum-told-2 Inv-loop μ-loop
+enum-told-2 c = search needs
+
+same-length-3 : tie.Need-same-length-3 Inv-loop μ-loop
+same-length-3 c = c .before .before .before .before .before .before .before .put-template .ensures .1 ∙ sym (c .before .before .before .before .before .before .before .before .before .before .before .before .before .before .before .before .before .before .pre .1)
+
+same-length-4 : tie.Need-same-length-4 Inv-loop μ-loop
+same-length-4 c = ap length ((one-put (c .before .before .before .before .before .before .before .before .before .before .before .before .before .before .loop .inv .2 (c .before .before .before .before .before .before .before .before .before .before .before .before .before .before .before .before .before .before .pre .3)) _ (own-list (c .before .before .before .before .before .before .before .before .before .before .before .before .before .before .loop .inv .2 (c .before .before .before .before .before .before .before .before .before .before .before .before .before .before .before .before .before .before .pre .3) .from) ((c .before .before .before .before .before .before .before .before .before .before .before .before .before .before .before .before .before .before .pre .3) .few .few) _ _ (list-is _ _ _ _ _ (sym (c .before .before .before .before .before .before .before .before .before .before .before .past .given .1) ∙ c .before .before .before .before .before .before .before .before .before .before .before .before .before .read-list .ensures))) (own-list-is (c .before .before .before .before .before .before .before .before .before .before .before .before .before .before .loop .inv .2 (c .before .before .before .before .before .before .before .before .before .before .before .before .before .before .before .before .before .before .pre .3) .from) ((c .before .before .before .before .before .before .before .before .before .before .before .before .before .before .before .before .before .before .pre .3) .few .few) _ _ (list-is _ _ _ _ _ (sym (c .before .before .before .before .before .before .before .before .before .before .before .past .given .1) ∙ c .before .before .before .before .before .before .before .before .before .before .before .before .before .read-list .ensures))) (c .before .before .before .before .before .before .before .put-template .ensures .0)) .is) ∙ put-length _ _ _ ∙ c .before .before .before .before .before .before .before .before .before .before .before .before .before .before .loop .inv .1
+
+returns-2 : tie.Need-returns-2 Inv-loop μ-loop
+returns-2 c = λ w. writing-end (c .before .before .before .before .before .before .before .before .before .before .before .before .before .before .loop .inv .2 w) (one-put (c .before .before .before .before .before .before .before .before .before .before .before .before .before .before .loop .inv .2 w) _ (own-list (c .before .before .before .before .before .before .before .before .before .before .before .before .before .before .loop .inv .2 w .from) (w .few .few) _ _ (list-is _ _ _ _ _ (sym (c .before .before .before .before .before .before .before .before .before .before .before .past .given .1) ∙ c .before .before .before .before .before .before .before .before .before .before .before .before .before .read-list .ensures))) (own-list-is (c .before .before .before .before .before .before .before .before .before .before .before .before .before .before .loop .inv .2 w .from) (w .few .few) _ _ (list-is _ _ _ _ _ (sym (c .before .before .before .before .before .before .before .before .before .before .before .past .given .1) ∙ c .before .before .before .before .before .before .before .before .before .before .before .before .before .read-list .ensures))) (c .before .before .before .before .before .before .before .put-template .ensures .0)) (next-as (c .enum-told2 .given .1) (c .before .before .next-closure .ensures (from-walk (c .before .before .before .before .before .before .before .before .before .before .before .before .before .before .loop .inv .2 w .from)) _))
+
+enum-known-list : tie.Need-enum-known-list Inv-loop μ-loop
+enum-known-list c = search needs
+
+add-own : tie.Need-add-own Inv-loop μ-loop
+add-own c = omega (arith, c .before .before .before .before .before .before .before .before .before .before .before .before .before .before .before .loop .inv .3)
+
+loop-less : tie.Need-loop-less Inv-loop μ-loop
+loop-less c = omega (arith, c .before .before .before .before .before .before .before .before .before .before .before .before .before .before .before .loop .inv .3)
+
+loop-again : tie.Need-loop-again Inv-loop μ-loop
+loop-again c =
+    let w₀ = c .before .before .before .before .before .before .before .before .before .before .before .before .before .before .before .before .before .before .before .pre .3 in
+    let n = (writing-next (c .before .before .before .before .before .before .before .before .before .before .before .before .before .before .before .loop .inv .2 w₀) (one-put (c .before .before .before .before .before .before .before .before .before .before .before .before .before .before .before .loop .inv .2 w₀) _ (own-list (c .before .before .before .before .before .before .before .before .before .before .before .before .before .before .before .loop .inv .2 w₀ .from) (w₀ .few .few) _ _ (list-is _ _ _ _ _ (sym (c .before .before .before .before .before .before .before .before .before .before .before .before .past .given .1) ∙ c .before .before .before .before .before .before .before .before .before .before .before .before .before .before .read-list .ensures))) (own-list-is (c .before .before .before .before .before .before .before .before .before .before .before .before .before .before .before .loop .inv .2 w₀ .from) (w₀ .few .few) _ _ (list-is _ _ _ _ _ (sym (c .before .before .before .before .before .before .before .before .before .before .before .before .past .given .1) ∙ c .before .before .before .before .before .before .before .before .before .before .before .before .before .before .read-list .ensures))) (c .before .before .before .before .before .before .before .before .put-template .ensures .0)) _ (next-as (c .before .list .given .1) (c .before .before .before .next-closure .ensures (from-walk (c .before .before .before .before .before .before .before .before .before .before .before .before .before .before .before .loop .inv .2 w₀ .from)) _))) in
+    let l = from-low (n .from) in
+    (c .before .before .before .before .before .before .before .before .put-template .ensures .1, n .put .long, λ w. (writing-next (c .before .before .before .before .before .before .before .before .before .before .before .before .before .before .before .loop .inv .2 w) (one-put (c .before .before .before .before .before .before .before .before .before .before .before .before .before .before .before .loop .inv .2 w) _ (own-list (c .before .before .before .before .before .before .before .before .before .before .before .before .before .before .before .loop .inv .2 w .from) (w .few .few) _ _ (list-is _ _ _ _ _ (sym (c .before .before .before .before .before .before .before .before .before .before .before .before .past .given .1) ∙ c .before .before .before .before .before .before .before .before .before .before .before .before .before .before .read-list .ensures))) (own-list-is (c .before .before .before .before .before .before .before .before .before .before .before .before .before .before .before .loop .inv .2 w .from) (w .few .few) _ _ (list-is _ _ _ _ _ (sym (c .before .before .before .before .before .before .before .before .before .before .before .before .past .given .1) ∙ c .before .before .before .before .before .before .before .before .before .before .before .before .before .before .read-list .ensures))) (c .before .before .before .before .before .before .before .before .put-template .ensures .0)) _ (next-as (c .before .list .given .1) (c .before .before .before .next-closure .ensures (from-walk (c .before .before .before .before .before .before .before .before .before .before .before .before .before .before .before .loop .inv .2 w .from)) _))), omega (arith, l .0, w₀ .few .few))
+
+pub put-templates-spec : {M : Type 1} → statement M
+put-templates-spec =
+    tie.close
+    (tie.spec
+    Inv-loop
+    μ-loop
+    loop-holds
+    read-list-requires
+    enum-known-past
+    enum-told
+    same-length
+    same-length-2
+    returns
+    add-put-template
+    put-template-requires
+    next-closure-requires
+    enum-told-2
+    same-length-3
+    same-length-4
+    returns-2
+    enum-known-list
+    add-own
+    loop-less
+    loop-again)
