@@ -962,6 +962,42 @@ static void write_any(Random *random, Sheet *s)
     }
 }
 
+/* An entry of template t, of so many; the code that names it. */
+static unsigned put_some_entry(Random *random, Sheet *s, unsigned t, unsigned templates)
+{
+    if (t + 1 < templates && chance(random, 50)) {
+        put_number(s, TEMPLATE_ENTRY, t + 1 + below(random, templates - t - 1));
+        return CLOSURE;
+    }
+    if (chance(random, 40)) {
+        put_number(s, GLOBAL_ENTRY, below(random, 64));
+        return chance(random, 50) ? GLOBAL : SET_GLOBAL;
+    }
+    if (chance(random, 50))
+        put_integer(s, (int32_t)below(random, 3));
+    else
+        put_constant(s, below(random, 4));
+    return LITERAL;
+}
+
+/* What trimming takes out: templates that no closure names, or that only such templates' closures name, and entries that no instruction does; some
+   sheets name all their entries. */
+static void write_to_trim(Random *random, Sheet *s)
+{
+    unsigned templates = 2 + below(random, 9), named = chance(random, 20) ? 100 : 45;
+    sheet_begin(s, templates);
+    for (unsigned t = 0; t < templates; t++) {
+        unsigned codes[8], entries = below(random, 8);
+        put_field(s, 8, entries);
+        for (unsigned n = 1; n <= entries; n++)
+            codes[n] = put_some_entry(random, s, t, templates);
+        for (unsigned n = 1; n <= entries; n++)
+            if (chance(random, named))
+                put1(s, codes[n], n);
+        put_end(s);
+    }
+}
+
 static void write_noise(Random *random, Sheet *s)
 {
     sheet_begin(s, 1 + below(random, 3));
@@ -997,6 +1033,8 @@ static void write_sheet(Random *random, Sheet *s)
         write_any(random, s);
     else if (choice < 410)
         write_noise(random, s);
+    else if (choice < 440)
+        write_to_trim(random, s);
     else {
         memset(&writer, 0, sizeof writer);
         writer.random = random;
