@@ -295,7 +295,8 @@ fn ended(end: End, budget: u64, left: u64, r: Regs, c: Control) -> Run
     }
 }
 
-// At most `budget` steps, from the registers and the place that are given.
+// At most `budget` steps, from the registers and the place that are given. The registers are kept one by one: as a struct their padding would be copied at
+// each step.
 fn run_from(
     file: &[u8],
     links: &[u32],
@@ -314,11 +315,15 @@ fn run_from(
         ≡ ranFrom owner (codeProgram (formOf (from .place)) (now (file .entry)) (now (links .entry)) (now (table .entry))) budget 0
         (stateOf first from (lent (globals .entry) (stack .entry) (store .entry) (frames .entry))) ⌝ }
 {
-    let mut r = first;
+    let mut v = first.v;
+    let mut env = first.env;
+    let mut sp = first.sp;
+    let mut st = first.st;
     let mut c = from;
     let mut left = budget;
     while 0 < left {
         let rest = left - 1;
+        let r = Regs { v, env, sp, st };
         match take_step(
             owner,
             file,
@@ -332,7 +337,10 @@ fn run_from(
             c,
         ) {
             OneStep::Next(q, k) => {
-                r = q;
+                v = q.v;
+                env = q.env;
+                sp = q.sp;
+                st = q.st;
                 c = k;
             }
             OneStep::Halted => {
@@ -344,7 +352,7 @@ fn run_from(
         }
         left = rest;
     }
-    ended(End::OutOfBudget, budget, left, r, c)
+    ended(End::OutOfBudget, budget, left, Regs { v, env, sp, st }, c)
 }
 
 // At most `budget` steps from the start, where template 0's code begins at `first`.

@@ -1,6 +1,7 @@
 -- `steps::run_from` meets its contract. Assumes nothing.
 use Prim.Native.Nat.{_-_, _≤_}
 use mathlib.Core.Path.{_≡_, refl}
+use Rattle.rules.specs.State.{regs}
 use Rattle.machines.specs.Runs.{memory}
 use Rattle.machines.specs.Steps.{ranFrom}
 use Rattle.machines.specs.Instruction.{formOf, Of}
@@ -11,13 +12,13 @@ use Rattle.steps.proofs.run_from.Statement.{statement}
 use Rattle.steps.proofs.run_from.Tie as tie
 
 abbrev Inv-loop : tie.InvT-loop
-Inv-loop file links table globals₀ stack₀ store₀ frames₀ budget owner r₀ c₀ left₀ globals stack store frames r c left =
-    StepReady file table (memory globals stack store frames) r c × (left ≤ budget) × Of (formOf (c₀ .place)) (c .place)
-    × (ranFrom owner (codeProgram (formOf (c₀ .place)) file links table) left (budget - left) (stateOf r c (memory globals stack store frames))
-    ≡ ranFrom owner (codeProgram (formOf (c₀ .place)) file links table) budget 0 (stateOf r₀ c₀ (memory globals₀ stack₀ store₀ frames₀)))
+Inv-loop file links table globals₀ stack₀ store₀ frames₀ budget owner v₀ env₀ sp₀ st₀ c₀ left₀ globals stack store frames v env sp st c left =
+    StepReady file table (memory globals stack store frames) (regs v env sp st) c × (left ≤ budget) × Of (formOf (c₀ .place)) (c .place)
+    × (ranFrom owner (codeProgram (formOf (c₀ .place)) file links table) left (budget - left) (stateOf (regs v env sp st) c (memory globals stack store frames))
+    ≡ ranFrom owner (codeProgram (formOf (c₀ .place)) file links table) budget 0 (stateOf (regs v₀ env₀ sp₀ st₀) c₀ (memory globals₀ stack₀ store₀ frames₀)))
 
 abbrev μ-loop : tie.MeasureT-loop
-μ-loop file links table globals₀ stack₀ store₀ frames₀ budget owner r₀ c₀ left₀ globals stack store frames r c left = left
+μ-loop file links table globals₀ stack₀ store₀ frames₀ budget owner v₀ env₀ sp₀ st₀ c₀ left₀ globals stack store frames v env sp st c left = left
 
 loop-holds : tie.Need-loop-holds Inv-loop μ-loop
 loop-holds c = (search needs, search needs, refl, at-first _ _ _ _)
@@ -56,7 +57,7 @@ returns : tie.Need-returns Inv-loop μ-loop
 returns c =
     let l = c .before .before .before .before .before .before .before .before .before .before .before .before .before .before .before .before .before .before .loop in
     let a = c .before .before .before .before .before .before .before .before .before .before .before .before .before .before .before .before .before .before .before .before .before .before .before .before .before .before .args in
-    halted-turn _ _ _ _ _ (l .left) (a .budget) _ _ (l .r) (l .c) _ (c .before .before .before .before .before .before .before .before .before .before .before .before .before .before .before .before .before .loop-test .taken) (l .inv .1) (l .inv .2) (c .before .before .before .before .before .before .before .before .before .before .before .before .take-step .ensures) (l .inv .3) _ _ (c .before .before .enum-told .given .1) (c .before .value-of .ensures) (c .ended .ensures)
+    halted-turn _ _ _ _ _ (l .left) (a .budget) _ _ (regs (l .v) (l .env) (l .sp) (l .st)) (l .c) _ (c .before .before .before .before .before .before .before .before .before .before .before .before .before .before .before .before .before .loop-test .taken) (l .inv .1) (l .inv .2) (c .before .before .before .before .before .before .before .before .before .before .before .before .take-step .ensures) (l .inv .3) _ _ (c .before .before .enum-told .given .1) (c .before .value-of .ensures) (c .ended .ensures)
 
 enum-known-n : tie.Need-enum-known-n Inv-loop μ-loop
 enum-known-n c = search needs
@@ -80,7 +81,7 @@ returns-2 : tie.Need-returns-2 Inv-loop μ-loop
 returns-2 c =
     let l = c .before .before .before .before .before .before .before .before .before .before .before .before .before .before .before .before .before .before .loop in
     let a = c .before .before .before .before .before .before .before .before .before .before .before .before .before .before .before .before .before .before .before .before .before .before .before .before .before .before .args in
-    wrong-turn _ _ _ _ _ (l .left) (a .budget) _ _ (l .r) (l .c) _ (c .before .before .before .before .before .before .before .before .before .before .before .before .before .before .before .before .before .loop-test .taken) (l .inv .1) (l .inv .2) (c .before .before .before .before .before .before .before .before .before .before .before .before .take-step .ensures) (l .inv .3) _ _ (c .before .before .n .given .1) (c .ended2 .ensures)
+    wrong-turn _ _ _ _ _ (l .left) (a .budget) _ _ (regs (l .v) (l .env) (l .sp) (l .st)) (l .c) _ (c .before .before .before .before .before .before .before .before .before .before .before .before .before .before .before .before .before .loop-test .taken) (l .inv .1) (l .inv .2) (c .before .before .before .before .before .before .before .before .before .before .before .before .take-step .ensures) (l .inv .3) _ _ (c .before .before .n .given .1) (c .ended2 .ensures)
 
 loop-less : tie.Need-loop-less Inv-loop μ-loop
 loop-less c = search needs
@@ -89,7 +90,7 @@ loop-again : tie.Need-loop-again Inv-loop μ-loop
 loop-again c =
     let l = c .before .before .before .before .before .before .before .before .before .before .before .before .before .before .before .before .before .loop in
     let a = c .before .before .before .before .before .before .before .before .before .before .before .before .before .before .before .before .before .before .before .before .before .before .before .before .before .args in
-    (next-ready _ _ _ _ _ (l .left) (a .budget) _ _ (l .r) (l .c) _ (c .before .before .before .before .before .before .before .before .before .before .before .before .before .before .before .before .loop-test .taken) (l .inv .1) (l .inv .2) (c .before .before .before .before .before .before .before .before .before .before .before .take-step .ensures) (l .inv .3) _ _ (c .before .q .given .1) (l .inv .0) (search needs) (search needs) (search needs) (search needs), search needs, next-place _ _ _ _ _ (l .left) (a .budget) _ _ (l .r) (l .c) _ (c .before .before .before .before .before .before .before .before .before .before .before .before .before .before .before .before .loop-test .taken) (l .inv .1) (l .inv .2) (c .before .before .before .before .before .before .before .before .before .before .before .take-step .ensures) (l .inv .3) _ _ (c .before .q .given .1), next-turn _ _ _ _ _ (l .left) (a .budget) _ _ (l .r) (l .c) _ (c .before .before .before .before .before .before .before .before .before .before .before .before .before .before .before .before .loop-test .taken) (l .inv .1) (l .inv .2) (c .before .before .before .before .before .before .before .before .before .before .before .take-step .ensures) (l .inv .3) _ _ (c .before .q .given .1))
+    (next-ready _ _ _ _ _ (l .left) (a .budget) _ _ (regs (l .v) (l .env) (l .sp) (l .st)) (l .c) _ (c .before .before .before .before .before .before .before .before .before .before .before .before .before .before .before .before .loop-test .taken) (l .inv .1) (l .inv .2) (c .before .before .before .before .before .before .before .before .before .before .before .take-step .ensures) (l .inv .3) _ _ (c .before .q .given .1) (l .inv .0) (search needs) (search needs) (search needs) (search needs), search needs, next-place _ _ _ _ _ (l .left) (a .budget) _ _ (regs (l .v) (l .env) (l .sp) (l .st)) (l .c) _ (c .before .before .before .before .before .before .before .before .before .before .before .before .before .before .before .before .loop-test .taken) (l .inv .1) (l .inv .2) (c .before .before .before .before .before .before .before .before .before .before .before .take-step .ensures) (l .inv .3) _ _ (c .before .q .given .1), next-turn _ _ _ _ _ (l .left) (a .budget) _ _ (regs (l .v) (l .env) (l .sp) (l .st)) (l .c) _ (c .before .before .before .before .before .before .before .before .before .before .before .before .before .before .before .before .loop-test .taken) (l .inv .1) (l .inv .2) (c .before .before .before .before .before .before .before .before .before .before .before .take-step .ensures) (l .inv .3) _ _ (c .before .q .given .1))
 
 ended-requires-3 : tie.Need-ended-requires-3 Inv-loop μ-loop
 ended-requires-3 c κs = search needs
@@ -110,7 +111,7 @@ returns-3 : tie.Need-returns-3 Inv-loop μ-loop
 returns-3 c =
     let l = c .before .before .loop in
     let a = c .before .before .before .before .before .before .before .before .before .before .args in
-    spent-turn _ _ (l .left) (a .budget) _ (l .r) (l .c) _ (c .before .loop-test .left) (l .inv .3) (c .ended3 .ensures)
+    spent-turn _ _ (l .left) (a .budget) _ (regs (l .v) (l .env) (l .sp) (l .st)) (l .c) _ (c .before .loop-test .left) (l .inv .3) (c .ended3 .ensures)
 
 pub run-from-spec : {M : Type 1} → statement M
 run-from-spec =
