@@ -86,47 +86,45 @@ struct State {
 }
 
 // How a code is followed in a tree, by code (document 01, 'Codes'): 0 the end of the list; 1, 2, 3 no, one or two operand bytes; 4 two
-// lists; 5 an operand byte and a list; 6 no instruction.
-const SHAPES: [u8; 32] = [
-    0, // 0 end of list
-    1, // 1 return
-    2, // 2 call n
-    4, // 3 unless-false
-    5, // 4 make-cont n
-    6, // 5 (jump)
-    2, // 6 literal n
-    2, // 7 closure n
-    2, // 8 global n
-    2, // 9 set-global! n
-    3, // 10 local n1 n2
-    3, // 11 set-local! n1 n2
-    1, // 12 push
-    2, // 13 make-env n
-    6, // 14
-    1, // 15 unspecified
-    2, // 16 checkargs= n
-    6, // 17
-    1, // 18 %%cons
-    1, // 19 %%car
-    1, // 20 %%cdr
-    1, // 21 %%eqv
-    1, // 22 %%add
-    1, // 23 %%sub
-    1, // 24 %%less
-    1, // 25 %%floor-div
-    6, // 26
-    6, // 27
-    6, // 28
-    6, // 29
-    6, // 30
-    6, // 31
-];
-
+// lists; 5 an operand byte and a list; 6 no instruction. A match, since the compiler makes an array anew at each use.
 pub fn shape_of(code: u32) -> u8
     requires { ⌜ code < 32 ⌝ }
     ensures { λ r. ⌜ r ≡ shapeOf code ⌝ }
 {
-    SHAPES[code as usize]
+    match code {
+        0 => 0, // end of list
+        1 => 1, // return
+        2 => 2, // call n
+        3 => 4, // unless-false
+        4 => 5, // make-cont n
+        5 => 6, // (jump)
+        6 => 2, // literal n
+        7 => 2, // closure n
+        8 => 2, // global n
+        9 => 2, // set-global! n
+        10 => 3, // local n1 n2
+        11 => 3, // set-local! n1 n2
+        12 => 1, // push
+        13 => 2, // make-env n
+        14 => 6,
+        15 => 1, // unspecified
+        16 => 2, // checkargs= n
+        17 => 6,
+        18 => 1, // %%cons
+        19 => 1, // %%car
+        20 => 1, // %%cdr
+        21 => 1, // %%eqv
+        22 => 1, // %%add
+        23 => 1, // %%sub
+        24 => 1, // %%less
+        25 => 1, // %%floor-div
+        26 => 6,
+        27 => 6,
+        28 => 6,
+        29 => 6,
+        30 => 6,
+        _ => 6, // 31
+    }
 }
 
 fn both(x: bool, y: bool) -> bool

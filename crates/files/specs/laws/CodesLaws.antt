@@ -1,24 +1,13 @@
--- A code's shape is listed; and the two columns of operand bytes agree where the rest of the list follows. Assumes nothing.
-use Prim.Native.Nat.{ℕ, zero, suc, _-_, _≤_, _<_}
-use native.Mathlib.Omega.{arith}
+-- The two columns of operand bytes agree where the rest of the list follows. Assumes nothing.
+use Prim.Native.Nat.{ℕ, zero, suc, _-_, _≤_}
 use mathlib.Core.Path.{_≡_, refl}
 use mathlib.Core.Bool.{Bool, true, false, cond, _&&_, and-eq-true-iff}
 use mathlib.Core.List.{List, [], _∷_, map}
-use lib.ListN.{length, getD}
+use lib.ListN.{getD}
 use lib.Dec.{leb, eqb}
 use borrow.Author.Tests.{leb-true, eqb-true}
 use Rattle.cells.specs.laws.Laws.{clash}
-use Rattle.files.specs.Codes.{CodeRow, codes, shape, shapes, shapeOf, isNeutral, operands, operandBytes}
-
--- within a table it does not matter what stands past it
-inside : (l : List ℕ) (n d e : ℕ) → n < length l → getD l n d ≡ getD l n e
-inside [] n d e h = absurd (omega arith)
-inside (x ∷ l) zero d e h = refl
-inside (x ∷ l) (suc n) d e h = inside l n d e (omega arith)
-
-pub shape-listed : (v : ℕ) → v < 32 → getD shapes v 0 ≡ shapeOf v
-unfolding shapeOf
-shape-listed v h = inside shapes v 0 6 h
+use Rattle.files.specs.Codes.{CodeRow, codes, shape, shapeOf, isNeutral, operands, operandBytes}
 
 -- ---- the columns
 alike : List CodeRow → Bool
