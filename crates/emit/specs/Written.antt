@@ -1,5 +1,5 @@
 -- The bytes of one instruction of a list: those that stand before the rest's, and those that stand after.
-use Prim.Native.Nat.{ℕ, _+_, _/_, _%_}
+use Prim.Native.Nat.{ℕ, zero, suc, _+_, _/_, _%_}
 use mathlib.Core.Bool.{Bool, true, false, cond}
 use mathlib.Core.List.{List, [], _∷_, _++_}
 use lib.ListN.{length}
@@ -26,6 +26,12 @@ armsBytes x y = (3 ∷ offset (gap (isClosed x) + length (flat x))) ++ (flat x +
 -- ---- a make-cont n whose rest has m bytes
 unfoldable pub savedBytes : ℕ → ℕ → List ℕ
 savedBytes n m = 4 ∷ m / 256 ∷ m % 256 ∷ n ∷ []
+
+-- ---- a code and as many operands, by the 21 bits at its place
+unfoldable pub lineBytes : ℕ → ℕ → List ℕ
+lineBytes line zero = line / 0x10000 ∷ []
+lineBytes line (suc zero) = line / 0x10000 ∷ line / 0x100 % 0x100 ∷ []
+lineBytes line (suc (suc n)) = line / 0x10000 ∷ line / 0x100 % 0x100 ∷ line % 0x100 ∷ []
 
 -- ---- one instruction, where the rest has m bytes
 unfoldable pub frontBytes : Instr → ℕ → List ℕ

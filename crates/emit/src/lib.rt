@@ -13,8 +13,7 @@ ghost use Rattle.files.specs.Codes.{shapeOf};
 ghost use Rattle.files.specs.Flat.{flat, offset};
 ghost use Rattle.lists.specs.declared.Keep.the-variants.{Sizes};
 ghost use Rattle.lists.specs.Marks.{markOf, markAt};
-ghost use Rattle.lists.specs.Pass.{operandsAt};
-ghost use Rattle.emit.specs.Written.{gap, jumpBytes, measuredOf};
+ghost use Rattle.emit.specs.Written.{gap, jumpBytes, lineBytes, measuredOf};
 ghost use Rattle.emit.specs.ToWrite.{ToWrite, ArmsToWrite, SavedToWrite, ItemToWrite, ArmsDone, SavedDone, ItemDone};
 
 // How many bytes the flat code of a list has, and whether it is closed.
@@ -69,18 +68,18 @@ fn put_jump(out: &mut [u8], at: usize, closed: bool, size: usize)
     put_offset(out, at, 5, size);
 }
 
-// A code and n operands, at most two, which stand at a place.
-fn write_simple(s: &[u8], at: BitPlace, code: u32, n: usize, out: &mut [u8], front: usize)
-    requires { ⌜ (length (now s) ≤ 65536) × (n ≤ 2) × (at .0 + 8 * n ≤ 8 * length (now s)) × (code < 256) × (front + 1 + n ≤ length (now out)) ⌝ }
-    ensures { λ _. ⌜ now (out .exit) ≡ sets (now (out .entry)) front (code ∷ operandsAt (now (s .entry)) (at .0) n) ⌝ }
+// A code and n operands, at most two, as its line has them.
+fn write_simple(line: u32, n: usize, out: &mut [u8], front: usize)
+    requires { ⌜ (n ≤ 2) × (line < 0x200000) × (front + 1 + n ≤ length (now out)) ⌝ }
+    ensures { λ _. ⌜ now (out .exit) ≡ sets (now (out .entry)) front (lineBytes line n) ⌝ }
 {
-    out[front] = code as u8;
+    out[front] = (line / 0x10000) as u8;
     if n == 0 {
         return;
     }
-    out[front + 1] = fields::bits_at(s, at, 8) as u8;
+    out[front + 1] = (line / 0x100 % 0x100) as u8;
     if n == 2 {
-        out[front + 2] = fields::bits_at(s, at.past(8), 8) as u8;
+        out[front + 2] = (line % 0x100) as u8;
     }
 }
 
@@ -143,31 +142,31 @@ fn write_make_cont(
     }
 }
 
-// One instruction, whose code has a shape.
+// One instruction: its line, the 21 bits at its place, and its code's shape.
 fn write_instr(
     s: &[u8],
     marks: &[u32],
     at: BitPlace,
     levels: usize,
-    code: u32,
+    line: u32,
     shape: u8,
     out: &mut [u8],
     front: usize,
     back: usize,
 ) -> Wrote
-    requires { ⌜ (length (now s) ≤ 65536) × (back ≤ length (now out)) × (code ≡ fieldAt (now s) (at .0) 5) × (shape ≡ shapeOf code)
-        × ItemToWrite (now s) (now marks) levels (at .0) front back ⌝ }
+    requires { ⌜ (length (now s) ≤ 65536) × (back ≤ length (now out)) × (line ≡ fieldAt (now s) (at .0) 21)
+        × (shape ≡ shapeOf (fieldAt (now s) (at .0) 5)) × ItemToWrite (now s) (now marks) levels (at .0) front back ⌝ }
     ensures { λ r. ⌜ ((w : ItemToWrite (now (s .entry)) (now (marks .entry)) levels (at .0) front back) → ItemDone w r (now (out .entry)) (now (out .exit))) ⌝ }
 {
     match shape {
         4 => write_conditional(s, marks, at.past(5), levels - 1, out, front, back),
         5 => {
-            let n = fields::bits_at(s, at.past(5), 8);
+            let n = line / 0x100 % 0x100;
             write_make_cont(s, marks, at.past(13), levels - 1, out, n, front, back)
         }
         _ => {
             let n = (shape - 1) as usize;
-            write_simple(s, at.past(5), code, n, out, front);
+            write_simple(line, n, out, front);
             Wrote {
                 next: at.past(5 + 8 * n),
                 front: front + 1 + n,
@@ -196,12 +195,12 @@ pub fn write_list(
     let mut f = front;
     let mut b = back;
     loop {
-        let code = fields::bits_at(s, here, 5);
-        let shape = lists::shape_of(code);
+        let line = fields::line_at(s, here);
+        let shape = lists::shape_of(line / 0x10000);
         if shape == 0 {
             return here.past(5);
         }
-        let one = write_instr(s, marks, here, levels, code, shape, out, f, b);
+        let one = write_instr(s, marks, here, levels, line, shape, out, f, b);
         let next = one.next;
         here = next;
         f = one.front;

@@ -1,7 +1,7 @@
 -- The cycle of calls {write_conditional, write_instr, write_list, write_make_cont} meets its contracts: a level falls at each list inside an
 -- instruction, and the unread bits within a list. Assumes nothing.
 use lib.ListN.{length-set}
-use Rattle.fields.specs.laws.Laws.{field-small}
+use Rattle.fields.specs.laws.Laws.{field-small, line-code, line-first}
 use Rattle.files.specs.Codes.{shapeOf}
 use Rattle.lists.specs.laws.Known.{head-within}
 use Rattle.emit.specs.laws.Steps.{deeper-arms, item-arms, arms-item, deeper-saved, item-saved, saved-item, plain, plain-room, plain-item}
@@ -35,7 +35,7 @@ use Rattle.emit.proofs.measure.Reads as measure-reads
 use Rattle.emit.proofs.put_jump.Reads as put-jump-reads
 use Rattle.emit.proofs.put_offset.Reads as put-offset-reads
 use Rattle.emit.proofs.write_simple.Reads as write-simple-reads
-use Rattle.fields.proofs.bits_at.Reads as bits-at-reads
+use Rattle.fields.proofs.line_at.Reads as line-at-reads
 use Rattle.lists.proofs.shape_of.Reads as shape-of-reads
 use Rattle.emit.proofs.+write_conditional+write_instr+write_list+write_make_cont.{statement}
 use Rattle.emit.proofs.+write_conditional+write_instr+write_list+write_make_cont.Tie.{close}
@@ -104,10 +104,10 @@ abbrev write-conditional-calls : ℕ → write-conditional-lts.Claims
 write-conditional-calls t = (measure-reads.Asked, measure-reads.Learnt, gap-reads.Asked, gap-reads.Learnt, put-offset-reads.Asked, put-offset-reads.Learnt, write-list-below t, write-list.Post, put-jump-reads.Asked, put-jump-reads.Learnt)
 
 abbrev write-instr-calls : ℕ → write-instr-lts.Claims
-write-instr-calls t = (past-reads.Asked, past-reads.Learnt, write-conditional-below t, write-conditional.Post, bits-at-reads.Asked, bits-at-reads.Learnt, write-make-cont-below t, write-make-cont.Post, write-simple-reads.Asked, write-simple-reads.Learnt)
+write-instr-calls t = (past-reads.Asked, past-reads.Learnt, write-conditional-below t, write-conditional.Post, write-make-cont-below t, write-make-cont.Post, write-simple-reads.Asked, write-simple-reads.Learnt)
 
 abbrev write-list-calls : ℕ → write-list-lts.Claims
-write-list-calls t = (bits-at-reads.Asked, bits-at-reads.Learnt, shape-of-reads.Asked, shape-of-reads.Learnt, past-reads.Asked, past-reads.Learnt, write-instr-below t, write-instr.Post)
+write-list-calls t = (line-at-reads.Asked, line-at-reads.Learnt, shape-of-reads.Asked, shape-of-reads.Learnt, past-reads.Asked, past-reads.Learnt, write-instr-below t, write-instr.Post)
 
 abbrev write-make-cont-calls : ℕ → write-make-cont-lts.Claims
 write-make-cont-calls t = (measure-reads.Asked, measure-reads.Learnt, put-offset-reads.Asked, put-offset-reads.Learnt, write-list-below t, write-list.Post)
@@ -140,8 +140,14 @@ write-conditional-add-end t c =
     let measure = c .before .before .before .before .before .before .before .before .before .before .before .before .measure in
     let gap = c .before .before .before .before .before .before .before .before .before .before .before .gap in
     let write-list′ = c .before .before .before .write-list in
-    omega (arith, arms-room (pre .1 .2) _ _ (measure .ensures) (gap .ensures)
-    (write-list′ .ensures (first-to-write (pre .1 .2) _ _ (measure .ensures) (gap .ensures)) .0) _ (c .measure2 .ensures), pre .1 .2 .room, pre .1 .1, good)
+    omega (
+      arith,
+      arms-room (pre .1 .2) _ _ (measure .ensures) (gap .ensures)
+          (write-list′ .ensures (first-to-write (pre .1 .2) _ _ (measure .ensures) (gap .ensures)) .0) _ (c .measure2 .ensures),
+      pre .1 .2 .room,
+      pre .1 .1,
+      good,
+    )
 
 write-conditional-add-end-2 : (t : ℕ) → write-conditional-lts.Need-add-end-2 (write-conditional-calls t) (write-conditional-at t) write-conditional.Post
 write-conditional-add-end-2 t c =
@@ -150,8 +156,14 @@ write-conditional-add-end-2 t c =
     let measure = c .before .before .before .before .before .before .before .before .before .before .before .before .before .measure in
     let gap = c .before .before .before .before .before .before .before .before .before .before .before .before .gap in
     let write-list′ = c .before .before .before .before .write-list in
-    omega (arith, arms-room (pre .1 .2) _ _ (measure .ensures) (gap .ensures)
-    (write-list′ .ensures (first-to-write (pre .1 .2) _ _ (measure .ensures) (gap .ensures)) .0) _ (c .before .measure2 .ensures), pre .1 .2 .room, pre .1 .1, good)
+    omega (
+      arith,
+      arms-room (pre .1 .2) _ _ (measure .ensures) (gap .ensures)
+          (write-list′ .ensures (first-to-write (pre .1 .2) _ _ (measure .ensures) (gap .ensures)) .0) _ (c .before .measure2 .ensures),
+      pre .1 .2 .room,
+      pre .1 .1,
+      good,
+    )
 
 write-conditional-add-put-offset : (t : ℕ) → write-conditional-lts.Need-add-put-offset (write-conditional-calls t) (write-conditional-at t)
     write-conditional.Post
@@ -166,9 +178,10 @@ write-conditional-put-offset-requires : (t : ℕ) → write-conditional-lts.Need
 write-conditional-put-offset-requires t c κs =
     let pre = c .before .before .before .before .before .before .before .before .pre in
     let measure = c .before .before .before .before .measure in
-    let gap = c .before .before .before .gap in
-    (omega (arith, first-room (pre .1 .2) _ _ (measure .ensures) (gap .ensures), pre .1 .2 .room, pre .1 .1),
-    omega (arith, arms-near (pre .1 .2) _ _ (measure .ensures) (gap .ensures)))
+    let gap = c .before .before .before .gap in (
+      omega (arith, first-room (pre .1 .2) _ _ (measure .ensures) (gap .ensures), pre .1 .2 .room, pre .1 .1),
+      omega (arith, arms-near (pre .1 .2) _ _ (measure .ensures) (gap .ensures)),
+    )
 
 write-conditional-add-write-list : (t : ℕ) → write-conditional-lts.Need-add-write-list (write-conditional-calls t) (write-conditional-at t)
     write-conditional.Post
@@ -184,77 +197,99 @@ write-conditional-write-list-requires t c κs =
     let pre = c .before .before .before .before .before .before .before .before .before .before .before .before .pre in
     let measure = c .before .before .before .before .before .before .before .before .measure in
     let gap = c .before .before .before .before .before .before .before .gap in
-    let put-offset = c .before .before .before .put-offset in
-    (omega (arith, pre .0), (pre .1 .0, omega
-    (arith, first-room (pre .1 .2) _ _ (measure .ensures) (gap .ensures), pre .1 .2 .room, pre .1 .1, put-offset .kept .0),
-    first-to-write (pre .1 .2) _ _ (measure .ensures) (gap .ensures)))
+    let put-offset = c .before .before .before .put-offset in (
+      omega (arith, pre .0),
+      (
+        pre .1 .0,
+        omega
+            (arith, first-room (pre .1 .2) _ _ (measure .ensures) (gap .ensures), pre .1 .2 .room, pre .1 .1, put-offset .kept .0),
+        first-to-write (pre .1 .2) _ _ (measure .ensures) (gap .ensures),
+      ),
+    )
 
 write-conditional-put-jump-requires : (t : ℕ) → write-conditional-lts.Need-put-jump-requires (write-conditional-calls t) (write-conditional-at t)
     write-conditional.Post
 write-conditional-put-jump-requires t c κs =
-    let pre = c .before .before .before .before .before .before .before .before .before .before .before .before .before .before .before .before .before
-        .before .pre in
+    let pre = c .before .before .before .before .before .before .before .before .before .before .before .before .before .before .before .before .before .before .pre in
     let measure = c .before .before .before .before .before .before .before .before .before .before .before .before .before .before .measure in
     let gap = c .before .before .before .before .before .before .before .before .before .before .before .before .before .gap in
     let put-offset = c .before .before .before .before .before .before .before .before .before .put-offset in
     let write-list′ = c .before .before .before .before .before .write-list in
-    let measure2 = c .before .before .measure2 in
-    (omega (arith, arms-room (pre .1 .2) _ _ (measure .ensures) (gap .ensures)
-    (write-list′ .ensures (first-to-write (pre .1 .2) _ _ (measure .ensures) (gap .ensures)) .0) _ (measure2 .ensures), pre .1 .2 .room, pre .1 .1,
-    gap .ensures, put-offset .kept .0, write-list′ .kept .1 .1 .1 .1 .0),
-    jump-near (pre .1 .2) _ _ (measure .ensures) (gap .ensures) (write-list′ .ensures (first-to-write (pre .1 .2) _ _ (measure .ensures) (gap .ensures)) .0) _
-    (measure2 .ensures))
+    let measure2 = c .before .before .measure2 in (
+      omega (
+        arith,
+        arms-room (pre .1 .2) _ _ (measure .ensures) (gap .ensures)
+            (write-list′ .ensures (first-to-write (pre .1 .2) _ _ (measure .ensures) (gap .ensures)) .0) _ (measure2 .ensures),
+        pre .1 .2 .room,
+        pre .1 .1,
+        gap .ensures,
+        put-offset .kept .0,
+        write-list′ .kept .1 .1 .1 .1 .0,
+      ),
+      jump-near (pre .1 .2) _ _ (measure .ensures) (gap .ensures) (write-list′ .ensures (first-to-write (pre .1 .2) _ _ (measure .ensures) (gap .ensures)) .0) _
+          (measure2 .ensures),
+    )
 
 write-conditional-add-write-list-2 : (t : ℕ) → write-conditional-lts.Need-add-write-list-2 (write-conditional-calls t) (write-conditional-at t)
     write-conditional.Post
 write-conditional-add-write-list-2 t c =
-    let pre = c .before .before .before .before .before .before .before .before .before .before .before .before .before .before .before .before .before
-        .before .before .before .before .before .pre in
-    let good = c .before .before .before .before .before .before .before .before .before .before .before .before .before .before .before .before .before
-        .before .before .before .before .before .good in
-    let measure = c .before .before .before .before .before .before .before .before .before .before .before .before .before .before .before .before .before
-        .before .measure in
+    let pre = c .before .before .before .before .before .before .before .before .before .before .before .before .before .before .before .before .before .before .before .before .before .before .pre in
+    let good = c .before .before .before .before .before .before .before .before .before .before .before .before .before .before .before .before .before .before .before .before .before .before .good in
+    let measure = c .before .before .before .before .before .before .before .before .before .before .before .before .before .before .before .before .before .before .measure in
     let gap = c .before .before .before .before .before .before .before .before .before .before .before .before .before .before .before .before .before .gap in
     let write-list′ = c .before .before .before .before .before .before .before .before .before .write-list in
     let measure2 = c .before .before .before .before .before .before .measure2 in
-    omega (arith, arms-room (pre .1 .2) _ _ (measure .ensures) (gap .ensures)
-    (write-list′ .ensures (first-to-write (pre .1 .2) _ _ (measure .ensures) (gap .ensures)) .0) _ (measure2 .ensures), pre .1 .2 .room, pre .1 .1, good)
+    omega (
+      arith,
+      arms-room (pre .1 .2) _ _ (measure .ensures) (gap .ensures)
+          (write-list′ .ensures (first-to-write (pre .1 .2) _ _ (measure .ensures) (gap .ensures)) .0) _ (measure2 .ensures),
+      pre .1 .2 .room,
+      pre .1 .1,
+      good,
+    )
 
 write-conditional-write-list-requires-2 : (t : ℕ) → write-conditional-lts.Need-write-list-requires-2 (write-conditional-calls t) (write-conditional-at t)
     write-conditional.Post
 write-conditional-write-list-requires-2 t c κs =
-    let pre = c .before .before .before .before .before .before .before .before .before .before .before .before .before .before .before .before .before
-        .before .before .before .before .before .pre in
-    let measure = c .before .before .before .before .before .before .before .before .before .before .before .before .before .before .before .before .before
-        .before .measure in
+    let pre = c .before .before .before .before .before .before .before .before .before .before .before .before .before .before .before .before .before .before .before .before .before .before .pre in
+    let measure = c .before .before .before .before .before .before .before .before .before .before .before .before .before .before .before .before .before .before .measure in
     let gap = c .before .before .before .before .before .before .before .before .before .before .before .before .before .before .before .before .before .gap in
     let put-offset = c .before .before .before .before .before .before .before .before .before .before .before .before .before .put-offset in
     let write-list′ = c .before .before .before .before .before .before .before .before .before .write-list in
     let measure2 = c .before .before .before .before .before .before .measure2 in
-    let put-jump = c .before .before .before .put-jump in
-    (omega (arith, pre .0), (pre .1 .0, omega
-    (arith, arms-room (pre .1 .2) _ _ (measure .ensures) (gap .ensures)
-    (write-list′ .ensures (first-to-write (pre .1 .2) _ _ (measure .ensures) (gap .ensures)) .0) _ (measure2 .ensures), pre .1 .2 .room, pre .1 .1,
-    put-offset .kept .0, write-list′ .kept .1 .1 .1 .1 .0, put-jump .kept .0),
-    second-to-write (pre .1 .2) _ _ (measure .ensures) (gap .ensures)
-    (write-list′ .ensures (first-to-write (pre .1 .2) _ _ (measure .ensures) (gap .ensures)) .0) _ (measure2 .ensures)))
+    let put-jump = c .before .before .before .put-jump in (
+      omega (arith, pre .0),
+      (
+        pre .1 .0,
+        omega (
+          arith,
+          arms-room (pre .1 .2) _ _ (measure .ensures) (gap .ensures)
+              (write-list′ .ensures (first-to-write (pre .1 .2) _ _ (measure .ensures) (gap .ensures)) .0) _ (measure2 .ensures),
+          pre .1 .2 .room,
+          pre .1 .1,
+          put-offset .kept .0,
+          write-list′ .kept .1 .1 .1 .1 .0,
+          put-jump .kept .0,
+        ),
+        second-to-write (pre .1 .2) _ _ (measure .ensures) (gap .ensures)
+            (write-list′ .ensures (first-to-write (pre .1 .2) _ _ (measure .ensures) (gap .ensures)) .0) _ (measure2 .ensures),
+      ),
+    )
 
 write-conditional-same-length : (t : ℕ) → write-conditional-lts.Need-same-length (write-conditional-calls t) (write-conditional-at t) write-conditional.Post
 write-conditional-same-length t c =
     let put-offset = c .before .before .before .before .before .before .before .before .before .before .before .before .before .before .before .before
-        .put-offset in
+    .put-offset in
     let write-list′ = c .before .before .before .before .before .before .before .before .before .before .before .before .write-list in
     let put-jump = c .before .before .before .before .before .before .put-jump in
     c .before .before .write-list2 .kept .1 .1 .1 .1 .0 ∙ put-jump .kept .0 ∙ write-list′ .kept .1 .1 .1 .1 .0 ∙ put-offset .kept .0
 
 write-conditional-returns : (t : ℕ) → write-conditional-lts.Need-returns (write-conditional-calls t) (write-conditional-at t) write-conditional.Post
 write-conditional-returns t c =
-    let measure = c .before .before .before .before .before .before .before .before .before .before .before .before .before .before .before .before .before
-        .before .before .before .before .measure in
-    let gap = c .before .before .before .before .before .before .before .before .before .before .before .before .before .before .before .before .before
-        .before .before .before .gap in
+    let measure = c .before .before .before .before .before .before .before .before .before .before .before .before .before .before .before .before .before .before .before .before .before .measure in
+    let gap = c .before .before .before .before .before .before .before .before .before .before .before .before .before .before .before .before .before .before .before .before .gap in
     let put-offset = c .before .before .before .before .before .before .before .before .before .before .before .before .before .before .before .before
-        .put-offset in
+    .put-offset in
     let write-list′ = c .before .before .before .before .before .before .before .before .before .before .before .before .write-list in
     let measure2 = c .before .before .before .before .before .before .before .before .before .measure2 in
     let put-jump = c .before .before .before .before .before .before .put-jump in
@@ -264,12 +299,6 @@ write-conditional-returns t c =
     (second-to-write w _ _ (measure .ensures) (gap .ensures) (write-list′ .ensures (first-to-write w _ _ (measure .ensures) (gap .ensures)) .0) _
     (measure2 .ensures)))
 
-write-instr-bits-at-requires : (t : ℕ) → write-instr-lts.Need-bits-at-requires (write-instr-calls t) (write-instr-at t) write-instr.Post
-write-instr-bits-at-requires t c κs =
-    let pre = c .before .before .before .before .before .pre in
-    let k = deeper-saved (pre .1 .4) (ap shapeOf (sym (pre .1 .2)) ∙ sym (pre .1 .3) ∙ c .before .match .keys2) in
-    (omega (arith, pre .1 .0), (search needs, omega (arith, c .past2 .ensures)))
-
 write-instr-past-requires : (t : ℕ) → write-instr-lts.Need-past-requires (write-instr-calls t) (write-instr-at t) write-instr.Post
 write-instr-past-requires t c κs =
     let pre = c .before .before .before .before .pre in
@@ -278,51 +307,57 @@ write-instr-past-requires t c κs =
 write-instr-sub-write-conditional : (t : ℕ) → write-instr-lts.Need-sub-write-conditional (write-instr-calls t) (write-instr-at t) write-instr.Post
 write-instr-sub-write-conditional t c =
     let pre = c .before .before .before .before .before .pre in
-    let k = deeper-arms (pre .1 .4) (ap shapeOf (sym (pre .1 .2)) ∙ sym (pre .1 .3) ∙ c .before .match .keys1) in
+    let k = deeper-arms (pre .1 .4) (sym (pre .1 .3) ∙ c .before .match .keys1) in
     omega arith
 
 write-instr-write-conditional-requires : (t : ℕ) → write-instr-lts.Need-write-conditional-requires (write-instr-calls t) (write-instr-at t) write-instr.Post
 write-instr-write-conditional-requires t c κs =
     let pre = c .before .before .before .before .before .before .pre in
     let match = c .before .before .match in
-    let k = deeper-arms (pre .1 .4) (ap shapeOf (sym (pre .1 .2)) ∙ sym (pre .1 .3) ∙ match .keys1) in
-    (omega (arith, pre .0), (pre .1 .0, pre .1 .1,
-    rw (c .before .past .ensures) (item-arms (pre .1 .4) (ap shapeOf (sym (pre .1 .2)) ∙ sym (pre .1 .3) ∙ match .keys1))))
+    let k = deeper-arms (pre .1 .4) (sym (pre .1 .3) ∙ match .keys1) in (
+      omega (arith, pre .0),
+      (
+        pre .1 .0,
+        pre .1 .1,
+        rw (c .before .past .ensures) (item-arms (pre .1 .4) (sym (pre .1 .3) ∙ match .keys1)),
+      ),
+    )
 
 write-instr-past-requires-2 : (t : ℕ) → write-instr-lts.Need-past-requires-2 (write-instr-calls t) (write-instr-at t) write-instr.Post
 write-instr-past-requires-2 t c κs =
     let pre = c .before .before .before .before .pre in
-    omega (arith, pre .1 .0, head-within _ _ _ (pre .1 .4 .read))
-
-write-instr-past-requires-3 : (t : ℕ) → write-instr-lts.Need-past-requires-3 (write-instr-calls t) (write-instr-at t) write-instr.Post
-write-instr-past-requires-3 t c κs =
-    let pre = c .before .before .before .before .before .before .pre in
-    let k = deeper-saved (pre .1 .4) (ap shapeOf (sym (pre .1 .2)) ∙ sym (pre .1 .3) ∙ c .before .before .match .keys2) in
+    let k = deeper-saved (pre .1 .4) (sym (pre .1 .3) ∙ c .match .keys2) in
     omega (arith, pre .1 .0)
 
 write-instr-sub-write-make-cont : (t : ℕ) → write-instr-lts.Need-sub-write-make-cont (write-instr-calls t) (write-instr-at t) write-instr.Post
 write-instr-sub-write-make-cont t c =
-    let pre = c .before .before .before .before .before .before .before .pre in
-    let match = c .before .before .before .match in
-    let k = deeper-saved (pre .1 .4) (ap shapeOf (sym (pre .1 .2)) ∙ sym (pre .1 .3) ∙ match .keys2) .0 in
+    let pre = c .before .before .before .before .before .pre in
+    let match = c .before .match in
+    let k = deeper-saved (pre .1 .4) (sym (pre .1 .3) ∙ match .keys2) .0 in
     omega arith
 
 write-instr-write-make-cont-requires : (t : ℕ) → write-instr-lts.Need-write-make-cont-requires (write-instr-calls t) (write-instr-at t) write-instr.Post
 write-instr-write-make-cont-requires t c κs =
-    let pre = c .before .before .before .before .before .before .before .before .pre in
-    let match = c .before .before .before .before .match in
-    let k = deeper-saved (pre .1 .4) (ap shapeOf (sym (pre .1 .2)) ∙ sym (pre .1 .3) ∙ match .keys2) .0 in
-    (omega (arith, pre .0), (pre .1 .0, c .before .before .bits-at .ensures .1, pre .1 .1,
-    rw (c .before .past3 .ensures) (item-saved (pre .1 .4) (ap shapeOf (sym (pre .1 .2)) ∙ sym (pre .1 .3) ∙ match .keys2))))
+    let pre = c .before .before .before .before .before .before .pre in
+    let match = c .before .before .match in
+    let k = deeper-saved (pre .1 .4) (sym (pre .1 .3) ∙ match .keys2) .0 in (
+      omega (arith, pre .0),
+      (
+        pre .1 .0,
+        omega arith,
+        pre .1 .1,
+        rw (c .before .past2 .ensures) (item-saved (pre .1 .4) (sym (pre .1 .3) ∙ match .keys2)),
+      ),
+    )
 
 write-instr-sub-n : (t : ℕ) → write-instr-lts.Need-sub-n (write-instr-calls t) (write-instr-at t) write-instr.Post
 write-instr-sub-n t c =
     let pre = c .before .before .before .before .pre in
-    let k = plain (pre .1 .4) (λ e. c .match .rest .0 .1 (pre .1 .3 ∙ ap shapeOf (pre .1 .2) ∙ e))
-        (λ e. c .match .rest .1 (pre .1 .3 ∙ ap shapeOf (pre .1 .2) ∙ e)) in
-    let e = pre .1 .3 ∙ ap shapeOf (pre .1 .2) in
-    let r = plain-room (pre .1 .4) (λ e. c .match .rest .0 .1 (pre .1 .3 ∙ ap shapeOf (pre .1 .2) ∙ e))
-        (λ e. c .match .rest .1 (pre .1 .3 ∙ ap shapeOf (pre .1 .2) ∙ e)) in
+    let k = plain (pre .1 .4) (λ e. c .match .rest .0 .1 (pre .1 .3 ∙ e))
+    (λ e. c .match .rest .1 (pre .1 .3 ∙ e)) in
+    let e = pre .1 .3 in
+    let r = plain-room (pre .1 .4) (λ e. c .match .rest .0 .1 (pre .1 .3 ∙ e))
+    (λ e. c .match .rest .1 (pre .1 .3 ∙ e)) in
     omega arith
 
 write-instr-cast-n : (t : ℕ) → write-instr-lts.Need-cast-n (write-instr-calls t) (write-instr-at t) write-instr.Post
@@ -330,80 +365,74 @@ write-instr-cast-n t c = search needs
 
 write-instr-write-simple-requires : (t : ℕ) → write-instr-lts.Need-write-simple-requires (write-instr-calls t) (write-instr-at t) write-instr.Post
 write-instr-write-simple-requires t c κs =
-    let pre = c .before .before .before .before .before .before .pre in
-    let args = c .before .before .before .before .before .before .args in
-    let match = c .before .before .match in
-    let k = plain (pre .1 .4) (λ e. match .rest .0 .1 (pre .1 .3 ∙ ap shapeOf (pre .1 .2) ∙ e)) (λ e. match .rest .1 (pre .1 .3 ∙ ap shapeOf (pre .1 .2) ∙ e))
-        in
-    let e = pre .1 .3 ∙ ap shapeOf (pre .1 .2) in
-    let r = plain-room (pre .1 .4) (λ e. match .rest .0 .1 (pre .1 .3 ∙ ap shapeOf (pre .1 .2) ∙ e))
-        (λ e. match .rest .1 (pre .1 .3 ∙ ap shapeOf (pre .1 .2) ∙ e)) in
-    (pre .1 .0, omega arith, omega (arith, c .before .past4 .ensures), omega (arith, pre .1 .2, field-small (args .s .now) (args .at .0) 5),
-    omega (arith, pre .1 .1))
+    let pre = c .before .before .before .before .before .pre in
+    let args = c .before .before .before .before .before .args in
+    let match = c .before .match in
+    let k = plain (pre .1 .4) (λ e. match .rest .0 .1 (pre .1 .3 ∙ e)) (λ e. match .rest .1 (pre .1 .3 ∙ e))
+    in
+    let e = pre .1 .3 in
+    let r = plain-room (pre .1 .4) (λ e. match .rest .0 .1 (pre .1 .3 ∙ e))
+    (λ e. match .rest .1 (pre .1 .3 ∙ e)) in
+    (omega arith, omega (arith, pre .1 .2, field-small (args .s .now) (args .at .0) 21), omega (arith, pre .1 .1))
 
 write-instr-mul-past : (t : ℕ) → write-instr-lts.Need-mul-past (write-instr-calls t) (write-instr-at t) write-instr.Post
 write-instr-mul-past t c =
-    let pre = c .before .before .before .before .before .before .before .before .before .pre in
-    let good = c .before .before .before .before .before .before .before .before .before .good in
-    let match = c .before .before .before .before .before .match in
-    let k = plain (pre .1 .4) (λ e. match .rest .0 .1 (pre .1 .3 ∙ ap shapeOf (pre .1 .2) ∙ e)) (λ e. match .rest .1 (pre .1 .3 ∙ ap shapeOf (pre .1 .2) ∙ e))
-        in
-    let e = pre .1 .3 ∙ ap shapeOf (pre .1 .2) in
-    let r = plain-room (pre .1 .4) (λ e. match .rest .0 .1 (pre .1 .3 ∙ ap shapeOf (pre .1 .2) ∙ e))
-        (λ e. match .rest .1 (pre .1 .3 ∙ ap shapeOf (pre .1 .2) ∙ e)) in
+    let pre = c .before .before .before .before .before .before .before .before .pre in
+    let good = c .before .before .before .before .before .before .before .before .good in
+    let match = c .before .before .before .before .match in
+    let k = plain (pre .1 .4) (λ e. match .rest .0 .1 (pre .1 .3 ∙ e)) (λ e. match .rest .1 (pre .1 .3 ∙ e))
+    in
+    let e = pre .1 .3 in
+    let r = plain-room (pre .1 .4) (λ e. match .rest .0 .1 (pre .1 .3 ∙ e))
+    (λ e. match .rest .1 (pre .1 .3 ∙ e)) in
     omega (arith, pre .1, good)
 
 write-instr-add-past : (t : ℕ) → write-instr-lts.Need-add-past (write-instr-calls t) (write-instr-at t) write-instr.Post
 write-instr-add-past t c =
-    let pre = c .before .before .before .before .before .before .before .before .before .pre in
-    let good = c .before .before .before .before .before .before .before .before .before .good in
-    let match = c .before .before .before .before .before .match in
-    let k = plain (pre .1 .4) (λ e. match .rest .0 .1 (pre .1 .3 ∙ ap shapeOf (pre .1 .2) ∙ e)) (λ e. match .rest .1 (pre .1 .3 ∙ ap shapeOf (pre .1 .2) ∙ e))
-        in
-    let e = pre .1 .3 ∙ ap shapeOf (pre .1 .2) in
-    let r = plain-room (pre .1 .4) (λ e. match .rest .0 .1 (pre .1 .3 ∙ ap shapeOf (pre .1 .2) ∙ e))
-        (λ e. match .rest .1 (pre .1 .3 ∙ ap shapeOf (pre .1 .2) ∙ e)) in
+    let pre = c .before .before .before .before .before .before .before .before .pre in
+    let good = c .before .before .before .before .before .before .before .before .good in
+    let match = c .before .before .before .before .match in
+    let k = plain (pre .1 .4) (λ e. match .rest .0 .1 (pre .1 .3 ∙ e)) (λ e. match .rest .1 (pre .1 .3 ∙ e))
+    in
+    let e = pre .1 .3 in
+    let r = plain-room (pre .1 .4) (λ e. match .rest .0 .1 (pre .1 .3 ∙ e))
+    (λ e. match .rest .1 (pre .1 .3 ∙ e)) in
     omega (arith, pre .1, good)
 
-write-instr-past-requires-4 : (t : ℕ) → write-instr-lts.Need-past-requires-4 (write-instr-calls t) (write-instr-at t) write-instr.Post
-write-instr-past-requires-4 t c κs =
-    let pre = c .before .before .before .before .pre in
-    omega (arith, pre .1 .0, head-within _ _ _ (pre .1 .4 .read))
-
-write-instr-past-requires-5 : (t : ℕ) → write-instr-lts.Need-past-requires-5 (write-instr-calls t) (write-instr-at t) write-instr.Post
-write-instr-past-requires-5 t c κs =
-    let pre = c .before .before .before .before .before .before .before .before .before .pre in
-    let good = c .before .before .before .before .before .before .before .before .before .good in
-    let match = c .before .before .before .before .before .match in
-    let k = plain (pre .1 .4) (λ e. match .rest .0 .1 (pre .1 .3 ∙ ap shapeOf (pre .1 .2) ∙ e)) (λ e. match .rest .1 (pre .1 .3 ∙ ap shapeOf (pre .1 .2) ∙ e))
-        in
-    let e = pre .1 .3 ∙ ap shapeOf (pre .1 .2) in
-    let r = plain-room (pre .1 .4) (λ e. match .rest .0 .1 (pre .1 .3 ∙ ap shapeOf (pre .1 .2) ∙ e))
-        (λ e. match .rest .1 (pre .1 .3 ∙ ap shapeOf (pre .1 .2) ∙ e)) in
-    omega (arith, pre .1, good)
-
-write-instr-add-t28 : (t : ℕ) → write-instr-lts.Need-add-t28 (write-instr-calls t) (write-instr-at t) write-instr.Post
-write-instr-add-t28 t c =
-    let pre = c .before .before .before .before .before .before .before .before .before .before .pre in
-    let good = c .before .before .before .before .before .before .before .before .before .before .good in
-    let match = c .before .before .before .before .before .before .match in
-    let k = plain (pre .1 .4) (λ e. match .rest .0 .1 (pre .1 .3 ∙ ap shapeOf (pre .1 .2) ∙ e)) (λ e. match .rest .1 (pre .1 .3 ∙ ap shapeOf (pre .1 .2) ∙ e))
-        in
-    let e = pre .1 .3 ∙ ap shapeOf (pre .1 .2) in
-    let r = plain-room (pre .1 .4) (λ e. match .rest .0 .1 (pre .1 .3 ∙ ap shapeOf (pre .1 .2) ∙ e))
-        (λ e. match .rest .1 (pre .1 .3 ∙ ap shapeOf (pre .1 .2) ∙ e)) in
+write-instr-past-requires-3 : (t : ℕ) → write-instr-lts.Need-past-requires-3 (write-instr-calls t) (write-instr-at t) write-instr.Post
+write-instr-past-requires-3 t c κs =
+    let pre = c .before .before .before .before .before .before .before .before .pre in
+    let good = c .before .before .before .before .before .before .before .before .good in
+    let match = c .before .before .before .before .match in
+    let k = plain (pre .1 .4) (λ e. match .rest .0 .1 (pre .1 .3 ∙ e)) (λ e. match .rest .1 (pre .1 .3 ∙ e))
+    in
+    let e = pre .1 .3 in
+    let r = plain-room (pre .1 .4) (λ e. match .rest .0 .1 (pre .1 .3 ∙ e))
+    (λ e. match .rest .1 (pre .1 .3 ∙ e)) in
     omega (arith, pre .1, good)
 
 write-instr-add-t29 : (t : ℕ) → write-instr-lts.Need-add-t29 (write-instr-calls t) (write-instr-at t) write-instr.Post
 write-instr-add-t29 t c =
-    let pre = c .before .before .before .before .before .before .before .before .before .before .pre in
-    let good = c .before .before .before .before .before .before .before .before .before .before .good in
-    let match = c .before .before .before .before .before .before .match in
-    let k = plain (pre .1 .4) (λ e. match .rest .0 .1 (pre .1 .3 ∙ ap shapeOf (pre .1 .2) ∙ e)) (λ e. match .rest .1 (pre .1 .3 ∙ ap shapeOf (pre .1 .2) ∙ e))
-        in
-    let e = pre .1 .3 ∙ ap shapeOf (pre .1 .2) in
-    let r = plain-room (pre .1 .4) (λ e. match .rest .0 .1 (pre .1 .3 ∙ ap shapeOf (pre .1 .2) ∙ e))
-        (λ e. match .rest .1 (pre .1 .3 ∙ ap shapeOf (pre .1 .2) ∙ e)) in
+    let pre = c .before .before .before .before .before .before .before .before .before .pre in
+    let good = c .before .before .before .before .before .before .before .before .before .good in
+    let match = c .before .before .before .before .before .match in
+    let k = plain (pre .1 .4) (λ e. match .rest .0 .1 (pre .1 .3 ∙ e)) (λ e. match .rest .1 (pre .1 .3 ∙ e))
+    in
+    let e = pre .1 .3 in
+    let r = plain-room (pre .1 .4) (λ e. match .rest .0 .1 (pre .1 .3 ∙ e))
+    (λ e. match .rest .1 (pre .1 .3 ∙ e)) in
+    omega (arith, pre .1, good)
+
+write-instr-add-t30 : (t : ℕ) → write-instr-lts.Need-add-t30 (write-instr-calls t) (write-instr-at t) write-instr.Post
+write-instr-add-t30 t c =
+    let pre = c .before .before .before .before .before .before .before .before .before .pre in
+    let good = c .before .before .before .before .before .before .before .before .before .good in
+    let match = c .before .before .before .before .before .match in
+    let k = plain (pre .1 .4) (λ e. match .rest .0 .1 (pre .1 .3 ∙ e)) (λ e. match .rest .1 (pre .1 .3 ∙ e))
+    in
+    let e = pre .1 .3 in
+    let r = plain-room (pre .1 .4) (λ e. match .rest .0 .1 (pre .1 .3 ∙ e))
+    (λ e. match .rest .1 (pre .1 .3 ∙ e)) in
     omega (arith, pre .1, good)
 
 write-instr-same-length : (t : ℕ) → write-instr-lts.Need-same-length (write-instr-calls t) (write-instr-at t) write-instr.Post
@@ -414,32 +443,29 @@ write-instr-returns t c =
     let pre = c .before .before .before .before .before .before .before .before .before .pre in
     let match = c .before .before .before .before .before .match in
     let past = c .before .before .before .before .past in
-    λ w. arms-item w (ap shapeOf (sym (pre .1 .2)) ∙ sym (pre .1 .3) ∙ match .keys1) _ (past .ensures) (c .before .before .write-conditional .ensures)
+    λ w. arms-item w (sym (pre .1 .3) ∙ match .keys1) _ (past .ensures) (c .before .before .write-conditional .ensures)
 
 write-instr-same-length-2 : (t : ℕ) → write-instr-lts.Need-same-length-2 (write-instr-calls t) (write-instr-at t) write-instr.Post
 write-instr-same-length-2 t c = c .before .before .write-make-cont .kept .1 .1 .1 .1 .0
 
 write-instr-returns-2 : (t : ℕ) → write-instr-lts.Need-returns-2 (write-instr-calls t) (write-instr-at t) write-instr.Post
 write-instr-returns-2 t c =
-    let pre = c .before .before .before .before .before .before .before .before .before .before .before .pre in
-    let match = c .before .before .before .before .before .before .before .match in
-    let past2 = c .before .before .before .before .before .before .past2 in
-    let bits-at = c .before .before .before .before .before .bits-at in
-    let past3 = c .before .before .before .before .past3 in
-    λ w. saved-item w (ap shapeOf (sym (pre .1 .2)) ∙ sym (pre .1 .3) ∙ match .keys2) _ (rw (past2 .ensures) at (bits-at .ensures .0)) (past3 .ensures)
+    let pre = c .before .before .before .before .before .before .before .before .before .pre in
+    let match = c .before .before .before .before .before .match in
+    let past2 = c .before .before .before .before .past2 in
+    λ w. saved-item w (sym (pre .1 .3) ∙ match .keys2) _ (line-first _ _ _ (pre .1 .2)) (past2 .ensures)
     (c .before .before .write-make-cont .ensures)
 
 write-instr-same-length-3 : (t : ℕ) → write-instr-lts.Need-same-length-3 (write-instr-calls t) (write-instr-at t) write-instr.Post
-write-instr-same-length-3 t c = c .before .before .before .write-simple .kept .1 .1 .1 .1 .0
+write-instr-same-length-3 t c = c .before .before .before .write-simple .kept .1 .1 .0
 
 write-instr-returns-3 : (t : ℕ) → write-instr-lts.Need-returns-3 (write-instr-calls t) (write-instr-at t) write-instr.Post
 write-instr-returns-3 t c =
-    let pre = c .before .before .before .before .before .before .before .before .before .before .pre in
-    let match = c .before .before .before .before .before .before .match in
-    let past4 = c .before .before .before .before .before .past4 in
+    let pre = c .before .before .before .before .before .before .before .before .before .pre in
+    let match = c .before .before .before .before .before .match in
     let write-simple = c .before .before .before .write-simple in
-    λ w. plain-item w (λ e. match .rest .0 .1 (pre .1 .3 ∙ ap shapeOf (pre .1 .2) ∙ e)) (λ e. match .rest .1 (pre .1 .3 ∙ ap shapeOf (pre .1 .2) ∙ e)) _
-    (ap (λ (n : ℕ). n - 1) (pre .1 .3 ∙ ap shapeOf (pre .1 .2))) (c .past5 .ensures) (pre .1 .2) (past4 .ensures) (write-simple .ensures)
+    λ w. plain-item w (λ e. match .rest .0 .1 (pre .1 .3 ∙ e)) (λ e. match .rest .1 (pre .1 .3 ∙ e)) _
+    (ap (λ (n : ℕ). n - 1) (pre .1 .3)) (c .past3 .ensures) (pre .1 .2) (write-simple .ensures)
 
 abbrev write-list-Inv-loop : write-list-lts.InvT-loop
 write-list-Inv-loop s marks levels out₀ front back here₀ f₀ b₀ out here f b = (b ≤ length out) × (length out ≡ length out₀) × Left s marks levels (here₀ .0) front back (here .0) f b out₀ out
@@ -450,15 +476,16 @@ write-list-μ-loop s marks levels out₀ front back here₀ f₀ b₀ out here f
 write-list-loop-holds : (t : ℕ) → write-list-lts.Need-loop-holds (write-list-calls t) (write-list-at t) write-list.Post write-list-Inv-loop write-list-μ-loop
 write-list-loop-holds t c = (c .before .before .before .pre .1 .1, refl, left-all _ _ _ _ _ _ _ (c .before .before .before .pre .1 .2))
 
-write-list-bits-at-requires : (t : ℕ) → write-list-lts.Need-bits-at-requires (write-list-calls t) (write-list-at t) write-list.Post write-list-Inv-loop
+write-list-line-at-requires : (t : ℕ) → write-list-lts.Need-line-at-requires (write-list-calls t) (write-list-at t) write-list.Post write-list-Inv-loop
     write-list-μ-loop
-write-list-bits-at-requires t c κs =
+write-list-line-at-requires t c κs =
     let pre = c .before .before .before .before .pre in
-    (omega (arith, pre .1 .0), (search needs, left-within _ _ _ _ _ _ _ _ _ _ _ (c .loop .inv .2)))
+    let here = left-within _ _ _ _ _ _ _ _ _ _ _ (c .loop .inv .2) in
+    (omega (arith, pre .1 .0), omega (arith, here))
 
 write-list-shape-of-requires : (t : ℕ) → write-list-lts.Need-shape-of-requires (write-list-calls t) (write-list-at t) write-list.Post write-list-Inv-loop
     write-list-μ-loop
-write-list-shape-of-requires t c κs = rw (c .bits-at .ensures .0) (field-small _ _ 5)
+write-list-shape-of-requires t c κs = omega (arith, c .line-at .ensures .1)
 
 write-list-past-requires : (t : ℕ) → write-list-lts.Need-past-requires (write-list-calls t) (write-list-at t) write-list.Post write-list-Inv-loop
     write-list-μ-loop
@@ -473,44 +500,63 @@ write-list-same-length t c = c .before .before .before .before .loop .inv .1
 write-list-returns : (t : ℕ) → write-list-lts.Need-returns (write-list-calls t) (write-list-at t) write-list.Post write-list-Inv-loop write-list-μ-loop
 write-list-returns t c =
     let loop = c .before .before .before .before .loop in
-    let bits-at = c .before .before .before .bits-at in
+    let line-at = c .before .before .before .line-at in
     λ w. let l = left-none _ _ _ _ _ _ _ _ _ _ _ (loop .inv .2)
-    (ap shapeOf (sym (bits-at .ensures .0)) ∙ sym (c .before .before .shape-of .ensures) ∙ c .before .if1 .taken) w in (c .past .ensures ∙ l .0, l .1)
+    (sym (c .before .before .shape-of .ensures ∙ ap shapeOf (line-code _ _ _ (line-at .ensures .0))) ∙ c .before .if1 .taken) w in (c .past .ensures ∙ l .0, l .1)
 
 write-list-write-instr-requires : (t : ℕ) → write-list-lts.Need-write-instr-requires (write-list-calls t) (write-list-at t) write-list.Post
     write-list-Inv-loop write-list-μ-loop
 write-list-write-instr-requires t c κs =
     let pre = c .before .before .before .before .before .before .before .before .pre in
     let loop = c .before .before .before .before .loop in
-    let bits-at = c .before .before .before .bits-at in
+    let line-at = c .before .before .before .line-at in
     let shape-of = c .before .before .shape-of in
-    (omega (arith, pre .0), (pre .1 .0, loop .inv .0, bits-at .ensures .0, shape-of .ensures,
-    left-item _ _ _ _ _ _ _ _ _ _ _ (loop .inv .2) (λ e. c .before .if1 .left (shape-of .ensures ∙ ap shapeOf (bits-at .ensures .0) ∙ e))))
+    let shape = shape-of .ensures ∙ ap shapeOf (line-code _ _ _ (line-at .ensures .0)) in
+    let if1 = c .before .if1 in (
+      omega (arith, pre .0),
+      (
+        pre .1 .0,
+        loop .inv .0,
+        line-at .ensures .0,
+        shape,
+        left-item _ _ _ _ _ _ _ _ _ _ _ (loop .inv .2) (λ e. if1 .left (shape ∙ e)),
+      ),
+    )
 
 write-list-loop-less : (t : ℕ) → write-list-lts.Need-loop-less (write-list-calls t) (write-list-at t) write-list.Post write-list-Inv-loop write-list-μ-loop
 write-list-loop-less t c =
     let loop = c .before .before .before .before .before .before .before .before .loop in
-    let bits-at = c .before .before .before .before .before .before .before .bits-at in
+    let line-at = c .before .before .before .before .before .before .before .line-at in
     let shape-of = c .before .before .before .before .before .before .shape-of in
     let if1 = c .before .before .before .before .before .if1 in
+    let shape = shape-of .ensures ∙ ap shapeOf (line-code _ _ _ (line-at .ensures .0)) in
     let write-instr′ = c .before .before .before .write-instr in
-    omega (arith, left-less _ _ _ _ _ _ _ _ _ _ _ (loop .inv .2) (λ e. if1 .left (shape-of .ensures ∙ ap shapeOf (bits-at .ensures .0) ∙ e)),
-    next-is _ _ _ _ _ _ _ _ _ _ _ (loop .inv .2) (λ e. if1 .left (shape-of .ensures ∙ ap shapeOf (bits-at .ensures .0) ∙ e))
-    (write-instr′ .ensures (left-item _ _ _ _ _ _ _ _ _ _ _ (loop .inv .2) (λ e. if1 .left (shape-of .ensures ∙ ap shapeOf (bits-at .ensures .0) ∙ e)))))
+    omega (
+      arith,
+      left-less _ _ _ _ _ _ _ _ _ _ _ (loop .inv .2) (λ e. if1 .left (shape ∙ e)),
+      next-is _ _ _ _ _ _ _ _ _ _ _ (loop .inv .2) (λ e. if1 .left (shape ∙ e))
+          (write-instr′ .ensures (left-item _ _ _ _ _ _ _ _ _ _ _ (loop .inv .2) (λ e. if1 .left (shape ∙ e)))),
+    )
 
 write-list-loop-again : (t : ℕ) → write-list-lts.Need-loop-again (write-list-calls t) (write-list-at t) write-list.Post write-list-Inv-loop write-list-μ-loop
 write-list-loop-again t c =
     let loop = c .before .before .before .before .before .before .before .before .loop in
-    let bits-at = c .before .before .before .before .before .before .before .bits-at in
+    let line-at = c .before .before .before .before .before .before .before .line-at in
     let shape-of = c .before .before .before .before .before .before .shape-of in
     let if1 = c .before .before .before .before .before .if1 in
-    let write-instr′ = c .before .before .before .write-instr in
-    (omega (arith, loop .inv .0, write-instr′ .kept .1 .1 .1 .1 .1 .1 .0,
-    back-less _ _ _ _ _ _ _ _ _ _ _ (loop .inv .2) (λ e. if1 .left (shape-of .ensures ∙ ap shapeOf (bits-at .ensures .0) ∙ e))
-    (write-instr′ .ensures (left-item _ _ _ _ _ _ _ _ _ _ _ (loop .inv .2) (λ e. if1 .left (shape-of .ensures ∙ ap shapeOf (bits-at .ensures .0) ∙ e))))),
-    write-instr′ .kept .1 .1 .1 .1 .1 .1 .0 ∙ loop .inv .1,
-    left-next _ _ _ _ _ _ _ _ _ _ _ (loop .inv .2) (λ e. if1 .left (shape-of .ensures ∙ ap shapeOf (bits-at .ensures .0) ∙ e))
-    (write-instr′ .ensures (left-item _ _ _ _ _ _ _ _ _ _ _ (loop .inv .2) (λ e. if1 .left (shape-of .ensures ∙ ap shapeOf (bits-at .ensures .0) ∙ e)))))
+    let shape = shape-of .ensures ∙ ap shapeOf (line-code _ _ _ (line-at .ensures .0)) in
+    let write-instr′ = c .before .before .before .write-instr in (
+      omega (
+        arith,
+        loop .inv .0,
+        write-instr′ .kept .1 .1 .1 .1 .1 .1 .0,
+        back-less _ _ _ _ _ _ _ _ _ _ _ (loop .inv .2) (λ e. if1 .left (shape ∙ e))
+            (write-instr′ .ensures (left-item _ _ _ _ _ _ _ _ _ _ _ (loop .inv .2) (λ e. if1 .left (shape ∙ e)))),
+      ),
+      write-instr′ .kept .1 .1 .1 .1 .1 .1 .0 ∙ loop .inv .1,
+      left-next _ _ _ _ _ _ _ _ _ _ _ (loop .inv .2) (λ e. if1 .left (shape ∙ e))
+          (write-instr′ .ensures (left-item _ _ _ _ _ _ _ _ _ _ _ (loop .inv .2) (λ e. if1 .left (shape ∙ e)))),
+    )
 
 write-make-cont-measure-requires : (t : ℕ) → write-make-cont-lts.Need-measure-requires (write-make-cont-calls t) (write-make-cont-at t) write-make-cont.Post
 write-make-cont-measure-requires t c κs = search needs
@@ -537,9 +583,10 @@ write-make-cont-put-offset-requires : (t : ℕ) → write-make-cont-lts.Need-put
     write-make-cont.Post
 write-make-cont-put-offset-requires t c κs =
     let pre = c .before .before .before .before .before .before .pre in
-    let measure = c .before .before .measure in
-    (omega (arith, saved-cut (pre .1 .3) _ (measure .ensures), saved-size (pre .1 .3) _ (measure .ensures), pre .1 .3 .room, pre .1 .2),
-    omega (arith, saved-rest (pre .1 .3) _ (measure .ensures), pre .1 .3 .fits))
+    let measure = c .before .before .measure in (
+      omega (arith, saved-cut (pre .1 .3) _ (measure .ensures), saved-size (pre .1 .3) _ (measure .ensures), pre .1 .3 .room, pre .1 .2),
+      omega (arith, saved-rest (pre .1 .3) _ (measure .ensures), pre .1 .3 .fits),
+    )
 
 write-make-cont-cast-out : (t : ℕ) → write-make-cont-lts.Need-cast-out (write-make-cont-calls t) (write-make-cont-at t) write-make-cont.Post
 write-make-cont-cast-out t c = search needs
@@ -554,8 +601,14 @@ write-make-cont-slice-write-out : (t : ℕ) → write-make-cont-lts.Need-slice-w
 write-make-cont-slice-write-out t c =
     let pre = c .before .before .before .before .before .before .before .before .before .pre in
     let measure = c .before .before .before .before .before .measure in
-    omega (arith, saved-cut (pre .1 .3) _ (measure .ensures), saved-size (pre .1 .3) _ (measure .ensures), pre .1 .3 .room, pre .1 .2,
-    c .before .before .put-offset .kept .0)
+    omega (
+      arith,
+      saved-cut (pre .1 .3) _ (measure .ensures),
+      saved-size (pre .1 .3) _ (measure .ensures),
+      pre .1 .3 .room,
+      pre .1 .2,
+      c .before .before .put-offset .kept .0,
+    )
 
 write-make-cont-write-list-requires : (t : ℕ) → write-make-cont-lts.Need-write-list-requires (write-make-cont-calls t) (write-make-cont-at t)
     write-make-cont.Post
@@ -609,19 +662,16 @@ pub +write-conditional+write-instr+write-list+write-make-cont-spec : {M : Type 1
     (write-instr-sub-write-conditional t)
     (write-instr-write-conditional-requires t)
     (write-instr-past-requires-2 t)
-    (write-instr-bits-at-requires t)
-    (write-instr-past-requires-3 t)
     (write-instr-sub-write-make-cont t)
     (write-instr-write-make-cont-requires t)
     (write-instr-sub-n t)
     (write-instr-cast-n t)
-    (write-instr-past-requires-4 t)
     (write-instr-write-simple-requires t)
     (write-instr-mul-past t)
     (write-instr-add-past t)
-    (write-instr-past-requires-5 t)
-    (write-instr-add-t28 t)
+    (write-instr-past-requires-3 t)
     (write-instr-add-t29 t)
+    (write-instr-add-t30 t)
     (write-instr-same-length t)
     (write-instr-returns t)
     (write-instr-same-length-2 t)
@@ -634,7 +684,7 @@ pub +write-conditional+write-instr+write-list+write-make-cont-spec : {M : Type 1
     write-list-Inv-loop
     write-list-μ-loop
     (write-list-loop-holds t)
-    (write-list-bits-at-requires t)
+    (write-list-line-at-requires t)
     (write-list-shape-of-requires t)
     (write-list-past-requires t)
     (write-list-same-length t)

@@ -23,9 +23,9 @@ use Rattle.lists.specs.laws.MarksLaws.{has-rest, has-arms, has-saved}
 use Rattle.lists.specs.laws.Known.{shapeHere, Arms, arms, Saved, saved, Simple, without-lists, Turn, list-within, list-end, list-turn}
 use Rattle.emit.specs.declared.Measured.{Measured}
 use Rattle.emit.specs.declared.Wrote.{Wrote}
-use Rattle.emit.specs.Written.{gap, jumpBytes, armsBytes, savedBytes, frontBytes, backBytes, measuredOf, wroteAs}
+use Rattle.emit.specs.Written.{gap, jumpBytes, armsBytes, savedBytes, frontBytes, backBytes, measuredOf, wroteAs, lineBytes}
 use Rattle.emit.specs.ToWrite.{ToWrite, ArmsToWrite, SavedToWrite, ItemToWrite, ArmsDone, SavedDone, ItemDone, itemBytes, restFront, restBack}
-use Rattle.emit.specs.laws.Stores.{sets-four, operands-length, jump-length, arms-length, put-length, simple-bytes, fits-jumps, fits-arms, fits-saved}
+use Rattle.emit.specs.laws.Stores.{sets-four, operands-length, jump-length, arms-length, put-length, simple-bytes, fits-jumps, fits-arms, fits-saved, line-bytes}
 use Rattle.emit.specs.laws.Stores.{fits-rest, rest-written}
 
 -- ---- the size of a list, by its mark
@@ -242,13 +242,14 @@ module _ {s M : List ℕ} {l p f b : ℕ} (w : ItemToWrite s M l p f b) where
     plain-room = omega (arith, item-room, plain-length)
 
     pub plain-item : {k : ℕ} {q : BitPlace} (o : List ℕ) {o′ : List ℕ} → k ≡ shapeHere s l p - 1 → q .0 ≡ p + (5 + 8 * k)
-        → {v a : ℕ} → v ≡ fieldAt s p 5 → a ≡ p + 5 → o′ ≡ sets o f (v ∷ operandsAt s a k)
+        → {line : ℕ} → line ≡ fieldAt s p 21 → o′ ≡ sets o f (lineBytes line k)
         → ItemDone w (record { next = q; front = f + 1 + k; back = b }) o o′
-    plain-item {k} {q} o e g n i h =
+    plain-item {k} {q} o e g {line} n h =
         let e₁ : restBack w ≡ b = omega (arith, item-room, ap length (plain-bytes .1)) in
         let e₂ : q .0 ≡ w .past = omega (arith, plain .4) in
         let e₃ : f + 1 + k ≡ restFront w = omega (arith, plain-length) in
-        (wrote-eq q e₂ e₃ (sym e₁), rw (plain-bytes .1, plain-bytes .0, ← e, ← n, ← i) h)
+        let b : lineBytes line k ≡ fieldAt s p 5 ∷ operandsAt s (p + 5) k = line-bytes s p line k n (omega (arith, plain .1)) in
+        (wrote-eq q e₂ e₃ (sym e₁), rw (plain-bytes .1, plain-bytes .0, ← e, ← b) h)
 
 -- ---- a list, from p₀ on into o₀, of which what is left stands at p and goes into o
 to-write-same : {s M : List ℕ} {l p f b : ℕ} (w v : ToWrite s M l p f b) → (w .past ≡ v .past) × (w .code ≡ v .code)

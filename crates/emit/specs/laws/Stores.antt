@@ -1,5 +1,5 @@
 -- Runs of stores, and what an instruction leaves of a list's flat code to write. Assumes nothing.
-use Prim.Native.Nat.{ℕ, zero, suc, _+_, _-_, _≤_, _<_}
+use Prim.Native.Nat.{ℕ, zero, suc, _+_, _-_, _/_, _%_, _≤_, _<_}
 use native.Mathlib.Nat.{add-zero, zero-add, add-suc, suc-add}
 use native.Mathlib.Numerals.{add-one, add-two}
 use native.Mathlib.Omega.{arith}
@@ -13,13 +13,14 @@ use lib.Dec.{eqb}
 use Rattle.cells.specs.laws.Laws.{clash}
 use Rattle.cells.specs.laws.Lists.{sets-append}
 use Rattle.fields.specs.Field.{fieldAt}
+use Rattle.fields.specs.laws.Laws.{line-code, line-first, line-second}
 use Rattle.files.specs.Codes.{shapeOf}
 use Rattle.files.specs.Code.{Code, Instr, neutral-i, return-i, call-i, unless-i, cont-i, put, simple}
 use Rattle.files.specs.Grammar.{isClosed}
 use Rattle.files.specs.Flat.{offset, conditional, flat, fitsOffset, armsFit, offsetsFit}
 use Rattle.files.specs.laws.RowFilled.{set-sets}
 use Rattle.lists.specs.Pass.{operandsAt}
-use Rattle.emit.specs.Written.{gap, jumpBytes, armsBytes, savedBytes, frontBytes, backBytes}
+use Rattle.emit.specs.Written.{gap, jumpBytes, armsBytes, savedBytes, lineBytes, frontBytes, backBytes}
 
 -- ---- runs of stores
 -- in two parts that do not meet
@@ -144,15 +145,25 @@ fits-jumps true x y h = (omega (arith, leb-true x 65535 h), λ e. clash (cc))
 fits-jumps false x y h = let a = and-eq-true-iff (fitsOffset (3 + x)) (fitsOffset y) .0 h in (leb-true (3 + x) 65535 (a .0), λ e. leb-true y 65535 (a .1))
 
 -- an instruction's code, and then its operands: none, one or two
-pub none-written : (s : List ℕ) (p n v f : ℕ) (o : List ℕ) → n ≡ 0 → set o f v ≡ sets o f (v ∷ operandsAt s p n)
-unfolding operandsAt
-none-written s p n v f o e = rw e refl
+pub none-written : (line n f : ℕ) (o : List ℕ) → n ≡ 0 → set o f (line / 65536) ≡ sets o f (lineBytes line n)
+unfolding lineBytes
+none-written line n f o e = rw e refl
 
-pub one-written : (s : List ℕ) (p n v x f : ℕ) (o : List ℕ) → n ≡ 1 → x ≡ fieldAt s p 8 → set (set o f v) (f + 1) x ≡ sets o f (v ∷ operandsAt s p n)
-unfolding operandsAt
-one-written s p n v x f o e g = rw (e, g, add-one) refl
+pub one-written : (line n f : ℕ) (o : List ℕ) → n ≡ 1 → set (set o f (line / 65536)) (f + 1) (line / 256 % 256) ≡ sets o f (lineBytes line n)
+unfolding lineBytes
+one-written line n f o e = rw (e, add-one) refl
 
-pub two-written : (s : List ℕ) (p n v x y f : ℕ) (o : List ℕ) → n ≡ 2 → x ≡ fieldAt s p 8 → y ≡ fieldAt s (p + 8) 8
-    → set (set (set o f v) (f + 1) x) (f + 2) y ≡ sets o f (v ∷ operandsAt s p n)
-unfolding operandsAt
-two-written s p n v x y f o e g h = rw (e, g, h, add-one, add-two) refl
+pub two-written : (line n f : ℕ) (o : List ℕ) → n ≡ 2
+    → set (set (set o f (line / 65536)) (f + 1) (line / 256 % 256)) (f + 2) (line % 256) ≡ sets o f (lineBytes line n)
+unfolding lineBytes
+two-written line n f o e = rw (e, add-one, add-two) refl
+
+-- they are those that stand at its place
+pub line-bytes : (s : List ℕ) (p line n : ℕ) → line ≡ fieldAt s p 21 → n ≤ 2 → lineBytes line n ≡ fieldAt s p 5 ∷ operandsAt s (p + 5) n
+unfolding lineBytes operandsAt
+line-bytes s p line zero e h = rw (line-code s p line e) refl
+line-bytes s p line (suc zero) e h = rw (line-code s p line e, line-first s p line e) refl
+line-bytes s p line (suc (suc zero)) e h =
+    let i : p + 5 + 8 ≡ p + 13 = omega arith in
+    rw (line-code s p line e, line-first s p line e, line-second s p line e, i) refl
+line-bytes s p line (suc (suc (suc n))) e h = absurd (omega arith)

@@ -180,3 +180,19 @@ line-of s p =
 pub line-at : (s : List ℕ) (p x b r : ℕ) → x ≡ fieldAt s (8 * b) 32 → b ≡ p / 8 → r ≡ p % 8
     → (x / 2 ^ (11 - r) % 2 ^ 21 ≡ fieldAt s p 21) × (x / 2 ^ (11 - r) % 2 ^ 21 < 2 ^ 21)
 line-at s p x b r h k m = rw (h, k, m, line-of s p) (refl, field-small s p 21)
+
+-- the parts of a line of 21 bits: a code and what may be two operands
+module _ (s : List ℕ) (p line : ℕ) (is : line ≡ fieldAt s p 21) where
+  parts : line ≡ fieldAt s p 5 * 65536 + (fieldAt s (p + 5) 8 * 256 + fieldAt s (p + 13) 8)
+  parts =
+      let e : p + 5 + 8 ≡ p + 13 = omega arith in
+      is ∙ field-split s p 5 16 ∙ ap (λ (x : ℕ). fieldAt s p 5 * 65536 + x) (field-split s (p + 5) 8 8 ∙ rw e refl)
+
+  pub line-code : line / 65536 ≡ fieldAt s p 5
+  line-code = omega (arith, parts, field-small s (p + 5) 8, field-small s (p + 13) 8)
+
+  pub line-first : line / 256 % 256 ≡ fieldAt s (p + 5) 8
+  line-first = omega (arith, parts, field-small s (p + 5) 8, field-small s (p + 13) 8)
+
+  pub line-second : line % 256 ≡ fieldAt s (p + 13) 8
+  line-second = omega (arith, parts, field-small s (p + 5) 8, field-small s (p + 13) 8)

@@ -12,7 +12,7 @@ use Rattle.rules.specs.laws.Lists.{by-lt}
 use Rattle.cells.specs.declared.BitPlace.{BitPlace}
 use Rattle.fields.specs.declared.Field.the-variants.{Read, Cut}
 use Rattle.fields.specs.Field.{fieldAt, fieldRead}
-use Rattle.fields.specs.laws.Laws.{cut, whole, field-small, field-split}
+use Rattle.fields.specs.laws.Laws.{cut, whole, field-small, line-code, line-first, line-second}
 use Rattle.files.specs.Codes.{CodeRow, codes, shape, shapeOf}
 use Rattle.links.specs.Links.{linkAt}
 use Rattle.machines.specs.Fetched.{Fetched, bad, plainly, ruleOf}
@@ -112,28 +112,14 @@ kept slot v a b h l =
 
 -- ---- the line
 module _ (s : List ℕ) (p line : ℕ) (is : line ≡ fieldAt s p 21) where
-  parts : line ≡ fieldAt s p 5 * 65536 + (fieldAt s (p + 5) 8 * 256 + fieldAt s (p + 13) 8)
-  parts =
-      let e : p + 5 + 8 ≡ p + 13 = omega arith in
-      is ∙ field-split s p 5 16 ∙ ap (λ (x : ℕ). fieldAt s p 5 * 65536 + x) (field-split s (p + 5) 8 8 ∙ rw e refl)
-
-  code-of : line / 65536 ≡ fieldAt s p 5
-  code-of = omega (arith, parts, field-small s (p + 5) 8, field-small s (p + 13) 8)
-
-  first-of : line / 256 % 256 ≡ fieldAt s (p + 5) 8
-  first-of = omega (arith, parts, field-small s (p + 5) 8, field-small s (p + 13) 8)
-
-  second-of : line % 256 ≡ fieldAt s (p + 13) 8
-  second-of = omega (arith, parts, field-small s (p + 5) 8, field-small s (p + 13) 8)
-
   -- the code is read, and is that of a list's end or is not
   pub line-read : p + 5 ≤ 8 * length s → fieldRead s p 5 ≡ Read (line / 65536) (record { 0 = p + 5 })
-  line-read h = sym (whole s p 5 h) ∙ ap (λ (u : ℕ). Read u (record { 0 = p + 5 })) (sym code-of)
+  line-read h = sym (whole s p 5 h) ∙ ap (λ (u : ℕ). Read u (record { 0 = p + 5 })) (sym (line-code s p line is))
 
   -- ---- an instruction of which the code v is whole
   module _ (L table : List ℕ) (t v n : ℕ) (code : v ≡ line / 65536) (count : n ≡ treeBytes v) where
     below : v < 32
-    below = omega (arith, code, code-of, field-small s p 5)
+    below = omega (arith, code, line-code s p line is, field-small s p 5)
 
     count-by : n ≡ bytesBy (shapeOf v)
     count-by = count ∙ bytes-by v below
@@ -165,7 +151,7 @@ module _ (s : List ℕ) (p line : ℕ) (is : line ≡ fieldAt s p 21) where
     -- it is whole, and q is the place past it
     module _ (q : ℕ) (fits : p + (5 + 8 * n) ≤ 8 * length s) (past : q ≡ p + (5 + 8 * n)) where
       first-read : 1 ≤ n → fieldRead s (p + 5) 8 ≡ Read (line / 256 % 256) (record { 0 = p + 5 + 8 })
-      first-read h = read-at (p + 5) (omega arith) ∙ ap (λ (a : ℕ). Read a (record { 0 = p + 5 + 8 })) (sym first-of)
+      first-read h = read-at (p + 5) (omega arith) ∙ ap (λ (a : ℕ). Read a (record { 0 = p + 5 + 8 })) (sym (line-first s p line is))
 
       pub line-transfer : v < 6 → (x : Fetched) → x ≡ transferAs (linkAt L p) v (line / 256 % 256) q → x ≡ instructionAt s L table t p
       unfolding transferAs shapedAs shapeOf bytesBy withRead
@@ -203,7 +189,7 @@ module _ (s : List ℕ) (p line : ℕ) (is : line ≡ fieldAt s p 21) where
               let i : p + 13 ≡ p + 5 + 8 = omega arith in
               let f : fieldRead s (p + 5 + 8) 8 ≡ Read (line % 256) (record { 0 = p + 5 + 8 + 8 }) =
               read-at (p + 5 + 8) (omega (arith, c))
-              ∙ ap (λ (b : ℕ). Read b (record { 0 = p + 5 + 8 + 8 })) (sym (second-of ∙ ap (λ (x : ℕ). fieldAt s x 8) i))
+              ∙ ap (λ (b : ℕ). Read b (record { 0 = p + 5 + 8 + 8 })) (sym (line-second s p line is ∙ ap (λ (x : ℕ). fieldAt s x 8) i))
               in
               rw (first-read (omega (arith, c)), f, z) refl
           by k c (not-kept e) = rw e refl
