@@ -142,8 +142,13 @@ read-branch-add-t17 : (t : ℕ) → read-branch-lts.Need-add-t17 (
   branch-kind-reads.Learnt,
 ) (read-branch-at t) read-branch.Post
 read-branch-add-t17 t c =
-    let w = inside-few (c .before .before .before .before .before .before .before .before .before .before .before .before .pre .1) (list-is _ _ _ _ _ (sym (c .before .before .before .before .before .before .before .before .mid .given .1) ∙ c .before .before .before .before .before .before .before .before .before .before .read-list .ensures)) in
-    let v = inside-few (c .before .before .before .before .before .before .before .before .before .before .before .before .pre .1) (list-is _ _ _ _ _ (sym (c .before .before .before .before .past .given .1) ∙ c .before .before .before .before .before .before .read-list2 .ensures)) in
+    let pre = c .before .before .before .before .before .before .before .before .before .before .before .before .pre in
+    let read-list′ = c .before .before .before .before .before .before .before .before .before .before .read-list in
+    let mid = c .before .before .before .before .before .before .before .before .mid in
+    let read-list2 = c .before .before .before .before .before .before .read-list2 in
+    let past = c .before .before .before .before .past in
+    let w = inside-few (pre .1) (list-is _ _ _ _ _ (sym (mid .given .1) ∙ read-list′ .ensures)) in
+    let v = inside-few (pre .1) (list-is _ _ _ _ _ (sym (past .given .1) ∙ read-list2 .ensures)) in
     omega (arith, w, v)
 
 read-branch-enum-known-no : (t : ℕ) → read-branch-lts.Need-enum-known-no (
@@ -169,9 +174,13 @@ read-branch-returns : (t : ℕ) → read-branch-lts.Need-returns (
   branch-kind-reads.Learnt,
 ) (read-branch-at t) read-branch.Post
 read-branch-returns t c =
+    let read-list′ = c .before .before .before .before .before .before .before .before .before .before .read-list in
+    let mid = c .before .before .before .before .before .before .before .before .mid in
+    let read-list2 = c .before .before .before .before .before .before .read-list2 in
+    let past = c .before .before .before .before .past in
     λ p e. rw (c .before .before .branch-kind .ensures)
-    (branch-step _ _ p _ e _ _ (list-is _ _ _ _ _ (sym (c .before .before .before .before .before .before .before .before .mid .given .1) ∙ c .before .before .before .before .before .before .before .before .before .before .read-list .ensures)) _ _
-    (list-is _ _ _ _ _ (sym (c .before .before .before .before .past .given .1) ∙ c .before .before .before .before .before .before .read-list2 .ensures)))
+    (branch-step _ _ p _ e _ _ (list-is _ _ _ _ _ (sym (mid .given .1) ∙ read-list′ .ensures)) _ _
+    (list-is _ _ _ _ _ (sym (past .given .1) ∙ read-list2 .ensures)))
 
 read-branch-returns-2 : (t : ℕ) → read-branch-lts.Need-returns-2 (
   read-list-below t,
@@ -180,8 +189,11 @@ read-branch-returns-2 : (t : ℕ) → read-branch-lts.Need-returns-2 (
   branch-kind-reads.Learnt,
 ) (read-branch-at t) read-branch.Post
 read-branch-returns-2 t c =
-    λ p e. branch-bad-2 _ _ p _ e _ _ (list-is _ _ _ _ _ (sym (c .before .before .before .before .before .mid .given .1) ∙ c .before .before .before .before .before .before .before .read-list .ensures)) _ _
-    (list-refused _ _ _ _ _ (sym (c .before .no .given .1) ∙ c .before .before .before .read-list2 .ensures))
+    let read-list′ = c .before .before .before .before .before .before .before .read-list in
+    let mid = c .before .before .before .before .before .mid in
+    let read-list2 = c .before .before .before .read-list2 in
+    λ p e. branch-bad-2 _ _ p _ e _ _ (list-is _ _ _ _ _ (sym (mid .given .1) ∙ read-list′ .ensures)) _ _
+    (list-refused _ _ _ _ _ (sym (c .before .no .given .1) ∙ read-list2 .ensures))
 
 read-branch-returns-3 : (t : ℕ) → read-branch-lts.Need-returns-3 (
   read-list-below t,
@@ -189,7 +201,9 @@ read-branch-returns-3 : (t : ℕ) → read-branch-lts.Need-returns-3 (
   branch-kind-reads.Asked,
   branch-kind-reads.Learnt,
 ) (read-branch-at t) read-branch.Post
-read-branch-returns-3 t c = λ p e. branch-bad _ _ p _ e _ _ (list-refused _ _ _ _ _ (sym (c .before .no2 .given .1) ∙ c .before .before .before .read-list .ensures))
+read-branch-returns-3 t c =
+    let read-list′ = c .before .before .before .read-list in
+    λ p e. branch-bad _ _ p _ e _ _ (list-refused _ _ _ _ _ (sym (c .before .no2 .given .1) ∙ read-list′ .ensures))
 
 read-closure-read-list-requires : (t : ℕ) → read-closure-lts.Need-read-list-requires (
   read-list-below t,
@@ -209,7 +223,11 @@ read-closure-add-t11 :
     (read-list-below t, read-list.Post)
     (read-closure-at t)
     read-closure.Post
-read-closure-add-t11 t c = let w = inside-few (c .before .before .before .before .before .before .pre .1) (list-is _ _ _ _ _ (sym (c .before .before .past .given .1) ∙ c .before .before .before .before .read-list .ensures)) in omega (arith, w)
+read-closure-add-t11 t c =
+    let pre = c .before .before .before .before .before .before .pre in
+    let read-list′ = c .before .before .before .before .read-list in
+    let w = inside-few (pre .1) (list-is _ _ _ _ _ (sym (c .before .before .past .given .1) ∙ read-list′ .ensures)) in
+    omega (arith, w)
 
 read-closure-enum-known-no : (t : ℕ) → read-closure-lts.Need-enum-known-no (
   read-list-below t,
@@ -223,13 +241,17 @@ read-closure-returns :
     (read-list-below t, read-list.Post)
     (read-closure-at t)
     read-closure.Post
-read-closure-returns t c = λ p e. closure-step _ _ p _ e _ _ (list-is _ _ _ _ _ (sym (c .before .before .past .given .1) ∙ c .before .before .before .before .read-list .ensures))
+read-closure-returns t c =
+    let read-list′ = c .before .before .before .before .read-list in
+    λ p e. closure-step _ _ p _ e _ _ (list-is _ _ _ _ _ (sym (c .before .before .past .given .1) ∙ read-list′ .ensures))
 
 read-closure-returns-2 : (t : ℕ) → read-closure-lts.Need-returns-2 (
   read-list-below t,
   read-list.Post,
 ) (read-closure-at t) read-closure.Post
-read-closure-returns-2 t c = λ p e. closure-bad _ _ p _ e _ _ (list-refused _ _ _ _ _ (sym (c .before .no .given .1) ∙ c .before .before .before .read-list .ensures))
+read-closure-returns-2 t c =
+    let read-list′ = c .before .before .before .read-list in
+    λ p e. closure-bad _ _ p _ e _ _ (list-refused _ _ _ _ _ (sym (c .before .no .given .1) ∙ read-list′ .ensures))
 
 read-item-read-token-requires : (t : ℕ) → read-item-lts.Need-read-token-requires (
   read-token-reads.Asked,
@@ -337,7 +359,11 @@ read-item-read-closure-requires : (t : ℕ) → read-item-lts.Need-read-closure-
   read-saved-below t,
   read-saved.Post,
 ) (read-item-at t) read-item.Post
-read-item-read-closure-requires t c κs = let h = closure-level _ _ _ _ (is-closure _ _ (turned (c .before .next6 .given .1) (c .before .before .before .read-token .ensures))) in (omega (arith, h), c .before .before .before .before .before .pre .1)
+read-item-read-closure-requires t c κs =
+    let pre = c .before .before .before .before .before .pre in
+    let read-token = c .before .before .before .read-token in
+    let h = closure-level _ _ _ _ (is-closure _ _ (turned (c .before .next6 .given .1) (read-token .ensures))) in
+    (omega (arith, h), pre .1)
 
 read-item-enum-known-next-7 : (t : ℕ) → read-item-lts.Need-enum-known-next-7 (
   read-token-reads.Asked,
@@ -373,7 +399,11 @@ read-item-read-branch-requires : (t : ℕ) → read-item-lts.Need-read-branch-re
   read-saved-below t,
   read-saved.Post,
 ) (read-item-at t) read-item.Post
-read-item-read-branch-requires t c κs = let h = branch-level _ _ _ _ (is-branch _ _ (turned (c .before .next7 .given .1) (c .before .before .before .read-token .ensures))) in (omega (arith, h), c .before .before .before .before .before .pre .1)
+read-item-read-branch-requires t c κs =
+    let pre = c .before .before .before .before .before .pre in
+    let read-token = c .before .before .before .read-token in
+    let h = branch-level _ _ _ _ (is-branch _ _ (turned (c .before .next7 .given .1) (read-token .ensures))) in
+    (omega (arith, h), pre .1)
 
 read-item-enum-known-next-8 : (t : ℕ) → read-item-lts.Need-enum-known-next-8 (
   read-token-reads.Asked,
@@ -409,7 +439,11 @@ read-item-read-saved-requires : (t : ℕ) → read-item-lts.Need-read-saved-requ
   read-saved-below t,
   read-saved.Post,
 ) (read-item-at t) read-item.Post
-read-item-read-saved-requires t c κs = let h = save-level _ _ _ _ _ (is-save _ _ (turned (c .before .next8 .given .1) (c .before .before .before .read-token .ensures)) .1) in (omega (arith, h), c .before .before .before .before .before .pre .1)
+read-item-read-saved-requires t c κs =
+    let pre = c .before .before .before .before .before .pre in
+    let read-token = c .before .before .before .read-token in
+    let h = save-level _ _ _ _ _ (is-save _ _ (turned (c .before .next8 .given .1) (read-token .ensures)) .1) in
+    (omega (arith, h), pre .1)
 
 read-item-enum-known-no : (t : ℕ) → read-item-lts.Need-enum-known-no (
   read-token-reads.Asked,
@@ -577,7 +611,10 @@ read-list-returns : (t : ℕ) → read-list-lts.Need-returns (
   kind-after-reads.Asked,
   kind-after-reads.Learnt,
 ) (read-list-at t) read-list.Post read-list-Inv-loop read-list-μ-loop
-read-list-returns t c = sym (c .before .before .before .before .loop .inv .0 ∙ turn-end _ _ _ _ _ _ (stepped (c .before .next .given .1) (c .before .before .before .read-item .ensures)))
+read-list-returns t c =
+    let loop = c .before .before .before .before .loop in
+    let read-item′ = c .before .before .before .read-item in
+    sym (loop .inv .0 ∙ turn-end _ _ _ _ _ _ (stepped (c .before .next .given .1) (read-item′ .ensures)))
 
 read-list-enum-known-next-2 : (t : ℕ) → read-list-lts.Need-enum-known-next-2 (
   read-item-below t,
@@ -601,7 +638,11 @@ read-list-add-inside : (t : ℕ) → read-list-lts.Need-add-inside (
   kind-after-reads.Asked,
   kind-after-reads.Learnt,
 ) (read-list-at t) read-list.Post read-list-Inv-loop read-list-μ-loop
-read-list-add-inside t c = let w = turn-bits _ _ _ _ _ _ (stepped (c .before .before .next2 .given .1) (c .before .before .before .before .read-item .ensures)) in omega (arith, w .0, w .1, c .before .before .before .before .before .loop .inv .1)
+read-list-add-inside t c =
+    let loop = c .before .before .before .before .before .loop in
+    let read-item′ = c .before .before .before .before .read-item in
+    let w = turn-bits _ _ _ _ _ _ (stepped (c .before .before .next2 .given .1) (read-item′ .ensures)) in
+    omega (arith, w .0, w .1, loop .inv .1)
 
 read-list-loop-less : (t : ℕ) → read-list-lts.Need-loop-less (
   read-item-below t,
@@ -609,7 +650,10 @@ read-list-loop-less : (t : ℕ) → read-list-lts.Need-loop-less (
   kind-after-reads.Asked,
   kind-after-reads.Learnt,
 ) (read-list-at t) read-list.Post read-list-Inv-loop read-list-μ-loop
-read-list-loop-less t c = let w = turn-bits _ _ _ _ _ _ (stepped (c .before .before .next2 .given .1) (c .before .before .before .before .read-item .ensures)) in omega (arith, w .0, w .1)
+read-list-loop-less t c =
+    let read-item′ = c .before .before .before .before .read-item in
+    let w = turn-bits _ _ _ _ _ _ (stepped (c .before .before .next2 .given .1) (read-item′ .ensures)) in
+    omega (arith, w .0, w .1)
 
 read-list-loop-again : (t : ℕ) → read-list-lts.Need-loop-again (
   read-item-below t,
@@ -618,9 +662,11 @@ read-list-loop-again : (t : ℕ) → read-list-lts.Need-loop-again (
   kind-after-reads.Learnt,
 ) (read-list-at t) read-list.Post read-list-Inv-loop read-list-μ-loop
 read-list-loop-again t c =
-    let w = turn-bits _ _ _ _ _ _ (stepped (c .before .before .next2 .given .1) (c .before .before .before .before .read-item .ensures)) in
-    rw (c .kind-after .ensures)
-    (c .before .before .before .before .before .loop .inv .0 ∙ turn-more _ _ _ _ _ _ _ _ (stepped (c .before .before .next2 .given .1) (c .before .before .before .before .read-item .ensures)), omega (arith, w .0, c .before .before .before .before .before .loop .inv .1))
+    let loop = c .before .before .before .before .before .loop in
+    let read-item′ = c .before .before .before .before .read-item in
+    let next2 = c .before .before .next2 in
+    let w = turn-bits _ _ _ _ _ _ (stepped (next2 .given .1) (read-item′ .ensures)) in
+    rw (c .kind-after .ensures) (loop .inv .0 ∙ turn-more _ _ _ _ _ _ _ _ (stepped (next2 .given .1) (read-item′ .ensures)), omega (arith, w .0, loop .inv .1))
 
 read-list-enum-known-no : (t : ℕ) → read-list-lts.Need-enum-known-no (
   read-item-below t,
@@ -636,7 +682,10 @@ read-list-returns-2 : (t : ℕ) → read-list-lts.Need-returns-2 (
   kind-after-reads.Asked,
   kind-after-reads.Learnt,
 ) (read-list-at t) read-list.Post read-list-Inv-loop read-list-μ-loop
-read-list-returns-2 t c = sym (c .before .before .before .before .loop .inv .0 ∙ turn-bad _ _ _ _ _ _ _ (stepped (c .before .no .given .1) (c .before .before .before .read-item .ensures)))
+read-list-returns-2 t c =
+    let loop = c .before .before .before .before .loop in
+    let read-item′ = c .before .before .before .read-item in
+    sym (loop .inv .0 ∙ turn-bad _ _ _ _ _ _ _ (stepped (c .before .no .given .1) (read-item′ .ensures)))
 
 read-saved-read-list-requires : (t : ℕ) → read-saved-lts.Need-read-list-requires (
   read-list-below t,
@@ -676,7 +725,9 @@ read-saved-returns : (t : ℕ) → read-saved-lts.Need-returns (
   save-kind-reads.Asked,
   save-kind-reads.Learnt,
 ) (read-saved-at t) read-saved.Post
-read-saved-returns t c = λ p n e. rw (c .save-kind .ensures) (save-step _ _ p _ n e _ _ (list-is _ _ _ _ _ (sym (c .before .before .past .given .1) ∙ c .before .before .before .before .read-list .ensures)))
+read-saved-returns t c =
+    let read-list′ = c .before .before .before .before .read-list in
+    λ p n e. rw (c .save-kind .ensures) (save-step _ _ p _ n e _ _ (list-is _ _ _ _ _ (sym (c .before .before .past .given .1) ∙ read-list′ .ensures)))
 
 read-saved-returns-2 : (t : ℕ) → read-saved-lts.Need-returns-2 (
   read-list-below t,
@@ -684,7 +735,9 @@ read-saved-returns-2 : (t : ℕ) → read-saved-lts.Need-returns-2 (
   save-kind-reads.Asked,
   save-kind-reads.Learnt,
 ) (read-saved-at t) read-saved.Post
-read-saved-returns-2 t c = λ p n e. save-bad _ _ p _ n e _ _ (list-refused _ _ _ _ _ (sym (c .before .no .given .1) ∙ c .before .before .before .read-list .ensures))
+read-saved-returns-2 t c =
+    let read-list′ = c .before .before .before .read-list in
+    λ p n e. save-bad _ _ p _ n e _ _ (list-refused _ _ _ _ _ (sym (c .before .no .given .1) ∙ read-list′ .ensures))
 
 pub +read-branch+read-closure+read-item+read-list+read-saved-spec : {M : Type 1} → statement M
 +read-branch+read-closure+read-item+read-list+read-saved-spec =

@@ -21,8 +21,10 @@ to-byte-requires c κs = search needs
 
 zero-bits-requires : tie.Need-zero-bits-requires
 zero-bits-requires c κs =
-    let w = list-is _ _ _ _ _ (sym (c .before .before .end .given .1) ∙ c .before .before .before .before .read-list .ensures) in
-    (omega (arith, c .before .before .before .before .before .if1 .left), rw (c .to-byte .ensures) (padding-within _ (c .before .before .before .before .before .if1 .left) _ _ w))
+    let if1 = c .before .before .before .before .before .if1 in
+    let read-list = c .before .before .before .before .read-list in
+    let w = list-is _ _ _ _ _ (sym (c .before .before .end .given .1) ∙ read-list .ensures) in
+    (omega (arith, if1 .left), rw (c .to-byte .ensures) (padding-within _ (if1 .left) _ _ w))
 
 enum-known-next : tie.Need-enum-known-next
 enum-known-next c = search needs
@@ -44,23 +46,44 @@ enum-known-no c = search needs
 
 returns-2 : tie.Need-returns-2
 returns-2 c =
-    let w = list-is _ _ _ _ _ (sym (c .before .before .before .before .before .before .before .before .before .end .given .1) ∙ c .before .before .before .before .before .before .before .before .before .before .before .read-list .ensures) in
-    file-whole _ (c .before .before .before .before .before .before .before .before .before .before .before .before .if1 .left) _ _ w _ (sym (rw (c .before .before .before .before .before .before .before .to-byte .ensures) at (c .before .before .before .before .before .before .zero-bits .ensures)) ∙ c .before .before .before .before .next .given .1) _
+    let if1 = c .before .before .before .before .before .before .before .before .before .before .before .before .if1 in
+    let read-list = c .before .before .before .before .before .before .before .before .before .before .before .read-list in
+    let end = c .before .before .before .before .before .before .before .before .before .end in
+    let to-byte = c .before .before .before .before .before .before .before .to-byte in
+    let zero-bits = c .before .before .before .before .before .before .zero-bits in
+    let next = c .before .before .before .before .next in
+    let w = list-is _ _ _ _ _ (sym (end .given .1) ∙ read-list .ensures) in
+    file-whole _ (if1 .left) _ _ w _ (sym (rw (to-byte .ensures) at (zero-bits .ensures)) ∙ next .given .1) _
     (sym (c .before .before .nothing-more .ensures) ∙ c .enum-told .given .1)
 
 returns-3 : tie.Need-returns-3
 returns-3 c =
-    let w = list-is _ _ _ _ _ (sym (c .before .before .before .before .before .before .before .before .before .before .end .given .1) ∙ c .before .before .before .before .before .before .before .before .before .before .before .before .read-list .ensures) in
-    file-more _ (c .before .before .before .before .before .before .before .before .before .before .before .before .before .if1 .left) _ _ w _ (sym (rw (c .before .before .before .before .before .before .before .before .to-byte .ensures) at (c .before .before .before .before .before .before .before .zero-bits .ensures)) ∙ c .before .before .before .before .before .next .given .1) _
-    (sym (c .before .before .before .nothing-more .ensures) ∙ c .before .place .given .1)
+    let if1 = c .before .before .before .before .before .before .before .before .before .before .before .before .before .if1 in
+    let read-list = c .before .before .before .before .before .before .before .before .before .before .before .before .read-list in
+    let end = c .before .before .before .before .before .before .before .before .before .before .end in
+    let to-byte = c .before .before .before .before .before .before .before .before .to-byte in
+    let zero-bits = c .before .before .before .before .before .before .before .zero-bits in
+    let next = c .before .before .before .before .before .next in
+    let nothing-more = c .before .before .before .nothing-more in
+    let w = list-is _ _ _ _ _ (sym (end .given .1) ∙ read-list .ensures) in
+    file-more _ (if1 .left) _ _ w _ (sym (rw (to-byte .ensures) at (zero-bits .ensures)) ∙ next .given .1) _
+    (sym (nothing-more .ensures) ∙ c .before .place .given .1)
 
 returns-4 : tie.Need-returns-4
 returns-4 c =
-    let w = list-is _ _ _ _ _ (sym (c .before .before .before .before .before .before .end .given .1) ∙ c .before .before .before .before .before .before .before .before .read-list .ensures) in
-    file-padding _ (c .before .before .before .before .before .before .before .before .before .if1 .left) _ _ w _ (sym (rw (c .before .before .before .before .to-byte .ensures) at (c .before .before .before .zero-bits .ensures)) ∙ c .before .place2 .given .1)
+    let if1 = c .before .before .before .before .before .before .before .before .before .if1 in
+    let read-list = c .before .before .before .before .before .before .before .before .read-list in
+    let end = c .before .before .before .before .before .before .end in
+    let to-byte = c .before .before .before .before .to-byte in
+    let zero-bits = c .before .before .before .zero-bits in
+    let w = list-is _ _ _ _ _ (sym (end .given .1) ∙ read-list .ensures) in
+    file-padding _ (if1 .left) _ _ w _ (sym (rw (to-byte .ensures) at (zero-bits .ensures)) ∙ c .before .place2 .given .1)
 
 returns-5 : tie.Need-returns-5
-returns-5 c = file-unread _ (c .before .before .before .before .if1 .left) _ _ (list-refused _ _ _ _ _ (sym (c .before .no .given .1) ∙ c .before .before .before .read-list .ensures))
+returns-5 c =
+    let if1 = c .before .before .before .before .if1 in
+    let read-list = c .before .before .before .read-list in
+    file-unread _ (if1 .left) _ _ (list-refused _ _ _ _ _ (sym (c .before .no .given .1) ∙ read-list .ensures))
 
 pub read-basic-spec : {M : Type 1} → statement M
 read-basic-spec =

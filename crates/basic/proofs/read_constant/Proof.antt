@@ -22,13 +22,18 @@ enum-told : tie.Need-enum-told
 enum-told c = search needs
 
 returns-2 : tie.Need-returns-2
-returns-2 c = constant-cut _ _ _ _ 32 (omega arith) (width-narrow _ (c .before .before .before .if2 .taken)) (field-cut _ _ 32 (c .before .before .read-word .ensures) (c .enum-told .given .1))
+returns-2 c =
+    let if2 = c .before .before .before .if2 in
+    constant-cut _ _ _ _ 32 (omega arith) (width-narrow _ (if2 .taken)) (field-cut _ _ 32 (c .before .before .read-word .ensures) (c .enum-told .given .1))
 
 cast-t9 : tie.Need-cast-t9
 cast-t9 c = search needs
 
 returns-3 : tie.Need-returns-3
-returns-3 c = constant-read _ _ _ _ 32 (omega arith) (width-narrow _ (c .before .before .before .before .if2 .taken)) _ _ (field-read _ _ 32 (c .before .before .before .read-word .ensures) (c .before .x .given .1))
+returns-3 c =
+    let if2 = c .before .before .before .before .if2 in
+    let read-word = c .before .before .before .read-word in
+    constant-read _ _ _ _ 32 (omega arith) (width-narrow _ (if2 .taken)) _ _ (field-read _ _ 32 (read-word .ensures) (c .before .x .given .1))
 
 within-requires : tie.Need-within-requires
 within-requires c κs = search needs
@@ -44,11 +49,15 @@ past-requires c κs = search needs
 
 returns-4 : tie.Need-returns-4
 returns-4 c =
-    constant-read _ _ _ _ 48 (omega arith) (width-wide _ (c .before .before .before .before .if3 .taken)) _ _
-    (field-read _ _ 48 (whole-by _ _ 48 (c .before .before .before .within .ensures) (c .before .before .if4 .taken) (c .before .wide-at .ensures) (c .past .ensures)) refl)
+    let if3 = c .before .before .before .before .if3 in
+    let within = c .before .before .before .within in
+    constant-read _ _ _ _ 48 (omega arith) (width-wide _ (if3 .taken)) _ _
+    (field-read _ _ 48 (whole-by _ _ 48 (within .ensures) (c .before .before .if4 .taken) (c .before .wide-at .ensures) (c .past .ensures)) refl)
 
 returns-5 : tie.Need-returns-5
-returns-5 c = constant-cut _ _ _ _ 48 (omega arith) (width-wide _ (c .before .before .if3 .taken)) (field-cut _ _ 48 (cut-by _ _ 48 (c .before .within .ensures) (c .if4 .left)) refl)
+returns-5 c =
+    constant-cut _ _ _ _ 48 (omega arith) (width-wide _ (c .before .before .if3 .taken))
+    (field-cut _ _ 48 (cut-by _ _ 48 (c .before .within .ensures) (c .if4 .left)) refl)
 
 returns-6 : tie.Need-returns-6
 returns-6 c = constant-bad _ _ _ _ (omega (arith, c .before .before .if1 .left, c .before .if2 .left, c .if3 .left))

@@ -32,16 +32,26 @@ enum-told-2 c = search needs
 
 returns-3 : tie.Need-returns-3
 returns-3 c =
-    tag-cut _ _ _ _ (field-read _ _ 2 (c .before .before .before .before .before .before .before .read-field .ensures) (c .before .before .before .before .before .kind .given .1)) (c .before .before .before .if1 .left)
+    let read-field = c .before .before .before .before .before .before .before .read-field in
+    let kind = c .before .before .before .before .before .kind in
+    let if1 = c .before .before .before .if1 in
+    tag-cut _ _ _ _ (field-read _ _ 2 (read-field .ensures) (kind .given .1)) (if1 .left)
     (field-cut _ _ 3 (c .before .before .read-field2 .ensures) (c .enum-told2 .given .1))
 
 read-constant-requires : tie.Need-read-constant-requires
-read-constant-requires c κs = (c .before .before .before .before .before .before .before .before .before .before .pre, field-within _ _ 3 (c .before .before .before .read-field2 .ensures) (c .before .t .given .1))
+read-constant-requires c κs =
+    let pre = c .before .before .before .before .before .before .before .before .before .before .pre in
+    let read-field2 = c .before .before .before .read-field2 in
+    (pre, field-within _ _ 3 (read-field2 .ensures) (c .before .t .given .1))
 
 returns-4 : tie.Need-returns-4
 returns-4 c =
-    tag-read _ _ _ _ (field-read _ _ 2 (c .before .before .before .before .before .before .before .before .before .read-field .ensures) (c .before .before .before .before .before .before .before .kind .given .1)) (c .before .before .before .before .before .if1 .left) _ _
-    (field-read _ _ 3 (c .before .before .before .before .read-field2 .ensures) (c .before .before .t .given .1)) (c .read-constant .ensures)
+    let read-field = c .before .before .before .before .before .before .before .before .before .read-field in
+    let kind = c .before .before .before .before .before .before .before .kind in
+    let if1 = c .before .before .before .before .before .if1 in
+    let read-field2 = c .before .before .before .before .read-field2 in
+    tag-read _ _ _ _ (field-read _ _ 2 (read-field .ensures) (kind .given .1)) (if1 .left) _ _
+    (field-read _ _ 3 (read-field2 .ensures) (c .before .before .t .given .1)) (c .read-constant .ensures)
 
 pub read-literal-spec : {M : Type 1} → statement M
 read-literal-spec =

@@ -28,7 +28,10 @@ plain-token-requires-2 : tie.Need-plain-token-requires-2
 plain-token-requires-2 c κs = search needs
 
 returns-3 : tie.Need-returns-3
-returns-3 c = λ l p. one-operand _ l p _ _ _ _ (field-read _ _ 8 (c .before .before .before .before .before .read-field .ensures) (c .before .before .before .second .given .1)) _ (c .before .if2 .taken) (c .plain-token2 .ensures)
+returns-3 c =
+    let read-field = c .before .before .before .before .before .read-field in
+    let second = c .before .before .before .second in
+    λ l p. one-operand _ l p _ _ _ _ (field-read _ _ 8 (read-field .ensures) (second .given .1)) _ (c .before .if2 .taken) (c .plain-token2 .ensures)
 
 read-field-requires-2 : tie.Need-read-field-requires-2
 read-field-requires-2 c κs = search needs
@@ -41,7 +44,9 @@ enum-told-2 c = search needs
 
 returns-4 : tie.Need-returns-4
 returns-4 c =
-    λ l p. second-cut _ l p _ _ _ _ _ (omega arith) (field-read _ _ 8 (c .before .before .before .before .before .before .before .read-field .ensures) (c .before .before .before .before .before .second .given .1))
+    let read-field = c .before .before .before .before .before .before .before .read-field in
+    let second = c .before .before .before .before .before .second in
+    λ l p. second-cut _ l p _ _ _ _ _ (omega arith) (field-read _ _ 8 (read-field .ensures) (second .given .1))
     (field-cut _ _ 8 (c .before .before .read-field2 .ensures) (c .enum-told2 .given .1))
 
 plain-token-requires-3 : tie.Need-plain-token-requires-3
@@ -49,8 +54,11 @@ plain-token-requires-3 c κs = search needs
 
 returns-5 : tie.Need-returns-5
 returns-5 c =
-    λ l p. two-operands _ l p _ _ _ _ (field-read _ _ 8 (c .before .before .before .before .before .before .before .before .before .read-field .ensures) (c .before .before .before .before .before .before .before .second .given .1)) _ _ _ (omega arith)
-    (field-read _ _ 8 (c .before .before .before .before .read-field2 .ensures) (c .before .before .last .given .1)) (c .plain-token3 .ensures)
+    let read-field = c .before .before .before .before .before .before .before .before .before .read-field in
+    let second = c .before .before .before .before .before .before .before .second in
+    let read-field2 = c .before .before .before .before .read-field2 in
+    λ l p. two-operands _ l p _ _ _ _ (field-read _ _ 8 (read-field .ensures) (second .given .1)) _ _ _ (omega arith)
+    (field-read _ _ 8 (read-field2 .ensures) (c .before .before .last .given .1)) (c .plain-token3 .ensures)
 
 pub read-plain-spec : {M : Type 1} → statement M
 read-plain-spec =

@@ -32,7 +32,9 @@ returns-4 : tie.Need-returns-4
 returns-4 c = rw (← c .before .before .shape-of .ensures) (shaped-branch _ _ _ _ _ _ (c .if1 .left) (c .before .match .keys2))
 
 returns-5 : tie.Need-returns-5
-returns-5 c = rw (← c .before .before .before .shape-of .ensures) (shaped-save _ _ _ _ _ _ (c .before .if2 .left) (c .before .before .match .keys3) (c .read-save .ensures))
+returns-5 c =
+    let shape-of = c .before .before .before .shape-of in
+    rw (← shape-of .ensures) (shaped-save _ _ _ _ _ _ (c .before .if2 .left) (c .before .before .match .keys3) (c .read-save .ensures))
 
 returns-6 : tie.Need-returns-6
 returns-6 c = rw (← c .before .shape-of .ensures) (shaped-bad _ _ _ _ _ _ (c .match .keys4))

@@ -22,7 +22,10 @@ read-literal-requires : tie.Need-read-literal-requires
 read-literal-requires c κs = search needs
 
 returns-2 : tie.Need-returns-2
-returns-2 c = code-deep _ _ _ _ _ (field-read _ _ 5 (c .before .before .before .before .before .read-field .ensures) (c .before .before .before .code .given .1)) (c .before .match2 .keys2) (c .if1 .taken)
+returns-2 c =
+    let read-field = c .before .before .before .before .before .read-field in
+    let code = c .before .before .before .code in
+    code-deep _ _ _ _ _ (field-read _ _ 5 (read-field .ensures) (code .given .1)) (c .before .match2 .keys2) (c .if1 .taken)
 
 read-global-requires : tie.Need-read-global-requires
 read-global-requires c κs = search needs
@@ -31,25 +34,41 @@ read-global-requires-2 : tie.Need-read-global-requires-2
 read-global-requires-2 c κs = search needs
 
 read-shaped-requires : tie.Need-read-shaped-requires
-read-shaped-requires c κs = (c .before .before .before .before .before .before .pre, field-below _ _ 5 (c .before .before .before .before .read-field .ensures) (c .before .before .code .given .1))
+read-shaped-requires c κs =
+    let pre = c .before .before .before .before .before .before .pre in
+    let read-field = c .before .before .before .before .read-field in
+    (pre, field-below _ _ 5 (read-field .ensures) (c .before .before .code .given .1))
 
 returns-3 : tie.Need-returns-3
-returns-3 c = code-literal _ _ _ _ _ (field-read _ _ 5 (c .before .before .before .before .before .read-field .ensures) (c .before .before .before .code .given .1)) (c .before .match2 .keys1) (c .read-literal .ensures)
+returns-3 c =
+    let read-field = c .before .before .before .before .before .read-field in
+    let code = c .before .before .before .code in
+    code-literal _ _ _ _ _ (field-read _ _ 5 (read-field .ensures) (code .given .1)) (c .before .match2 .keys1) (c .read-literal .ensures)
 
 returns-4 : tie.Need-returns-4
-returns-4 c = code-closure _ _ _ _ _ (field-read _ _ 5 (c .before .before .before .before .before .read-field .ensures) (c .before .before .before .code .given .1)) (c .before .match2 .keys2) (c .if1 .left)
+returns-4 c =
+    let read-field = c .before .before .before .before .before .read-field in
+    let code = c .before .before .before .code in
+    code-closure _ _ _ _ _ (field-read _ _ 5 (read-field .ensures) (code .given .1)) (c .before .match2 .keys2) (c .if1 .left)
 
 returns-5 : tie.Need-returns-5
-returns-5 c = code-global _ _ _ _ _ (field-read _ _ 5 (c .before .before .before .before .before .read-field .ensures) (c .before .before .before .code .given .1)) (c .before .match2 .keys3) (c .read-global .ensures)
+returns-5 c =
+    let read-field = c .before .before .before .before .before .read-field in
+    let code = c .before .before .before .code in
+    code-global _ _ _ _ _ (field-read _ _ 5 (read-field .ensures) (code .given .1)) (c .before .match2 .keys3) (c .read-global .ensures)
 
 returns-6 : tie.Need-returns-6
-returns-6 c = code-set-global _ _ _ _ _ (field-read _ _ 5 (c .before .before .before .before .before .read-field .ensures) (c .before .before .before .code .given .1)) (c .before .match2 .keys4) (c .read-global2 .ensures)
+returns-6 c =
+    let read-field = c .before .before .before .before .before .read-field in
+    let code = c .before .before .before .code in
+    code-set-global _ _ _ _ _ (field-read _ _ 5 (read-field .ensures) (code .given .1)) (c .before .match2 .keys4) (c .read-global2 .ensures)
 
 returns-7 : tie.Need-returns-7
 returns-7 c =
+    let read-field = c .before .before .before .before .before .read-field in
+    let code = c .before .before .before .code in
     let r = c .before .match2 .rest in
-    code-other _ _ _ _ _ (field-read _ _ 5 (c .before .before .before .before .before .read-field .ensures) (c .before .before .before .code .given .1)) (r .0 .0 .0 .1) (r .0 .0 .1) (r .0 .1) (r .1)
-    (c .read-shaped .ensures)
+    code-other _ _ _ _ _ (field-read _ _ 5 (read-field .ensures) (code .given .1)) (r .0 .0 .0 .1) (r .0 .0 .1) (r .0 .1) (r .1) (c .read-shaped .ensures)
 
 pub read-token-spec : {M : Type 1} → statement M
 read-token-spec =

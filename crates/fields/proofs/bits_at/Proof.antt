@@ -41,11 +41,13 @@ rem-result c = let w = c .before .before .before .before .args .width in rw (shl
 
 returns : tie.Need-returns
 returns c =
-    let a = c .before .before .before .before .args in
+    let pre = c .before .before .before .before .pre in
+    let args = c .before .before .before .before .args in
+    let a = args in
     let s = a .s .now in
     let e = c .before .two-at .ensures in
     let y = c .before .before .byte .ensures in
-    rw (e .0, c .bit .ensures) (shifted s (a .at .0) (a .width) _ _ (ap (λ (i : ℕ). getD s i 0) y) (ap (λ (i : ℕ). getD s (i + 1) 0) y) (e .1) (c .before .before .before .before .pre .1 .0))
+    rw (e .0, c .bit .ensures) (shifted s (a .at .0) (a .width) _ _ (ap (λ (i : ℕ). getD s i 0) y) (ap (λ (i : ℕ). getD s (i + 1) 0) y) (e .1) (pre .1 .0))
 
 pub bits-at-spec : {M : Type 1} → statement M
 bits-at-spec =

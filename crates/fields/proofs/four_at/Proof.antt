@@ -42,15 +42,19 @@ add-result-2 c = search needs
 
 returns : tie.Need-returns
 returns c =
-    let i = c .before .before .before .before .args .i in
+    let args = c .before .before .before .before .args in
+    let shared-slice-known = c .before .before .before .shared-slice-known in
+    let i = args .i in
     let e : i + 2 + 1 ≡ i + 3 = omega arith in
-    four-field _ (λ k. omega (arith, c .before .before .before .shared-slice-known .given k)) i _ _ (c .before .pair-at .ensures .0) (c .pair-at2 .ensures .0 ∙ rw e refl)
+    four-field _ (λ k. omega (arith, shared-slice-known .given k)) i _ _ (c .before .pair-at .ensures .0) (c .pair-at2 .ensures .0 ∙ rw e refl)
 
 returns-2 : tie.Need-returns-2
 returns-2 c =
-    let i = c .before .before .before .before .args .i in
+    let args = c .before .before .before .before .args in
+    let shared-slice-known = c .before .before .before .shared-slice-known in
+    let i = args .i in
     let e : i + 2 + 1 ≡ i + 3 = omega arith in
-    four-field _ (λ k. omega (arith, c .before .before .before .shared-slice-known .given k)) i _ _ (c .before .two-at .ensures .0) (c .two-at2 .ensures .0 ∙ rw e refl)
+    four-field _ (λ k. omega (arith, shared-slice-known .given k)) i _ _ (c .before .two-at .ensures .0) (c .two-at2 .ensures .0 ∙ rw e refl)
 
 pub four-at-spec : {M : Type 1} → statement M
 four-at-spec =

@@ -52,7 +52,18 @@ same-length-2 c = search needs
 
 returns-2 : tie.Need-returns-2
 unfolding toldBack returnRule
-returns-2 c = ((λ g s. rw (ne-eqb _ _ (c .before .before .before .before .before .before .before .before .before .before .before .before .before .before .before .before .before .if1 .left), c .before .before .before .clear2 .ensures, c .before .before .before .before .before .before .before .copy-up .ensures, c .before .before .before .before .before .before .before .before .before .before .before .before .clear .ensures, c .frame-env .ensures, c .before .before .before .before .before .before .before .before .before .before .before .before .before .before .minus .ensures, c .before .before .before .before .before .before .before .before .before .before .before .before .before .before .before .frame-count .ensures)), omega (arith, c .before .before .before .before .before .before .before .before .before .before .before .before .before .before .before .frame-count .ensures, c .before .before .before .before .before .before .before .before .before .before .before .before .before .before .minus .ensures, c .before .before .before .before .before .before .before .before .before .before .before .before .before .before .before .before .before .before .before .before .pre))
+returns-2 c =
+    let pre = c .before .before .before .before .before .before .before .before .before .before .before .before .before .before .before .before .before
+    .before .before .before .pre in
+    let if1 = c .before .before .before .before .before .before .before .before .before .before .before .before .before .before .before .before .before .if1 in
+    let frame-count = c .before .before .before .before .before .before .before .before .before .before .before .before .before .before .before .frame-count in
+    let minus = c .before .before .before .before .before .before .before .before .before .before .before .before .before .before .minus in
+    let clear = c .before .before .before .before .before .before .before .before .before .before .before .before .clear in
+    let copy-up = c .before .before .before .before .before .before .before .copy-up in
+    let clear2 = c .before .before .before .clear2 in (
+      (λ g s. rw (ne-eqb _ _ (if1 .left), clear2 .ensures, copy-up .ensures, clear .ensures, c .frame-env .ensures, minus .ensures, frame-count .ensures)),
+      omega (arith, frame-count .ensures, minus .ensures, pre),
+    )
 
 pub give-back-spec : {M : Type 1} → statement M
 give-back-spec =

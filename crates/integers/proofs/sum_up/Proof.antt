@@ -32,8 +32,10 @@ tag-of-requires c κs = search needs
 
 returns : tie.Need-returns Inv-loop μ-loop
 returns c =
-    sym (sum-other _ _ _ _ (c .before .before .before .loop-test .taken) (c .before .before .before .before .before .before .pre .0) (λ k. c .if1 .taken (c .before .tag-of .ensures ∙ k)))
-    ∙ c .before .before .before .before .loop .inv .2
+    let pre = c .before .before .before .before .before .before .pre in
+    let loop = c .before .before .before .before .loop in
+    let loop-test = c .before .before .before .loop-test in
+    sym (sum-other _ _ _ _ (loop-test .taken) (pre .0) (λ k. c .if1 .taken (c .before .tag-of .ensures ∙ k))) ∙ loop .inv .2
 
 int-of-requires : tie.Need-int-of-requires Inv-loop μ-loop
 int-of-requires c κs = search needs
@@ -52,13 +54,16 @@ loop-less : tie.Need-loop-less Inv-loop μ-loop
 loop-less c = search needs
 
 loop-again : tie.Need-loop-again Inv-loop μ-loop
-loop-again c = (
-  search needs,
-  sum-near (c .before .before .before .before .before .before .loop .inv .1) (omega arith) _ _ (c .signed-value .ensures),
-  rw (sum-is (c .before .before .before .before .before .before .loop .inv .1) (omega arith) _ _ (c .signed-value .ensures), c .before .int-of .ensures)
-      (sym (sum-on _ _ _ _ (c .before .before .before .before .before .loop-test .taken) (c .before .before .before .before .before .before .before .before .pre .0) (sym (c .before .before .before .tag-of .ensures) ∙ c .before .before .if1 .left))
-      ∙ c .before .before .before .before .before .before .loop .inv .2),
-)
+loop-again c =
+    let pre = c .before .before .before .before .before .before .before .before .pre in
+    let loop = c .before .before .before .before .before .before .loop in
+    let loop-test = c .before .before .before .before .before .loop-test in
+    let tag-of = c .before .before .before .tag-of in (
+      search needs,
+      sum-near (loop .inv .1) (omega arith) _ _ (c .signed-value .ensures),
+      rw (sum-is (loop .inv .1) (omega arith) _ _ (c .signed-value .ensures), c .before .int-of .ensures)
+          (sym (sum-on _ _ _ _ (loop-test .taken) (pre .0) (sym (tag-of .ensures) ∙ c .before .before .if1 .left)) ∙ loop .inv .2),
+    )
 
 in-range-requires : tie.Need-in-range-requires Inv-loop μ-loop
 in-range-requires c κs = search needs

@@ -24,7 +24,9 @@ returns : tie.Need-returns
 returns c = checked-read _ (sym (c .before .before .before .read-linear .ensures .0) ∙ c .enum-told .given .1)
 
 returns-2 : tie.Need-returns-2
-returns-2 c = rw (c .number .ensures) (checked-refused _ (sym (c .before .before .before .before .before .read-linear .ensures .0) ∙ c .before .before .no .given .1))
+returns-2 c =
+    let read-linear = c .before .before .before .before .before .read-linear in
+    rw (c .number .ensures) (checked-refused _ (sym (read-linear .ensures .0) ∙ c .before .before .no .given .1))
 
 pub check-linear-spec : {M : Type 1} → statement M
 check-linear-spec =

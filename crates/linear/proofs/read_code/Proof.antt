@@ -32,7 +32,12 @@ enum-told : tie.Need-enum-told
 enum-told c = search needs
 
 returns : tie.Need-returns
-returns c = code-stops _ _ _ (length-cut _ _ (rw (c .before .before .before .before .before .before .before .to-byte .ensures) at (c .before .before .before .before .before .before .zero-bits .ensures)) (c .before .before .before .before .size .given .1) (field-cut _ _ _ (c .before .before .read-three .ensures) (c .enum-told .given .1)))
+returns c =
+    let to-byte = c .before .before .before .before .before .before .before .to-byte in
+    let zero-bits = c .before .before .before .before .before .before .zero-bits in
+    let size = c .before .before .before .before .size in
+    code-stops _ _ _ (length-cut _ _ (rw (to-byte .ensures) at (zero-bits .ensures)) (size .given .1)
+    (field-cut _ _ _ (c .before .before .read-three .ensures) (c .enum-told .given .1)))
 
 cast-bits : tie.Need-cast-bits
 cast-bits c = search needs
@@ -53,7 +58,11 @@ mul-table : tie.Need-mul-table
 mul-table c = search needs
 
 add-table : tie.Need-add-table
-add-table c = let h = field-within _ _ _ (c .before .before .before .before .before .before .read-three .ensures) (c .before .before .before .before .n .given .1) in omega (arith, h, c .byte .ensures)
+add-table c =
+    let read-three = c .before .before .before .before .before .before .read-three in
+    let n = c .before .before .before .before .n in
+    let h = field-within _ _ _ (read-three .ensures) (n .given .1) in
+    omega (arith, h, c .byte .ensures)
 
 mul-table-2 : tie.Need-mul-table-2
 mul-table-2 c = search needs
@@ -66,8 +75,10 @@ slice-write-table c = search needs
 
 past-requires : tie.Need-past-requires
 past-requires c κs =
-    let g = c .before .before .before .before .n .given .0 in
-    let h = lies (c .before .before .before .before .before .before .before .before .before .before .before .before .before .before .args .s .now) (g .1 .0 .0) (8 * g .0) (c .before .before .within .ensures) (c .before .if1 .taken) in
+    let args = c .before .before .before .before .before .before .before .before .before .before .before .before .before .before .args in
+    let n = c .before .before .before .before .n in
+    let g = n .given .0 in
+    let h = lies (args .s .now) (g .1 .0 .0) (8 * g .0) (c .before .before .within .ensures) (c .before .if1 .taken) in
     omega (arith, h)
 
 same-length : tie.Need-same-length
@@ -75,10 +86,18 @@ same-length c = search needs
 
 returns-2 : tie.Need-returns-2
 returns-2 c =
-    let g = c .before .before .before .before .before .n .given .0 in
-    let h = lies (c .before .before .before .before .before .before .before .before .before .before .before .before .before .before .before .args .s .now) (g .1 .0 .0) (8 * g .0) (c .before .before .before .within .ensures) (c .before .before .if1 .taken) in
+    let args = c .before .before .before .before .before .before .before .before .before .before .before .before .before .before .before .args in
+    let to-byte = c .before .before .before .before .before .before .before .before .before .before .before .before .to-byte in
+    let zero-bits = c .before .before .before .before .before .before .before .before .before .before .before .zero-bits in
+    let size = c .before .before .before .before .before .before .before .before .before .size in
+    let read-three = c .before .before .before .before .before .before .before .read-three in
+    let n = c .before .before .before .before .before .n in
+    let within = c .before .before .before .within in
+    let g = n .given .0 in
+    let h = lies (args .s .now) (g .1 .0 .0) (8 * g .0) (within .ensures) (c .before .before .if1 .taken) in
     let q : _≡_ {A = BitPlace} (c .past .result) (record { 0 = g .1 .0 .0 + 8 * g .0 }) = ap (λ (x : ℕ). record { 0 = x }) (c .past .ensures) in
-    rw (q, c .before .byte .ensures) (code-ends _ _ _ _ _ _ h (code-read _ _ (rw (c .before .before .before .before .before .before .before .before .before .before .before .before .to-byte .ensures) at (c .before .before .before .before .before .before .before .before .before .before .before .zero-bits .ensures)) (c .before .before .before .before .before .before .before .before .before .size .given .1) (field-read _ _ _ (c .before .before .before .before .before .before .before .read-three .ensures) (c .before .before .before .before .before .n .given .1)) h))
+    rw (q, c .before .byte .ensures) (code-ends _ _ _ _ _ _ h
+    (code-read _ _ (rw (to-byte .ensures) at (zero-bits .ensures)) (size .given .1) (field-read _ _ _ (read-three .ensures) (n .given .1)) h))
 
 end-of-requires : tie.Need-end-of-requires
 end-of-requires c κs = search needs
@@ -88,14 +107,23 @@ enum-known-place c = search needs
 
 returns-3 : tie.Need-returns-3
 returns-3 c =
-    let g = c .before .before .before .before .n .given .0 in
-    let s = c .before .before .before .before .before .before .before .before .before .before .before .before .before .before .args .s .now in
+    let args = c .before .before .before .before .before .before .before .before .before .before .before .before .before .before .args in
+    let to-byte = c .before .before .before .before .before .before .before .before .before .before .before .to-byte in
+    let zero-bits = c .before .before .before .before .before .before .before .before .before .before .zero-bits in
+    let size = c .before .before .before .before .before .before .before .before .size in
+    let read-three = c .before .before .before .before .before .before .read-three in
+    let n = c .before .before .before .before .n in
+    let g = n .given .0 in
+    let s = args .s .now in
     let h = leb-false (g .1 .0 .0 + 8 * g .0) (8 * length s) (sym (c .before .before .within .ensures) ∙ c .before .if1 .left) in
-    let cut = code-cut _ _ (rw (c .before .before .before .before .before .before .before .before .before .before .before .to-byte .ensures) at (c .before .before .before .before .before .before .before .before .before .before .zero-bits .ensures)) (c .before .before .before .before .before .before .before .before .size .given .1) (field-read _ _ _ (c .before .before .before .before .before .before .read-three .ensures) (c .before .before .before .before .n .given .1)) h in
+    let cut = code-cut _ _ (rw (to-byte .ensures) at (zero-bits .ensures)) (size .given .1) (field-read _ _ _ (read-three .ensures) (n .given .1)) h in
     code-stops _ _ _ (λ es. cut es ∙ ap (refused 2) (sym (c .end-of .ensures)))
 
 returns-4 : tie.Need-returns-4
-returns-4 c = code-stops _ _ _ (padding-set _ _ (rw (c .before .before .before .before .to-byte .ensures) at (c .before .before .before .zero-bits .ensures)) (c .before .place .given .1))
+returns-4 c =
+    let to-byte = c .before .before .before .before .to-byte in
+    let zero-bits = c .before .before .before .zero-bits in
+    code-stops _ _ _ (padding-set _ _ (rw (to-byte .ensures) at (zero-bits .ensures)) (c .before .place .given .1))
 
 pub read-code-spec : {M : Type 1} → statement M
 read-code-spec =

@@ -23,15 +23,21 @@ cast-read-entries : tie.Need-cast-read-entries
 cast-read-entries c = search needs
 
 read-entries-requires : tie.Need-read-entries-requires
-read-entries-requires c κs = (search needs, (search needs, (search needs, field-below _ _ _ (c .before .before .before .before .read-field .ensures) (c .before .before .n .given .1))))
+read-entries-requires c κs =
+    let read-field = c .before .before .before .before .read-field in
+    (search needs, (search needs, (search needs, field-below _ _ _ (read-field .ensures) (c .before .before .n .given .1))))
 
 enum-known-padding : tie.Need-enum-known-padding
 enum-known-padding c = search needs
 
 read-code-requires : tie.Need-read-code-requires
 read-code-requires c κs =
-    let e = entries-told _ (sym (c .before .before .before .before .before .before .read-entries .ensures .0) ∙ (c .before .before .padding .given .1)) in
-    (search needs, (search needs, entries-read _ _ _ (c .before .before .before .before .before .before .before .before .before .before .before .before .before .before .pre .1 .1) _ _ (e .is) .within (field-within _ _ _ (c .before .before .before .before .before .before .before .before .before .before .before .read-field .ensures) (c .before .before .before .before .before .before .before .before .before .n .given .1))))
+    let pre = c .before .before .before .before .before .before .before .before .before .before .before .before .before .before .pre in
+    let read-field = c .before .before .before .before .before .before .before .before .before .before .before .read-field in
+    let n = c .before .before .before .before .before .before .before .before .before .n in
+    let read-entries = c .before .before .before .before .before .before .read-entries in
+    let e = entries-told _ (sym (read-entries .ensures .0) ∙ (c .before .before .padding .given .1)) in
+    (search needs, (search needs, entries-read _ _ _ (pre .1 .1) _ _ (e .is) .within (field-within _ _ _ (read-field .ensures) (n .given .1))))
 
 enum-known-no : tie.Need-enum-known-no
 enum-known-no c = search needs
@@ -41,15 +47,24 @@ same-length c = search needs
 
 returns-2 : tie.Need-returns-2
 returns-2 c =
-    let e = entries-told _ (sym ((c .before .before .before .before .before .before .before .before .before .read-entries .ensures) .0) ∙ (c .before .before .before .before .before .padding .given .1)) in
+    let read-field = c .before .before .before .before .before .before .before .before .before .before .before .before .before .before .read-field in
+    let n = c .before .before .before .before .before .before .before .before .before .before .before .before .n in
+    let read-entries = c .before .before .before .before .before .before .before .before .before .read-entries in
+    let padding = c .before .before .before .before .before .padding in
+    let e = entries-told _ (sym ((read-entries .ensures) .0) ∙ (padding .given .1)) in
     let k = (c .before .before .read-code .ensures) in
-    template-done _ _ _ _ _ (field-read _ _ _ (c .before .before .before .before .before .before .before .before .before .before .before .before .before .before .read-field .ensures) (c .before .before .before .before .before .before .before .before .before .before .before .before .n .given .1)) ((c .before .before .before .before .before .before .before .before .before .read-entries .ensures) .1) (e .is) (k .0 (e .entries)) (k .1 (e .entries))
+    template-done _ _ _ _ _ (field-read _ _ _ (read-field .ensures) (n .given .1)) ((read-entries .ensures) .1) (e .is) (k .0 (e .entries)) (k .1 (e .entries))
 
 same-length-2 : tie.Need-same-length-2
 same-length-2 c = search needs
 
 returns-3 : tie.Need-returns-3
-returns-3 c = entries-stop _ _ _ _ _ (field-read _ _ _ (c .before .before .before .before .before .before .before .before .before .before .read-field .ensures) (c .before .before .before .before .before .before .before .before .n .given .1)) ((c .before .before .before .before .before .read-entries .ensures) .1) (entries-refused _ (sym ((c .before .before .before .before .before .read-entries .ensures) .0) ∙ (c .before .no .given .1)))
+returns-3 c =
+    let read-field = c .before .before .before .before .before .before .before .before .before .before .read-field in
+    let n = c .before .before .before .before .before .before .before .before .n in
+    let read-entries = c .before .before .before .before .before .read-entries in
+    entries-stop _ _ _ _ _ (field-read _ _ _ (read-field .ensures) (n .given .1)) ((read-entries .ensures) .1)
+    (entries-refused _ (sym ((read-entries .ensures) .0) ∙ (c .before .no .given .1)))
 
 pub read-template-spec : {M : Type 1} → statement M
 read-template-spec =

@@ -35,8 +35,11 @@ same-length c = search needs
 
 returns : tie.Need-returns Inv-loop μ-loop
 returns c =
-    let i = (c .before .before .before .before .before .before .before .before .loop .inv) in
-    let d = linears-stop _ _ _ _ _ (c .before .before .before .before .before .before .before .loop-test .taken) (c .before .before .before .before .before .read-template .ensures) (c .before .no .given .1) in
+    let loop = c .before .before .before .before .before .before .before .before .loop in
+    let loop-test = c .before .before .before .before .before .before .before .loop-test in
+    let read-template = c .before .before .before .before .before .read-template in
+    let i = (loop .inv) in
+    let d = linears-stop _ _ _ _ _ (loop-test .taken) (read-template .ensures) (c .before .no .given .1) in
     (d .0 ∙ sym (i .2), d .1 ∙ sym (i .3))
 
 add-own : tie.Need-add-own Inv-loop μ-loop
@@ -47,8 +50,11 @@ loop-less c = search needs
 
 loop-again : tie.Need-loop-again Inv-loop μ-loop
 loop-again c =
-    let i = (c .before .before .before .before .before .before .before .before .loop .inv) in
-    let d = linears-on _ _ _ _ _ (c .before .before .before .before .before .before .before .loop-test .taken) (c .before .before .before .before .before .read-template .ensures) (c .before .past .given .1) in
+    let loop = c .before .before .before .before .before .before .before .before .loop in
+    let loop-test = c .before .before .before .before .before .before .before .loop-test in
+    let read-template = c .before .before .before .before .before .read-template in
+    let i = (loop .inv) in
+    let d = linears-on _ _ _ _ _ (loop-test .taken) (read-template .ensures) (c .before .past .given .1) in
     (search needs, search needs, i .2 ∙ d .0, i .3 ∙ d .1)
 
 same-length-2 : tie.Need-same-length-2 Inv-loop μ-loop

@@ -26,14 +26,24 @@ is-first-requires c κs = search needs
 returns-2 : tie.Need-returns-2
 unfolding fetchedAs Places
 returns-2 c =
-    let p = c .before .before .before .before .before .before .args in
-    (λ table t. fetch-absent _ table t _ (p .len) _ (c .before .before .before .before .before .before .pre .0) (c .before .before .if2 .left) (eqb-true _ 0 (sym (c .before .is-first .ensures) ∙ c .if3 .taken)), tt)
+    let pre = c .before .before .before .before .before .before .pre in
+    let args = c .before .before .before .before .before .before .args in
+    let p = args in (
+      λ table t. fetch-absent _ table t _ (p .len) _ (pre .0) (c .before .before .if2 .left)
+          (eqb-true _ 0 (sym (c .before .is-first .ensures) ∙ c .if3 .taken)),
+      tt,
+    )
 
 returns-3 : tie.Need-returns-3
 unfolding fetchedAs Places
 returns-3 c =
-    let p = c .before .before .before .before .before .before .args in
-    (λ table t. fetch-past-absent _ table t _ (p .len) _ (c .before .before .before .before .before .before .pre .0) (c .before .before .if2 .left) (eqb-false _ 0 (sym (c .before .is-first .ensures) ∙ c .if3 .left)), tt)
+    let pre = c .before .before .before .before .before .before .pre in
+    let args = c .before .before .before .before .before .before .args in
+    let p = args in (
+      λ table t. fetch-past-absent _ table t _ (p .len) _ (pre .0) (c .before .before .if2 .left)
+          (eqb-false _ 0 (sym (c .before .is-first .ensures) ∙ c .if3 .left)),
+      tt,
+    )
 
 index-requires : tie.Need-index-requires
 index-requires c κs = search needs
@@ -52,11 +62,16 @@ fetch-known-requires c κs = search needs
 
 returns-4 : tie.Need-returns-4
 returns-4 c =
-    let p = c .before .before .before .before .before .before in
-    let e = c .before .before .before .before .left .ensures in
+    let before = c .before .before .before .before .before .before in
+    let left = c .before .before .before .before .left in
+    let if1 = c .before .before .before .if1 in
+    let p = before in
+    let e = left .ensures in
     let i = c .before .before .index .ensures in
-    let some = c .before .before .before .if1 .left in
-    (λ table t. fetch-known _ table t _ (p .args .len) (p .args .at .0) (p .pre .0) _ _ _ _ i e some refl (c .fetch-known .ensures .0 (slotAt table t)), c .fetch-known .ensures .1)
+    let some = if1 .left in (
+      λ table t. fetch-known _ table t _ (p .args .len) (p .args .at .0) (p .pre .0) _ _ _ _ i e some refl (c .fetch-known .ensures .0 (slotAt table t)),
+      c .fetch-known .ensures .1,
+    )
 
 pub fetch-code-spec : {M : Type 1} → statement M
 fetch-code-spec =

@@ -95,8 +95,10 @@ returns-5 c =
 returns-6 : tie.Need-returns-6
 unfolding number formOf fetchedAs Places
 returns-6 c =
-    let n = c .before .before .match .rest in
-    (λ slot. whole-other slot _ _ _ _ _ (n .0 .0 .0 .0 .1) (n .0 .0 .0 .1) (n .0 .0 .1) (n .0 .1) (n .1) (c .before .operand .ensures) (c .operand2 .ensures), refl)
+    let n = c .before .before .match .rest in (
+      λ slot. whole-other slot _ _ _ _ _ (n .0 .0 .0 .0 .1) (n .0 .0 .0 .1) (n .0 .0 .1) (n .0 .1) (n .1) (c .before .operand .ensures) (c .operand2 .ensures),
+      refl,
+    )
 
 pub fetch-whole-spec : {M : Type 1} → statement M
 fetch-whole-spec =

@@ -25,7 +25,8 @@ slice-aggregate-put-bytes c = sym (length-take-le _ _ (omega (arith, c .before .
 
 put-bytes-requires : tie.Need-put-bytes-requires
 put-bytes-requires c κs =
-    let l = length-take-le (c .before .before .before .before .put-lines .result) (c .before .before .before .before .put-lines .last .0) (omega (arith, c .before .before .before .before .put-lines .kept .0)) in
+    let put-lines = c .before .before .before .before .put-lines in
+    let l = length-take-le (put-lines .result) (put-lines .last .0) (omega (arith, put-lines .kept .0)) in
     omega arith
 
 same-length : tie.Need-same-length

@@ -32,11 +32,15 @@ same-length c = search needs
 
 returns : tie.Need-returns
 unfolding acceptedLines
-returns c = (
-  rw (← c .before .before .before .before .before .before .before .before .before .before .before .before .before .before .before .tabular-run .ensures, ← c .before .before .before .before .before .before .before .before .before .before .before .before .before .before .flat-run .ensures)
-      (put-then (put-then (c .before .before .before .before .before .before .before .before .before .before .before .before .put-linear .ensures .0) (c .before .before .before .before .before .before .before .put-machine .ensures .0)) (c .before .before .put-machine2 .ensures .0)),
-  omega arith,
-)
+returns c =
+    let tabular-run = c .before .before .before .before .before .before .before .before .before .before .before .before .before .before .before .tabular-run in
+    let flat-run = c .before .before .before .before .before .before .before .before .before .before .before .before .before .before .flat-run in
+    let put-linear = c .before .before .before .before .before .before .before .before .before .before .before .before .put-linear in
+    let put-machine = c .before .before .before .before .before .before .before .put-machine in (
+      rw (← tabular-run .ensures, ← flat-run .ensures)
+          (put-then (put-then (put-linear .ensures .0) (put-machine .ensures .0)) (c .before .before .put-machine2 .ensures .0)),
+      omega arith,
+    )
 
 pub put-accepted-spec : {M : Type 1} → statement M
 put-accepted-spec =

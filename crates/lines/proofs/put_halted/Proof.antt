@@ -26,7 +26,11 @@ same-length c = search needs
 
 returns : tie.Need-returns
 unfolding endWords
-returns c = (put-line _ _ _ (c .before .before .before .before .before .before .before .before .before .before .before .before .before .before .put-word .ensures) (put-then (c .before .before .before .before .before .before .before .before .before .before .put-answer .ensures .0) (c .before .before .before .before .before .before .put-byte .ensures)) (c .before .before .put-number .ensures .0), omega arith)
+returns c =
+    let put-word = c .before .before .before .before .before .before .before .before .before .before .before .before .before .before .put-word in
+    let put-answer = c .before .before .before .before .before .before .before .before .before .before .put-answer in
+    let put-byte = c .before .before .before .before .before .before .put-byte in
+    (put-line _ _ _ (put-word .ensures) (put-then (put-answer .ensures .0) (put-byte .ensures)) (c .before .before .put-number .ensures .0), omega arith)
 
 pub put-halted-spec : {M : Type 1} → statement M
 put-halted-spec =

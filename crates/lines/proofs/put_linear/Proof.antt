@@ -21,7 +21,9 @@ same-length c = search needs
 
 returns : tie.Need-returns
 unfolding line
-returns c = (simp append-assoc at (put-then (c .before .before .before .before .before .before .put-word .ensures) (c .before .before .put-number .ensures .0)), omega arith)
+returns c =
+    let put-word = c .before .before .before .before .before .before .put-word in
+    (simp append-assoc at (put-then (put-word .ensures) (c .before .before .put-number .ensures .0)), omega arith)
 
 pub put-linear-spec : {M : Type 1} → statement M
 put-linear-spec =

@@ -12,14 +12,20 @@ put-word-requires : tie.Need-put-word-requires
 put-word-requires c κs = search needs
 
 put-end-requires : tie.Need-put-end-requires
-put-end-requires c κs = omega (arith, simp length-append at (c .before .before .before .put-word .ensures .next), put-length (c .before .before .before .put-word .ensures))
+put-end-requires c κs =
+    let put-word = c .before .before .before .put-word in
+    omega (arith, simp length-append at (put-word .ensures .next), put-length (put-word .ensures))
 
 same-length : tie.Need-same-length
 same-length c = search needs
 
 returns : tie.Need-returns
 unfolding machineLine
-returns c = (simp append-assoc at (put-then (c .before .before .before .before .before .before .put-word .ensures) (c .before .before .put-end .ensures .0)), omega (arith, simp length-append at (c .before .before .before .before .before .before .put-word .ensures .next)))
+returns c =
+    let put-word = c .before .before .before .before .before .before .put-word in (
+      simp append-assoc at (put-then (put-word .ensures) (c .before .before .put-end .ensures .0)),
+      omega (arith, simp length-append at (put-word .ensures .next)),
+    )
 
 pub put-machine-spec : {M : Type 1} → statement M
 put-machine-spec = tie.close (tie.spec put-word-requires put-end-requires same-length returns)

@@ -17,10 +17,17 @@ enum-known-n : tie.Need-enum-known-n
 enum-known-n c = search needs
 
 array-share-prefix-linear : tie.Need-array-share-prefix-linear
-array-share-prefix-linear c = omega (arith, written-within _ (c .before .before .before .before .before .before .before .before .before .pre .1) _ (sym (c .before .before .n .given .1) ∙ c .before .before .before .before .before .flatten .ensures .0))
+array-share-prefix-linear c =
+    let pre = c .before .before .before .before .before .before .before .before .before .pre in
+    let flatten = c .before .before .before .before .before .flatten in
+    omega (arith, written-within _ (pre .1) _ (sym (c .before .before .n .given .1) ∙ flatten .ensures .0))
 
 slice-aggregate-put-accepted : tie.Need-slice-aggregate-put-accepted
-slice-aggregate-put-accepted c = sym (length-take-le _ _ (omega (arith, written-within _ (c .before .before .before .before .before .before .before .before .before .before .pre .1) _ (sym (c .before .before .before .n .given .1) ∙ c .before .before .before .before .before .before .flatten .ensures .0))))
+slice-aggregate-put-accepted c =
+    let pre = c .before .before .before .before .before .before .before .before .before .before .pre in
+    let flatten = c .before .before .before .before .before .before .flatten in
+    let n = c .before .before .before .n in
+    sym (length-take-le _ _ (omega (arith, written-within _ (pre .1) _ (sym (n .given .1) ∙ flatten .ensures .0))))
 
 put-accepted-requires : tie.Need-put-accepted-requires
 put-accepted-requires c κs = search needs
@@ -42,15 +49,21 @@ same-length c = search needs
 
 returns : tie.Need-returns
 returns c =
-    let f = c .before .before .before .before .before .before .before .before .before .flatten in
-    (rw (accepted-lines _ (c .before .before .before .before .before .before .before .before .before .before .before .before .before .pre .1) _ (sym (c .before .before .before .before .before .before .n .given .1) ∙ f .ensures .0) _ _ (f .ensures .1)) (c .before .before .put-accepted .ensures .0), omega arith)
+    let pre = c .before .before .before .before .before .before .before .before .before .before .before .before .before .pre in
+    let flatten = c .before .before .before .before .before .before .before .before .before .flatten in
+    let n = c .before .before .before .before .before .before .n in
+    let f = flatten in
+    (rw (accepted-lines _ (pre .1) _ (sym (n .given .1) ∙ f .ensures .0) _ _ (f .ensures .1)) (c .before .before .put-accepted .ensures .0), omega arith)
 
 same-length-2 : tie.Need-same-length-2
 same-length-2 c = search needs
 
 returns-2 : tie.Need-returns-2
 returns-2 c =
-    (rw (refused-lines _ (c .before .before .before .before .before .before .before .before .before .before .before .before .before .pre .1) _ _ (sym (c .before .before .before .before .before .before .n2 .given .1) ∙ c .before .before .before .before .before .before .before .before .before .flatten .ensures .0)) (c .before .before .put-numbers .ensures .0), omega arith)
+    let pre = c .before .before .before .before .before .before .before .before .before .before .before .before .before .pre in
+    let flatten = c .before .before .before .before .before .before .before .before .before .flatten in
+    let n2 = c .before .before .before .before .before .before .n2 in
+    (rw (refused-lines _ (pre .1) _ _ (sym (n2 .given .1) ∙ flatten .ensures .0)) (c .before .before .put-numbers .ensures .0), omega arith)
 
 pub put-sheet-spec : {M : Type 1} → statement M
 put-sheet-spec =

@@ -25,7 +25,8 @@ enum-known-number c = search needs
 returns-3 : tie.Need-returns-3
 returns-3 c =
     let asked = c .before .before .before in
-    speeds _ _ _ (asked .before .before .if1 .left) (asked .before .if2 .left) _ _ (asked .check-speeds .ensures) (c .before .enum-told .given .1) (c .check-room .ensures)
+    speeds _ _ _ (asked .before .before .if1 .left) (asked .before .if2 .left) _ _ (asked .check-speeds .ensures) (c .before .enum-told .given .1)
+    (c .check-room .ensures)
 
 returns-4 : tie.Need-returns-4
 returns-4 c =

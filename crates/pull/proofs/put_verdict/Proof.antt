@@ -21,9 +21,13 @@ same-length c = search needs
 
 returns : tie.Need-returns
 returns c =
-    let one = c .before .before .before .before .before in
-    let a = one .before .before .before .args in
-    (rw (verdict-order (signed (a .i)) (signed (a .o)) (signed (a .first)) (signed (a .last)) (sym (one .before .less .ensures) ∙ one .if1 .taken)) (c .before .before .put-word .ensures), omega arith)
+    let before = c .before .before .before .before .before in
+    let one = before in
+    let a = one .before .before .before .args in (
+      rw (verdict-order (signed (a .i)) (signed (a .o)) (signed (a .first)) (signed (a .last)) (sym (one .before .less .ensures) ∙ one .if1 .taken))
+          (c .before .before .put-word .ensures),
+      omega arith,
+    )
 
 less-requires-2 : tie.Need-less-requires-2
 less-requires-2 c κs = search needs
@@ -39,10 +43,12 @@ same-length-2 c = search needs
 
 returns-2 : tie.Need-returns-2
 returns-2 c =
-    let two = c .before .before .before .before .before in
+    let before = c .before .before .before .before .before in
+    let two = before in
     let one = two .before .before in
     let a = one .before .before .before .args in
-    let known = verdict-low (signed (a .i)) (signed (a .o)) (signed (a .first)) (signed (a .last)) (sym (one .before .less .ensures) ∙ one .if1 .left) (sym (two .before .less2 .ensures) ∙ two .if2 .taken) in
+    let known = verdict-low (signed (a .i)) (signed (a .o)) (signed (a .first)) (signed (a .last)) (sym (one .before .less .ensures) ∙ one .if1 .left)
+    (sym (two .before .less2 .ensures) ∙ two .if2 .taken) in
     (rw known (c .before .before .put-word2 .ensures), omega arith)
 
 less-requires-3 : tie.Need-less-requires-3
@@ -59,13 +65,17 @@ same-length-3 c = search needs
 
 returns-3 : tie.Need-returns-3
 returns-3 c =
-    let three = c .before .before .before .before .before in
+    let before = c .before .before .before .before .before in
+    let three = before in
     let two = three .before .before in
     let one = two .before .before in
     let a = one .before .before .before .args in
     let first = sym (one .before .less .ensures) ∙ one .if1 .left in
-    let second = sym (two .before .less2 .ensures) ∙ two .if2 .left in
-    (rw (verdict-high (signed (a .i)) (signed (a .o)) (signed (a .first)) (signed (a .last)) first second (sym (three .before .less3 .ensures) ∙ three .if3 .taken)) (c .before .before .put-word3 .ensures), omega arith)
+    let second = sym (two .before .less2 .ensures) ∙ two .if2 .left in (
+      rw (verdict-high (signed (a .i)) (signed (a .o)) (signed (a .first)) (signed (a .last)) first second
+          (sym (three .before .less3 .ensures) ∙ three .if3 .taken)) (c .before .before .put-word3 .ensures),
+      omega arith,
+    )
 
 slice-aggregate-put-word-4 : tie.Need-slice-aggregate-put-word-4
 slice-aggregate-put-word-4 c = search needs
@@ -78,13 +88,17 @@ same-length-4 c = search needs
 
 returns-4 : tie.Need-returns-4
 returns-4 c =
-    let three = c .before .before .before .before .before in
+    let before = c .before .before .before .before .before in
+    let three = before in
     let two = three .before .before in
     let one = two .before .before in
     let a = one .before .before .before .args in
     let first = sym (one .before .less .ensures) ∙ one .if1 .left in
-    let second = sym (two .before .less2 .ensures) ∙ two .if2 .left in
-    (rw (verdict-ok (signed (a .i)) (signed (a .o)) (signed (a .first)) (signed (a .last)) first second (sym (three .before .less3 .ensures) ∙ three .if3 .left)) (c .before .before .put-word4 .ensures), omega arith)
+    let second = sym (two .before .less2 .ensures) ∙ two .if2 .left in (
+      rw (verdict-ok (signed (a .i)) (signed (a .o)) (signed (a .first)) (signed (a .last)) first second
+          (sym (three .before .less3 .ensures) ∙ three .if3 .left)) (c .before .before .put-word4 .ensures),
+      omega arith,
+    )
 
 pub put-verdict-spec : {M : Type 1} → statement M
 put-verdict-spec =

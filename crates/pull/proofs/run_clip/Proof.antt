@@ -12,9 +12,13 @@ set-globals-requires c κs = search needs
 
 run-again-requires : tie.Need-run-again-requires
 run-again-requires c κs =
-    let set = c .before .before .before .before .before .before in
-    let p = set .before .before .before .before .before .before .before .before .pre in
-    (p .0 .1, may-run _ 0 _ _ _ _ (omega (arith, set .set-globals .kept, p .1 .0)) (p .1 .1) (p .1 .2) (p .1 .3) (p .0 .2) (omega arith) (set .set-globals .ensures .1))
+    let before = c .before .before .before .before .before .before in
+    let set = before in
+    let p = set .before .before .before .before .before .before .before .before .pre in (
+      p .0 .1,
+      may-run _ 0 _ _ _ _ (omega (arith, set .set-globals .kept, p .1 .0)) (p .1 .1) (p .1 .2) (p .1 .3) (p .0 .2) (omega arith)
+          (set .set-globals .ensures .1),
+    )
 
 slice-read-t23 : tie.Need-slice-read-t23
 slice-read-t23 c = search needs

@@ -23,7 +23,9 @@ cast-result c = omega (arith, c .shared-slice-known .given (c .before .before .b
 
 returns-3 : tie.Need-returns-3
 unfolding newOperand indexIn
-returns-3 c = (rw (le-ltb _ 6 (c .before .before .if1 .left), le-ltb 9 _ (c .before .if2 .left)), omega (arith, c .shared-slice-known .given (c .before .before .before .args .n)))
+returns-3 c =
+    let args = c .before .before .before .args in
+    (rw (le-ltb _ 6 (c .before .before .if1 .left), le-ltb 9 _ (c .before .if2 .left)), omega (arith, c .shared-slice-known .given (args .n)))
 
 pub new-operand-spec : {M : Type 1} → statement M
 new-operand-spec =

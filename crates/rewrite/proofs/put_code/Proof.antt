@@ -38,12 +38,18 @@ same-length-2 c = search needs
 
 returns-2 : tie.Need-returns-2
 returns-2 c =
-    let e = c .before .before .before .before .before .before .before .before .before .before .before .put-field .ensures in
-    let g = c .before .before .before .put-field2 .ensures in
-    let x = c .before .before .before .before .new-operand .ensures .0 in
-    let p = c .before .before .before .before .before .before .before .before .before .before .before .before .before .before .before .before .pre in
+    let pre = c .before .before .before .before .before .before .before .before .before .before .before .before .before .before .before .before .pre in
+    let put-field = c .before .before .before .before .before .before .before .before .before .before .before .put-field in
+    let past = c .before .before .before .before .before .before .before .past in
+    let bits-at = c .before .before .before .before .before .before .bits-at in
+    let new-operand = c .before .before .before .before .new-operand in
+    let put-field2 = c .before .before .before .put-field2 in
+    let e = put-field .ensures in
+    let g = put-field2 .ensures in
+    let x = new-operand .ensures .0 in
+    let p = pre in
     let z = c .if2 .taken in
-    (omega (arith, e .0, g .0), put-one _ _ _ _ _ _ _ _ (e .1) (e .0) _ _ (g .1) (rw (c .before .before .before .before .before .before .bits-at .ensures .0, c .before .before .before .before .before .before .before .past .ensures) at x) _ z (omega (arith, p .1 .1)))
+    (omega (arith, e .0, g .0), put-one _ _ _ _ _ _ _ _ (e .1) (e .0) _ _ (g .1) (rw (bits-at .ensures .0, past .ensures) at x) _ z (omega (arith, p .1 .1)))
 
 past-requires-2 : tie.Need-past-requires-2
 past-requires-2 c κs = search needs
@@ -53,26 +59,51 @@ bits-at-requires-2 c κs = search needs
 
 put-field-requires-3 : tie.Need-put-field-requires-3
 put-field-requires-3 c κs =
-    let e = c .before .before .before .before .before .before .before .before .before .before .before .before .before .before .put-field .ensures in
-    let g = c .before .before .before .before .before .before .put-field2 .ensures in
-    let p = c .before .before .before .before .before .before .before .before .before .before .before .before .before .before .before .before .before .before .before .pre in
+    let pre = c .before .before .before .before .before .before .before .before .before .before .before .before .before .before .before .before .before
+    .before .before .pre in
+    let put-field = c .before .before .before .before .before .before .before .before .before .before .before .before .before .before .put-field in
+    let if1 = c .before .before .before .before .before .before .before .before .before .before .before .if1 in
+    let put-field2 = c .before .before .before .before .before .before .put-field2 in
+    let if2 = c .before .before .before .if2 in
+    let e = put-field .ensures in
+    let g = put-field2 .ensures in
+    let p = pre in
     let m₁ = ap length (e .1) ∙ put-length _ _ _ in
-    let m₂ = ap length (g .1) ∙ put-length _ _ _ in
-    (omega (arith, m₁, m₂, p .0 .1), omega arith, rw (c .bits-at2 .ensures .0) (field-small _ _ _), omega (arith, m₁, m₂, e .0, g .0, p .1 .1, c .before .before .before .before .before .before .before .before .before .before .before .if1 .left, c .before .before .before .if2 .left))
+    let m₂ = ap length (g .1) ∙ put-length _ _ _ in (
+      omega (arith, m₁, m₂, p .0 .1),
+      omega arith,
+      rw (c .bits-at2 .ensures .0) (field-small _ _ _),
+      omega (arith, m₁, m₂, e .0, g .0, p .1 .1, if1 .left, if2 .left),
+    )
 
 same-length-3 : tie.Need-same-length-3
 same-length-3 c = search needs
 
 returns-3 : tie.Need-returns-3
 returns-3 c =
-    let e = c .before .before .before .before .before .before .before .before .before .before .before .before .before .before .before .before .before .put-field .ensures in
-    let g = c .before .before .before .before .before .before .before .before .before .put-field2 .ensures in
+    let pre = c .before .before .before .before .before .before .before .before .before .before .before .before .before .before .before .before .before
+    .before .before .before .before .before .pre in
+    let put-field = c .before .before .before .before .before .before .before .before .before .before .before .before .before .before .before .before .before
+    .put-field in
+    let if1 = c .before .before .before .before .before .before .before .before .before .before .before .before .before .before .if1 in
+    let past = c .before .before .before .before .before .before .before .before .before .before .before .before .before .past in
+    let bits-at = c .before .before .before .before .before .before .before .before .before .before .before .before .bits-at in
+    let new-operand = c .before .before .before .before .before .before .before .before .before .before .new-operand in
+    let put-field2 = c .before .before .before .before .before .before .before .before .before .put-field2 in
+    let if2 = c .before .before .before .before .before .before .if2 in
+    let past2 = c .before .before .before .before .past2 in
+    let bits-at2 = c .before .before .before .bits-at2 in
+    let e = put-field .ensures in
+    let g = put-field2 .ensures in
     let k = c .before .before .put-field3 .ensures in
-    let x = c .before .before .before .before .before .before .before .before .before .before .new-operand .ensures .0 in
-    let p = c .before .before .before .before .before .before .before .before .before .before .before .before .before .before .before .before .before .before .before .before .before .before .pre in
-    let n = c .before .before .before .before .before .before .before .before .before .before .before .before .before .before .if1 .left in
-    let m = c .before .before .before .before .before .before .if2 .left in
-    (omega (arith, e .0, g .0, k .0, p .0 .4), put-two _ _ _ _ _ _ _ _ (e .1) (e .0) _ _ (g .1) (rw (c .before .before .before .before .before .before .before .before .before .before .before .before .bits-at .ensures .0, c .before .before .before .before .before .before .before .before .before .before .before .before .before .past .ensures) at x) _ _ _ (k .1) (g .0) (rw (c .before .before .before .before .past2 .ensures) at (c .before .before .before .bits-at2 .ensures .0)) _ (omega (arith, p .0 .4)) (omega (arith, p .1 .1, p .0 .4)))
+    let x = new-operand .ensures .0 in
+    let p = pre in
+    let n = if1 .left in
+    let m = if2 .left in (
+      omega (arith, e .0, g .0, k .0, p .0 .4),
+      put-two _ _ _ _ _ _ _ _ (e .1) (e .0) _ _ (g .1) (rw (bits-at .ensures .0, past .ensures) at x) _ _ _ (k .1) (g .0)
+          (rw (past2 .ensures) at (bits-at2 .ensures .0)) _ (omega (arith, p .0 .4)) (omega (arith, p .1 .1, p .0 .4)),
+    )
 
 pub put-code-spec : {M : Type 1} → statement M
 put-code-spec =

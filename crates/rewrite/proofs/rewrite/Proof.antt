@@ -48,103 +48,158 @@ operand-count-requires c κs = search needs
 
 put-code-requires : tie.Need-put-code-requires Inv-loop μ-loop
 put-code-requires c κs =
-    let p = c .before .before .before .before .before .before .before .before .before .before .before .before .before .pre in
-    let v = c .before .before .before .before .before .loop .inv in
+    let pre = c .before .before .before .before .before .before .before .before .before .before .before .before .before .pre in
+    let put-field = c .before .before .before .before .before .before .before .before .put-field in
+    let loop = c .before .before .before .before .before .loop in
+    let loop-test = c .before .before .before .before .loop-test in
+    let bits-at = c .before .before .before .bits-at in
+    let p = pre in
+    let v = loop .inv in
     let l = v .2 (p .1) in
-    let k = left-code _ _ _ _ l (c .before .before .before .before .loop-test .taken) in
+    let k = left-code _ _ _ _ l (loop-test .taken) in
     let counted = c .before .operand-count .ensures ∙ ap operandCount (c .before .before .shape-of .ensures) in
-    let m = left-operands _ _ _ _ l (c .before .before .before .before .loop-test .taken) _ _ (c .before .before .before .bits-at .ensures .0) counted in
-    let e = c .before .before .before .before .before .before .before .before .put-field .ensures in
+    let m = left-operands _ _ _ _ l (loop-test .taken) _ _ (bits-at .ensures .0) counted in
+    let e = put-field .ensures in
     let g = ap length (e .1) ∙ put-length _ _ _ in (
-      (p .0 .0, omega (arith, g, v .0, p .0 .1), p .0 .2, left-small _ _ _ _ l (c .before .before .before .before .loop-test .taken) _ 0 (c .before .before .before .bits-at .ensures .0), m .1),
+      (p .0 .0, omega (arith, g, v .0, p .0 .1), p .0 .2, left-small _ _ _ _ l (loop-test .taken) _ 0 (bits-at .ensures .0), m .1),
       (omega (arith, k, m), omega (arith, m, v .0, v .1, g, e .0, p .0 .3)),
     )
 
 mul-past : tie.Need-mul-past Inv-loop μ-loop
 mul-past c =
-    let p = c .before .before .before .before .before .before .before .before .before .before .before .before .before .before .before .before .pre in
-    let v = c .before .before .before .before .before .before .before .before .loop .inv in
+    let pre = c .before .before .before .before .before .before .before .before .before .before .before .before .before .before .before .before .pre in
+    let loop = c .before .before .before .before .before .before .before .before .loop in
+    let loop-test = c .before .before .before .before .before .before .before .loop-test in
+    let bits-at = c .before .before .before .before .before .before .bits-at in
+    let shape-of = c .before .before .before .before .before .shape-of in
+    let operand-count = c .before .before .before .before .operand-count in
+    let p = pre in
+    let v = loop .inv in
     let l = v .2 (p .1) in
-    let k = left-code _ _ _ _ l (c .before .before .before .before .before .before .before .loop-test .taken) in
-    let counted = c .before .before .before .before .operand-count .ensures ∙ ap operandCount (c .before .before .before .before .before .shape-of .ensures) in
-    let m = left-operands _ _ _ _ l (c .before .before .before .before .before .before .before .loop-test .taken) _ _ (c .before .before .before .before .before .before .bits-at .ensures .0) counted in
+    let k = left-code _ _ _ _ l (loop-test .taken) in
+    let counted = operand-count .ensures ∙ ap operandCount (shape-of .ensures) in
+    let m = left-operands _ _ _ _ l (loop-test .taken) _ _ (bits-at .ensures .0) counted in
     omega (arith, k, m, p .0 .0)
 
 add-past : tie.Need-add-past Inv-loop μ-loop
 add-past c =
-    let p = c .before .before .before .before .before .before .before .before .before .before .before .before .before .before .before .before .pre in
-    let v = c .before .before .before .before .before .before .before .before .loop .inv in
+    let pre = c .before .before .before .before .before .before .before .before .before .before .before .before .before .before .before .before .pre in
+    let loop = c .before .before .before .before .before .before .before .before .loop in
+    let loop-test = c .before .before .before .before .before .before .before .loop-test in
+    let bits-at = c .before .before .before .before .before .before .bits-at in
+    let shape-of = c .before .before .before .before .before .shape-of in
+    let operand-count = c .before .before .before .before .operand-count in
+    let p = pre in
+    let v = loop .inv in
     let l = v .2 (p .1) in
-    let k = left-code _ _ _ _ l (c .before .before .before .before .before .before .before .loop-test .taken) in
-    let counted = c .before .before .before .before .operand-count .ensures ∙ ap operandCount (c .before .before .before .before .before .shape-of .ensures) in
-    let m = left-operands _ _ _ _ l (c .before .before .before .before .before .before .before .loop-test .taken) _ _ (c .before .before .before .before .before .before .bits-at .ensures .0) counted in
+    let k = left-code _ _ _ _ l (loop-test .taken) in
+    let counted = operand-count .ensures ∙ ap operandCount (shape-of .ensures) in
+    let m = left-operands _ _ _ _ l (loop-test .taken) _ _ (bits-at .ensures .0) counted in
     omega (arith, k, m, p .0 .0)
 
 past-requires : tie.Need-past-requires Inv-loop μ-loop
 past-requires c κs =
-    let p = c .before .before .before .before .before .before .before .before .before .before .before .before .before .before .before .before .pre in
-    let v = c .before .before .before .before .before .before .before .before .loop .inv in
+    let pre = c .before .before .before .before .before .before .before .before .before .before .before .before .before .before .before .before .pre in
+    let loop = c .before .before .before .before .before .before .before .before .loop in
+    let loop-test = c .before .before .before .before .before .before .before .loop-test in
+    let bits-at = c .before .before .before .before .before .before .bits-at in
+    let shape-of = c .before .before .before .before .before .shape-of in
+    let operand-count = c .before .before .before .before .operand-count in
+    let p = pre in
+    let v = loop .inv in
     let l = v .2 (p .1) in
-    let k = left-code _ _ _ _ l (c .before .before .before .before .before .before .before .loop-test .taken) in
-    let counted = c .before .before .before .before .operand-count .ensures ∙ ap operandCount (c .before .before .before .before .before .shape-of .ensures) in
-    let m = left-operands _ _ _ _ l (c .before .before .before .before .before .before .before .loop-test .taken) _ _ (c .before .before .before .before .before .before .bits-at .ensures .0) counted in
+    let k = left-code _ _ _ _ l (loop-test .taken) in
+    let counted = operand-count .ensures ∙ ap operandCount (shape-of .ensures) in
+    let m = left-operands _ _ _ _ l (loop-test .taken) _ _ (bits-at .ensures .0) counted in
     omega (arith, k, m, p .0 .0)
 
 mul-left : tie.Need-mul-left Inv-loop μ-loop
 mul-left c =
-    let p = c .before .before .before .before .before .before .before .before .before .before .before .before .before .before .before .before .before .pre in
-    let v = c .before .before .before .before .before .before .before .before .before .loop .inv in
+    let pre = c .before .before .before .before .before .before .before .before .before .before .before .before .before .before .before .before .before .pre in
+    let loop = c .before .before .before .before .before .before .before .before .before .loop in
+    let loop-test = c .before .before .before .before .before .before .before .before .loop-test in
+    let bits-at = c .before .before .before .before .before .before .before .bits-at in
+    let shape-of = c .before .before .before .before .before .before .shape-of in
+    let operand-count = c .before .before .before .before .before .operand-count in
+    let p = pre in
+    let v = loop .inv in
     let l = v .2 (p .1) in
-    let k = left-code _ _ _ _ l (c .before .before .before .before .before .before .before .before .loop-test .taken) in
-    let counted = c .before .before .before .before .before .operand-count .ensures ∙ ap operandCount (c .before .before .before .before .before .before .shape-of .ensures) in
-    let m = left-operands _ _ _ _ l (c .before .before .before .before .before .before .before .before .loop-test .taken) _ _ (c .before .before .before .before .before .before .before .bits-at .ensures .0) counted in
+    let k = left-code _ _ _ _ l (loop-test .taken) in
+    let counted = operand-count .ensures ∙ ap operandCount (shape-of .ensures) in
+    let m = left-operands _ _ _ _ l (loop-test .taken) _ _ (bits-at .ensures .0) counted in
     omega (arith, k, m, p .0 .0)
 
 add-left : tie.Need-add-left Inv-loop μ-loop
 add-left c =
-    let p = c .before .before .before .before .before .before .before .before .before .before .before .before .before .before .before .before .before .pre in
-    let v = c .before .before .before .before .before .before .before .before .before .loop .inv in
+    let pre = c .before .before .before .before .before .before .before .before .before .before .before .before .before .before .before .before .before .pre in
+    let loop = c .before .before .before .before .before .before .before .before .before .loop in
+    let loop-test = c .before .before .before .before .before .before .before .before .loop-test in
+    let bits-at = c .before .before .before .before .before .before .before .bits-at in
+    let shape-of = c .before .before .before .before .before .before .shape-of in
+    let operand-count = c .before .before .before .before .before .operand-count in
+    let p = pre in
+    let v = loop .inv in
     let l = v .2 (p .1) in
-    let k = left-code _ _ _ _ l (c .before .before .before .before .before .before .before .before .loop-test .taken) in
-    let counted = c .before .before .before .before .before .operand-count .ensures ∙ ap operandCount (c .before .before .before .before .before .before .shape-of .ensures) in
-    let m = left-operands _ _ _ _ l (c .before .before .before .before .before .before .before .before .loop-test .taken) _ _ (c .before .before .before .before .before .before .before .bits-at .ensures .0) counted in
+    let k = left-code _ _ _ _ l (loop-test .taken) in
+    let counted = operand-count .ensures ∙ ap operandCount (shape-of .ensures) in
+    let m = left-operands _ _ _ _ l (loop-test .taken) _ _ (bits-at .ensures .0) counted in
     omega (arith, k, m, p .0 .0)
 
 sub-left : tie.Need-sub-left Inv-loop μ-loop
 sub-left c =
-    let p = c .before .before .before .before .before .before .before .before .before .before .before .before .before .before .before .before .before .pre in
-    let v = c .before .before .before .before .before .before .before .before .before .loop .inv in
+    let pre = c .before .before .before .before .before .before .before .before .before .before .before .before .before .before .before .before .before .pre in
+    let loop = c .before .before .before .before .before .before .before .before .before .loop in
+    let loop-test = c .before .before .before .before .before .before .before .before .loop-test in
+    let bits-at = c .before .before .before .before .before .before .before .bits-at in
+    let shape-of = c .before .before .before .before .before .before .shape-of in
+    let operand-count = c .before .before .before .before .before .operand-count in
+    let p = pre in
+    let v = loop .inv in
     let l = v .2 (p .1) in
-    let k = left-code _ _ _ _ l (c .before .before .before .before .before .before .before .before .loop-test .taken) in
-    let counted = c .before .before .before .before .before .operand-count .ensures ∙ ap operandCount (c .before .before .before .before .before .before .shape-of .ensures) in
-    let m = left-operands _ _ _ _ l (c .before .before .before .before .before .before .before .before .loop-test .taken) _ _ (c .before .before .before .before .before .before .before .bits-at .ensures .0) counted in
+    let k = left-code _ _ _ _ l (loop-test .taken) in
+    let counted = operand-count .ensures ∙ ap operandCount (shape-of .ensures) in
+    let m = left-operands _ _ _ _ l (loop-test .taken) _ _ (bits-at .ensures .0) counted in
     omega (arith, k, m, p .0 .0)
 
 loop-less : tie.Need-loop-less Inv-loop μ-loop
 loop-less c =
-    let p = c .before .before .before .before .before .before .before .before .before .before .before .before .before .before .before .before .before .pre in
-    let v = c .before .before .before .before .before .before .before .before .before .loop .inv in
+    let pre = c .before .before .before .before .before .before .before .before .before .before .before .before .before .before .before .before .before .pre in
+    let loop = c .before .before .before .before .before .before .before .before .before .loop in
+    let loop-test = c .before .before .before .before .before .before .before .before .loop-test in
+    let bits-at = c .before .before .before .before .before .before .before .bits-at in
+    let shape-of = c .before .before .before .before .before .before .shape-of in
+    let operand-count = c .before .before .before .before .before .operand-count in
+    let p = pre in
+    let v = loop .inv in
     let l = v .2 (p .1) in
-    let k = left-code _ _ _ _ l (c .before .before .before .before .before .before .before .before .loop-test .taken) in
-    let counted = c .before .before .before .before .before .operand-count .ensures ∙ ap operandCount (c .before .before .before .before .before .before .shape-of .ensures) in
-    let m = left-operands _ _ _ _ l (c .before .before .before .before .before .before .before .before .loop-test .taken) _ _ (c .before .before .before .before .before .before .before .bits-at .ensures .0) counted in
+    let k = left-code _ _ _ _ l (loop-test .taken) in
+    let counted = operand-count .ensures ∙ ap operandCount (shape-of .ensures) in
+    let m = left-operands _ _ _ _ l (loop-test .taken) _ _ (bits-at .ensures .0) counted in
     omega (arith, k, m)
 
 loop-again : tie.Need-loop-again Inv-loop μ-loop
 loop-again c =
-    let p = c .before .before .before .before .before .before .before .before .before .before .before .before .before .before .before .before .before .pre in
-    let v = c .before .before .before .before .before .before .before .before .before .loop .inv in
+    let pre = c .before .before .before .before .before .before .before .before .before .before .before .before .before .before .before .before .before .pre in
+    let put-field = c .before .before .before .before .before .before .before .before .before .before .before .before .put-field in
+    let loop = c .before .before .before .before .before .before .before .before .before .loop in
+    let loop-test = c .before .before .before .before .before .before .before .before .loop-test in
+    let bits-at = c .before .before .before .before .before .before .before .bits-at in
+    let shape-of = c .before .before .before .before .before .before .shape-of in
+    let operand-count = c .before .before .before .before .before .operand-count in
+    let put-code = c .before .before .before .put-code in
+    let p = pre in
+    let v = loop .inv in
     let l = v .2 (p .1) in
-    let k = left-code _ _ _ _ l (c .before .before .before .before .before .before .before .before .loop-test .taken) in
-    let counted = c .before .before .before .before .before .operand-count .ensures ∙ ap operandCount (c .before .before .before .before .before .before .shape-of .ensures) in
-    let m = left-operands _ _ _ _ l (c .before .before .before .before .before .before .before .before .loop-test .taken) _ _ (c .before .before .before .before .before .before .before .bits-at .ensures .0) counted in
-    let e = c .before .before .before .before .before .before .before .before .before .before .before .before .put-field .ensures in
+    let k = left-code _ _ _ _ l (loop-test .taken) in
+    let counted = operand-count .ensures ∙ ap operandCount (shape-of .ensures) in
+    let m = left-operands _ _ _ _ l (loop-test .taken) _ _ (bits-at .ensures .0) counted in
+    let e = put-field .ensures in
     let g = ap length (e .1) ∙ put-length _ _ _ in
-    let d = c .before .before .before .put-code .ensures in (
+    let d = put-code .ensures in (
       ap length (d .1) ∙ put-length _ _ _ ∙ v .0,
       omega (arith, m, d .0, v .1),
-      λ w. rw (c .past .ensures)
-          (left-next _ _ _ _ (v .2 w) (c .before .before .before .before .before .before .before .before .loop-test .taken) _ _ (c .before .before .before .before .before .before .before .bits-at .ensures .0) counted _ _ (omega (arith, v .1, e .0, g, p .0 .3)) (d .1) (d .0)),
+      λ w. rw (c .past .ensures) (left-next _ _ _ _ (v .2 w) (loop-test .taken) _ _ (bits-at .ensures .0) counted _ _ (omega (arith, v .1, e .0, g, p .0 .3))
+          (d .1) (d .0)),
     )
 
 same-length : tie.Need-same-length Inv-loop μ-loop

@@ -17,21 +17,30 @@ enum-known-x : tie.Need-enum-known-x
 enum-known-x c = search needs
 
 integer-requires : tie.Need-integer-requires
-integer-requires c κs = (c .before .before .before .before .before .before .before .pre .0, c .before .before .before .before .before .before .before .pre .1, sum-fits _ _ (sym (c .before .before .before .before .sum-up .ensures) ∙ c .before .before .x .given .1))
+integer-requires c κs =
+    let pre = c .before .before .before .before .before .before .before .pre in
+    let sum-up = c .before .before .before .before .sum-up in
+    (pre .0, pre .1, sum-fits _ _ (sym (sum-up .ensures) ∙ c .before .before .x .given .1))
 
 same-length : tie.Need-same-length
 same-length c = search needs
 
 returns : tie.Need-returns
 unfolding told added
-returns c = λ g t. rw (add-by-sum (mem g (now (c .before .before .before .before .before .args .stack)) t) (c .before .before .before .before .before .args .r), ← c .before .before .sum-up .ensures, c .enum-told .given .1)
+returns c =
+    let args = c .before .before .before .before .before .args in
+    λ g t. rw (add-by-sum (mem g (now (args .stack)) t) (args .r), ← c .before .before .sum-up .ensures, c .enum-told .given .1)
 
 same-length-2 : tie.Need-same-length-2
 same-length-2 c = search needs
 
 returns-2 : tie.Need-returns-2
 unfolding told added
-returns-2 c = λ g t. rw (add-by-sum (mem g (now (c .before .before .before .before .before .before .before .before .before .before .args .stack)) t) (c .before .before .before .before .before .before .before .before .before .before .args .r), ← c .before .before .before .before .before .before .before .sum-up .ensures, c .before .before .before .before .before .x .given .1) (c .before .before .integer .ensures g t)
+returns-2 c =
+    let args = c .before .before .before .before .before .before .before .before .before .before .args in
+    let sum-up = c .before .before .before .before .before .before .before .sum-up in
+    let x = c .before .before .before .before .before .x in
+    λ g t. rw (add-by-sum (mem g (now (args .stack)) t) (args .r), ← sum-up .ensures, x .given .1) (c .before .before .integer .ensures g t)
 
 pub add-spec : {M : Type 1} → statement M
 add-spec =

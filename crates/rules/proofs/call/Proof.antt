@@ -23,11 +23,23 @@ closure-env-requires c κs = search needs
 
 returns-2 : tie.Need-returns-2
 unfolding calledTo callRule
-returns-2 c = (rw (eq-eqb (c .before .before .before .before .before .before .args .r .sp) (c .before .before .before .before .before .before .args .n) (omega arith), eq-eqb _ _ (sym (c .before .before .before .tag-of .ensures) ∙ c .before .before .if2 .taken), c .before .closure-template .ensures, c .closure-env .ensures), λ f. omega arith)
+returns-2 c =
+    let args = c .before .before .before .before .before .before .args in
+    let tag-of = c .before .before .before .tag-of in (
+      rw (
+        eq-eqb (args .r .sp) (args .n) (omega arith),
+        eq-eqb _ _ (sym (tag-of .ensures) ∙ c .before .before .if2 .taken),
+        c .before .closure-template .ensures,
+        c .closure-env .ensures,
+      ),
+      λ f. omega arith,
+    )
 
 returns-3 : tie.Need-returns-3
 unfolding calledTo callRule
-returns-3 c = (rw (eq-eqb (c .before .before .before .before .args .r .sp) (c .before .before .before .before .args .n) (omega arith), ne-eqb _ _ (λ k. c .if2 .left (c .before .tag-of .ensures ∙ k))), λ f. tt)
+returns-3 c =
+    let args = c .before .before .before .before .args in
+    (rw (eq-eqb (args .r .sp) (args .n) (omega arith), ne-eqb _ _ (λ k. c .if2 .left (c .before .tag-of .ensures ∙ k))), λ f. tt)
 
 pub call-spec : {M : Type 1} → statement M
 call-spec =

@@ -20,7 +20,10 @@ same-length c = search needs
 
 returns : tie.Need-returns
 unfolding carRule
-returns c = λ g. c .before .before .part .ensures pairFirst g (sym (c .before .before .before .before .pair-first .ensures ∙ ap pairFirst (c .before .before .before .before .before .top-of .ensures g g)))
+returns c =
+    let top-of = c .before .before .before .before .before .top-of in
+    let pair-first = c .before .before .before .before .pair-first in
+    λ g. c .before .before .part .ensures pairFirst g (sym (pair-first .ensures ∙ ap pairFirst (top-of .ensures g g)))
 
 pub car-spec : {M : Type 1} → statement M
 car-spec =

@@ -20,7 +20,10 @@ same-length c = search needs
 
 returns : tie.Need-returns
 unfolding cdrRule
-returns c = λ g. c .before .before .part .ensures pairSecond g (sym (c .before .before .before .before .pair-second .ensures ∙ ap pairSecond (c .before .before .before .before .before .top-of .ensures g g)))
+returns c =
+    let top-of = c .before .before .before .before .before .top-of in
+    let pair-second = c .before .before .before .before .pair-second in
+    λ g. c .before .before .part .ensures pairSecond g (sym (pair-second .ensures ∙ ap pairSecond (top-of .ensures g g)))
 
 pub cdr-spec : {M : Type 1} → statement M
 cdr-spec =

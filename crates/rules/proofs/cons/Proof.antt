@@ -72,7 +72,12 @@ same-length-2 c = search needs
 
 returns-2 : tie.Need-returns-2
 unfolding told consRule
-returns-2 c = λ g. rw (le-leb _ _ (c .before .before .before .before .before .before .before .before .if1 .left), le-leb _ _ (c .before .before .before .before .before .before .before .if2 .taken), c .before .before .emptied .ensures .0, c .before .before .emptied .ensures .1, c .before .before .before .before .pair-cell .ensures, add-one _)
+returns-2 c =
+    let if1 = c .before .before .before .before .before .before .before .before .if1 in
+    let if2 = c .before .before .before .before .before .before .before .if2 in
+    let pair-cell = c .before .before .before .before .pair-cell in
+    let emptied = c .before .before .emptied in
+    λ g. rw (le-leb _ _ (if1 .left), le-leb _ _ (if2 .taken), emptied .ensures .0, emptied .ensures .1, pair-cell .ensures, add-one _)
 
 returns-3 : tie.Need-returns-3
 unfolding told consRule

@@ -36,14 +36,22 @@ same-length c = search needs
 
 returns-2 : tie.Need-returns-2
 unfolding told eqvRule
-returns-2 c = λ g t. rw (le-leb _ _ (c .before .before .before .before .before .before .before .if1 .left), eq-eqb _ _ (c .before .before .before .before .if2 .taken), c .before .before .emptied .ensures .0, c .before .before .emptied .ensures .1)
+returns-2 c =
+    let if1 = c .before .before .before .before .before .before .before .if1 in
+    let if2 = c .before .before .before .before .if2 in
+    let emptied = c .before .before .emptied in
+    λ g t. rw (le-leb _ _ (if1 .left), eq-eqb _ _ (if2 .taken), emptied .ensures .0, emptied .ensures .1)
 
 same-length-2 : tie.Need-same-length-2
 same-length-2 c = search needs
 
 returns-3 : tie.Need-returns-3
 unfolding told eqvRule
-returns-3 c = λ g t. rw (le-leb _ _ (c .before .before .before .before .before .before .before .if1 .left), ne-eqb _ _ (c .before .before .before .before .if2 .left), c .before .before .emptied2 .ensures .0, c .before .before .emptied2 .ensures .1)
+returns-3 c =
+    let if1 = c .before .before .before .before .before .before .before .if1 in
+    let if2 = c .before .before .before .before .if2 in
+    let emptied2 = c .before .before .emptied2 in
+    λ g t. rw (le-leb _ _ (if1 .left), ne-eqb _ _ (if2 .left), emptied2 .ensures .0, emptied2 .ensures .1)
 
 pub eqv-spec : {M : Type 1} → statement M
 eqv-spec =

@@ -48,8 +48,13 @@ loop-less c = search needs
 
 loop-again : tie.Need-loop-again Inv-loop μ-loop
 loop-again c =
-    let b = c .before .before .before .before in
-    (omega (arith, c .layer-parent .ensures), omega arith, cc (walk-out (now (b .before .before .args .store)) (b .loop .e) (b .loop .left) (b .before .before .args .place) (c .before .before .before .if1 .left) (c .before .if2 .left)))
+    let if1 = c .before .before .before .if1 in
+    let before = c .before .before .before .before in
+    let b = before in (
+      omega (arith, c .layer-parent .ensures),
+      omega arith,
+      cc (walk-out (now (b .before .before .args .store)) (b .loop .e) (b .loop .left) (b .before .before .args .place) (if1 .left) (c .before .if2 .left)),
+    )
 
 returns : tie.Need-returns Inv-loop μ-loop
 unfolding foundAt
@@ -58,14 +63,26 @@ returns c = rw (← c .before .loop .inv .2, walk-none _ _ _ _ (c .if1 .taken))
 returns-2 : tie.Need-returns-2 Inv-loop μ-loop
 unfolding foundAt
 returns-2 c =
-    let b = c .before .before .before .before .before in
-    rw (← b .loop .inv .2, walk-here (now (b .before .before .args .store)) (b .loop .e) (b .loop .left) (b .before .before .args .place) (c .before .before .before .before .if1 .left) (c .before .before .if2 .taken) (omega arith))
+    let if1 = c .before .before .before .before .if1 in
+    let before = c .before .before .before .before .before in
+    let b = before in
+    rw (
+      ← b .loop .inv .2,
+      walk-here (now (b .before .before .args .store)) (b .loop .e) (b .loop .left) (b .before .before .args .place) (if1 .left)
+          (c .before .before .if2 .taken) (omega arith),
+    )
 
 returns-3 : tie.Need-returns-3 Inv-loop μ-loop
 unfolding foundAt
 returns-3 c =
-    let b = c .before .before .before .before .before in
-    rw (← b .loop .inv .2, walk-over (now (b .before .before .args .store)) (b .loop .e) (b .loop .left) (b .before .before .args .place) (c .before .before .before .before .if1 .left) (c .before .before .if2 .taken) (omega arith))
+    let if1 = c .before .before .before .before .if1 in
+    let before = c .before .before .before .before .before in
+    let b = before in
+    rw (
+      ← b .loop .inv .2,
+      walk-over (now (b .before .before .args .store)) (b .loop .e) (b .loop .left) (b .before .before .args .place) (if1 .left)
+          (c .before .before .if2 .taken) (omega arith),
+    )
 
 pub find-local-spec : {M : Type 1} → statement M
 find-local-spec =

@@ -21,13 +21,25 @@ same-length c = search needs
 
 returns : tie.Need-returns
 unfolding told floorDivRule
-returns c = λ g t. ap (told (mem g (now (c .before .before .before .before .before .before .before .args .stack)) t)) (by-zero _ _ (mem g (now (c .before .before .before .before .before .before .before .args .stack)) t) (c .before .before .before .before .before .before .before .args .r) ((rw (c .before .before .a .given .1) at (c .before .before .before .before .two-integers .ensures .1)) .1) (c .if1 .taken) ∙ two-are divided (mem g (now (c .before .before .before .before .before .before .before .args .stack)) t) (c .before .before .before .before .before .before .before .args .r) _ (c .before .before .before .before .two-integers .ensures .0 g t) _ _ (c .before .before .a .given .1))
+returns c =
+    let args = c .before .before .before .before .before .before .before .args in
+    let two-integers = c .before .before .before .before .two-integers in
+    let a = c .before .before .a in
+    λ g t. ap (told (mem g (now (args .stack)) t))
+    (by-zero _ _ (mem g (now (args .stack)) t) (args .r) ((rw (a .given .1) at (two-integers .ensures .1)) .1) (c .if1 .taken) ∙ two-are divided
+    (mem g (now (args .stack)) t) (args .r) _ (two-integers .ensures .0 g t) _ _ (a .given .1))
 
 floor-div-requires : tie.Need-floor-div-requires
-floor-div-requires c κs = let h = rw (c .before .before .before .a .given .1) at (c .before .before .before .before .before .two-integers .ensures .1) in (h .0, h .1, c .before .if1 .left)
+floor-div-requires c κs =
+    let two-integers = c .before .before .before .before .before .two-integers in
+    let a = c .before .before .before .a in
+    let h = rw (a .given .1) at (two-integers .ensures .1) in
+    (h .0, h .1, c .before .if1 .left)
 
 integer-requires : tie.Need-integer-requires
-integer-requires c κs = (c .before .before .before .before .before .before .before .before .before .pre .0, c .before .before .before .before .before .before .before .before .before .pre .1, fits-of _ _ (c .floor-div .ensures))
+integer-requires c κs =
+    let pre = c .before .before .before .before .before .before .before .before .before .pre in
+    (pre .0, pre .1, fits-of _ _ (c .floor-div .ensures))
 
 enum-known-n : tie.Need-enum-known-n
 enum-known-n c = search needs
@@ -37,14 +49,26 @@ same-length-2 c = search needs
 
 returns-2 : tie.Need-returns-2
 unfolding floorDivRule
-returns-2 c = λ g t. c .before .before .integer .ensures g t ∙ ap (told (mem g (now (c .before .before .before .before .before .before .before .before .before .before .before .before .args .stack)) t)) (integer-of _ _ _ _ (c .before .before .before .floor-div .ensures) ∙ by-other _ _ (mem g (now (c .before .before .before .before .before .before .before .before .before .before .before .before .args .stack)) t) (c .before .before .before .before .before .before .before .before .before .before .before .before .args .r) ((rw (c .before .before .before .before .before .before .before .a .given .1) at (c .before .before .before .before .before .before .before .before .before .two-integers .ensures .1)) .1) (c .before .before .before .before .before .if1 .left) ∙ two-are divided (mem g (now (c .before .before .before .before .before .before .before .before .before .before .before .before .args .stack)) t) (c .before .before .before .before .before .before .before .before .before .before .before .before .args .r) _ (c .before .before .before .before .before .before .before .before .before .two-integers .ensures .0 g t) _ _ (c .before .before .before .before .before .before .before .a .given .1))
+returns-2 c =
+    let args = c .before .before .before .before .before .before .before .before .before .before .before .before .args in
+    let two-integers = c .before .before .before .before .before .before .before .before .before .two-integers in
+    let a = c .before .before .before .before .before .before .before .a in
+    let if1 = c .before .before .before .before .before .if1 in
+    let floor-div = c .before .before .before .floor-div in
+    λ g t. c .before .before .integer .ensures g t ∙ ap (told (mem g (now (args .stack)) t))
+    (integer-of _ _ _ _ (floor-div .ensures) ∙ by-other _ _ (mem g (now (args .stack)) t) (args .r) ((rw (a .given .1) at (two-integers .ensures .1)) .1)
+    (if1 .left) ∙ two-are divided (mem g (now (args .stack)) t) (args .r) _ (two-integers .ensures .0 g t) _ _ (a .given .1))
 
 same-length-3 : tie.Need-same-length-3
 same-length-3 c = search needs
 
 returns-3 : tie.Need-returns-3
 unfolding told floorDivRule
-returns-3 c = λ g t. ap (told (mem g (now (c .before .before .before .before .before .before .args .stack)) t)) (two-wrong divided (mem g (now (c .before .before .before .before .before .before .args .stack)) t) (c .before .before .before .before .before .before .args .r) _ (c .before .before .before .two-integers .ensures .0 g t) _ (c .before .n .given .1))
+returns-3 c =
+    let args = c .before .before .before .before .before .before .args in
+    let two-integers = c .before .before .before .two-integers in
+    λ g t. ap (told (mem g (now (args .stack)) t))
+    (two-wrong divided (mem g (now (args .stack)) t) (args .r) _ (two-integers .ensures .0 g t) _ (c .before .n .given .1))
 
 pub floor-div-spec : {M : Type 1} → statement M
 floor-div-spec =

@@ -27,7 +27,9 @@ held-requires c κs = search needs
 
 returns-2 : tie.Need-returns-2
 unfolding mayDo plainRule globalRule
-returns-2 c = λ s t. c .held .ensures _ ∙ ap (told _) (allowed _ _ _ _ _ (c .before .before .before .may-read .ensures) (not-false _ (c .before .before .if1 .left)))
+returns-2 c =
+    let may-read = c .before .before .before .may-read in
+    λ s t. c .held .ensures _ ∙ ap (told _) (allowed _ _ _ _ _ (may-read .ensures) (not-false _ (c .before .before .if1 .left)))
 
 pub global-spec : {M : Type 1} → statement M
 global-spec =

@@ -23,7 +23,11 @@ same-length c = search needs
 
 returns : tie.Need-returns
 unfolding told integerBy
-returns c = λ g t. rw (c .before .before .before .before .before .before .x .given .1, c .before .before .emptied .ensures .0, c .before .before .emptied .ensures .1, c .before .before .before .int-cell .ensures)
+returns c =
+    let x = c .before .before .before .before .before .before .x in
+    let int-cell = c .before .before .before .int-cell in
+    let emptied = c .before .before .emptied in
+    λ g t. rw (x .given .1, emptied .ensures .0, emptied .ensures .1, int-cell .ensures)
 
 returns-2 : tie.Need-returns-2
 unfolding told integerBy

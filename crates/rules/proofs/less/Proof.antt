@@ -31,21 +31,51 @@ same-length c = search needs
 
 returns : tie.Need-returns
 unfolding told lessRule
-returns c = λ g t. rw (← two-are compared (mem g (now (c .before .before .before .before .before .before .before .before .before .before .before .before .args .stack)) t) (c .before .before .before .before .before .before .before .before .before .before .before .before .args .r) _ (c .before .before .before .before .before .before .before .before .before .two-integers .ensures .0 g t) _ _ (c .before .before .before .before .before .before .before .a .given .1), ← c .before .before .before .before .before .less .ensures, c .before .before .before .before .if1 .taken, c .before .before .emptied .ensures .0, c .before .before .emptied .ensures .1)
+returns c =
+    let args = c .before .before .before .before .before .before .before .before .before .before .before .before .args in
+    let two-integers = c .before .before .before .before .before .before .before .before .before .two-integers in
+    let a = c .before .before .before .before .before .before .before .a in
+    let less = c .before .before .before .before .before .less in
+    let if1 = c .before .before .before .before .if1 in
+    let emptied = c .before .before .emptied in
+    λ g t. rw (
+      ← two-are compared (mem g (now (args .stack)) t) (args .r) _ (two-integers .ensures .0 g t) _ _ (a .given .1),
+      ← less .ensures,
+      if1 .taken,
+      emptied .ensures .0,
+      emptied .ensures .1,
+    )
 
 same-length-2 : tie.Need-same-length-2
 same-length-2 c = search needs
 
 returns-2 : tie.Need-returns-2
 unfolding told lessRule
-returns-2 c = λ g t. rw (← two-are compared (mem g (now (c .before .before .before .before .before .before .before .before .before .before .before .before .args .stack)) t) (c .before .before .before .before .before .before .before .before .before .before .before .before .args .r) _ (c .before .before .before .before .before .before .before .before .before .two-integers .ensures .0 g t) _ _ (c .before .before .before .before .before .before .before .a .given .1), ← c .before .before .before .before .before .less .ensures, c .before .before .before .before .if1 .left, c .before .before .emptied2 .ensures .0, c .before .before .emptied2 .ensures .1)
+returns-2 c =
+    let args = c .before .before .before .before .before .before .before .before .before .before .before .before .args in
+    let two-integers = c .before .before .before .before .before .before .before .before .before .two-integers in
+    let a = c .before .before .before .before .before .before .before .a in
+    let less = c .before .before .before .before .before .less in
+    let if1 = c .before .before .before .before .if1 in
+    let emptied2 = c .before .before .emptied2 in
+    λ g t. rw (
+      ← two-are compared (mem g (now (args .stack)) t) (args .r) _ (two-integers .ensures .0 g t) _ _ (a .given .1),
+      ← less .ensures,
+      if1 .left,
+      emptied2 .ensures .0,
+      emptied2 .ensures .1,
+    )
 
 same-length-3 : tie.Need-same-length-3
 same-length-3 c = search needs
 
 returns-3 : tie.Need-returns-3
 unfolding told lessRule
-returns-3 c = λ g t. ap (told (mem g (now (c .before .before .before .before .before .before .args .stack)) t)) (two-wrong compared (mem g (now (c .before .before .before .before .before .before .args .stack)) t) (c .before .before .before .before .before .before .args .r) _ (c .before .before .before .two-integers .ensures .0 g t) _ (c .before .n .given .1))
+returns-3 c =
+    let args = c .before .before .before .before .before .before .args in
+    let two-integers = c .before .before .before .two-integers in
+    λ g t. ap (told (mem g (now (args .stack)) t))
+    (two-wrong compared (mem g (now (args .stack)) t) (args .r) _ (two-integers .ensures .0 g t) _ (c .before .n .given .1))
 
 pub less-spec : {M : Type 1} → statement M
 less-spec =

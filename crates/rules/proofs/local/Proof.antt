@@ -28,7 +28,10 @@ returns c = λ g s. rw (found-beyond _ _ _ (sym (c .before .before .before .find
 
 returns-2 : tie.Need-returns-2
 unfolding localRule
-returns-2 c = λ g s. rw (found-cell _ _ _ (sym (c .before .before .before .before .before .find-local .ensures) ∙ c .before .before .before .l .given .1), ← c .before .fetch .ensures) (c .held .ensures _)
+returns-2 c =
+    let find-local = c .before .before .before .before .before .find-local in
+    let l = c .before .before .before .l in
+    λ g s. rw (found-cell _ _ _ (sym (find-local .ensures) ∙ l .given .1), ← c .before .fetch .ensures) (c .held .ensures _)
 
 pub local-spec : {M : Type 1} → statement M
 local-spec =

@@ -58,7 +58,12 @@ same-length-2 c = c .before .before .before .before .before .before .copy-down .
 
 returns-2 : tie.Need-returns-2
 unfolding told makeEnvRule
-returns-2 c = λ g. rw (c .before .before .before .before .before .before .copy-down .ensures, c .before .before .clear .ensures, c .before .before .before .before .before .before .before .before .before .layer-cell .ensures, ← c .before .before .before .before .before .before .before .before .before .before .before .if1 .left, eq-eqb _ _ refl, le-leb _ _ (c .before .before .before .before .before .before .before .before .before .before .if2 .taken), add-one _)
+returns-2 c =
+    let if1 = c .before .before .before .before .before .before .before .before .before .before .before .if1 in
+    let if2 = c .before .before .before .before .before .before .before .before .before .before .if2 in
+    let layer-cell = c .before .before .before .before .before .before .before .before .before .layer-cell in
+    let copy-down = c .before .before .before .before .before .before .copy-down in
+    λ g. rw (copy-down .ensures, c .before .before .clear .ensures, layer-cell .ensures, ← if1 .left, eq-eqb _ _ refl, le-leb _ _ (if2 .taken), add-one _)
 
 returns-3 : tie.Need-returns-3
 unfolding told makeEnvRule

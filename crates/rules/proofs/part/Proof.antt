@@ -30,7 +30,13 @@ same-length c = search needs
 
 returns-2 : tie.Need-returns-2
 unfolding told
-returns-2 c = λ location g e. rw (le-leb _ _ (c .before .before .before .before .before .before .before .before .if1 .left), eq-eqb _ _ (sym (c .before .before .before .before .before .before .tag-of .ensures) ∙ c .before .before .before .before .before .if2 .taken), e, c .before .before .emptied .ensures .0, c .before .before .emptied .ensures .1, c .before .before .before .before .fetch .ensures)
+returns-2 c =
+    let if1 = c .before .before .before .before .before .before .before .before .if1 in
+    let tag-of = c .before .before .before .before .before .before .tag-of in
+    let if2 = c .before .before .before .before .before .if2 in
+    let fetch = c .before .before .before .before .fetch in
+    let emptied = c .before .before .emptied in
+    λ location g e. rw (le-leb _ _ (if1 .left), eq-eqb _ _ (sym (tag-of .ensures) ∙ if2 .taken), e, emptied .ensures .0, emptied .ensures .1, fetch .ensures)
 
 returns-3 : tie.Need-returns-3
 unfolding told

@@ -116,53 +116,83 @@ floor-div-requires c κs = search needs
 
 returns : tie.Need-returns
 unfolding ownedRule mayDo plainRule
-returns c = ended _ _ _ _ _ (c .before .before .before .before .before .before .before .args .r) _ (c .before .before .i .given .1) (c .before .before .before .before .before .before .before .pre .3) (c .literal .ensures _)
+returns c =
+    let pre = c .before .before .before .before .before .before .before .pre in
+    let args = c .before .before .before .before .before .before .before .args in
+    ended _ _ _ _ _ (args .r) _ (c .before .before .i .given .1) (pre .3) (c .literal .ensures _)
 
 same-length : tie.Need-same-length
 same-length c = search needs
 
 returns-2 : tie.Need-returns-2
 unfolding ownedRule mayDo plainRule
-returns-2 c = ended _ _ _ _ _ (c .before .before .before .before .before .before .before .before .before .before .args .r) _ (c .before .before .before .before .before .i2 .given .1) (c .before .before .before .before .before .before .before .before .before .before .pre .3) (c .before .before .closure .ensures _ _)
+returns-2 c =
+    let pre = c .before .before .before .before .before .before .before .before .before .before .pre in
+    let args = c .before .before .before .before .before .before .before .before .before .before .args in
+    let i2 = c .before .before .before .before .before .i2 in
+    ended _ _ _ _ _ (args .r) _ (i2 .given .1) (pre .3) (c .before .before .closure .ensures _ _)
 
 same-length-2 : tie.Need-same-length-2
 same-length-2 c = search needs
 
 returns-3 : tie.Need-returns-3
 unfolding ownedRule mayDo plainRule
-returns-3 c = ended _ _ _ _ _ (c .before .before .before .before .before .before .before .before .args .r) _ (c .before .before .before .i3 .given .1) (c .before .before .before .before .before .before .before .before .pre .3) (c .global .ensures _ _)
+returns-3 c =
+    let pre = c .before .before .before .before .before .before .before .before .pre in
+    let args = c .before .before .before .before .before .before .before .before .args in
+    let i3 = c .before .before .before .i3 in
+    ended _ _ _ _ _ (args .r) _ (i3 .given .1) (pre .3) (c .global .ensures _ _)
 
 same-length-3 : tie.Need-same-length-3
 same-length-3 c = search needs
 
 returns-4 : tie.Need-returns-4
 unfolding ownedRule mayDo plainRule
-returns-4 c = ended _ _ _ _ _ (c .before .before .before .before .before .before .before .before .before .before .args .r) _ (c .before .before .before .before .before .i4 .given .1) (c .before .before .before .before .before .before .before .before .before .before .pre .3) (c .before .before .set-global .ensures _ _)
+returns-4 c =
+    let pre = c .before .before .before .before .before .before .before .before .before .before .pre in
+    let args = c .before .before .before .before .before .before .before .before .before .before .args in
+    let i4 = c .before .before .before .before .before .i4 in
+    ended _ _ _ _ _ (args .r) _ (i4 .given .1) (pre .3) (c .before .before .set-global .ensures _ _)
 
 same-length-4 : tie.Need-same-length-4
 same-length-4 c = search needs
 
 returns-5 : tie.Need-returns-5
 unfolding ownedRule mayDo plainRule
-returns-5 c = ended _ _ _ _ _ (c .before .before .before .before .before .before .before .before .args .r) _ (c .before .before .before .i5 .given .1) (c .before .before .before .before .before .before .before .before .pre .3) (c .local .ensures _ _)
+returns-5 c =
+    let pre = c .before .before .before .before .before .before .before .before .pre in
+    let args = c .before .before .before .before .before .before .before .before .args in
+    let i5 = c .before .before .before .i5 in
+    ended _ _ _ _ _ (args .r) _ (i5 .given .1) (pre .3) (c .local .ensures _ _)
 
 same-length-5 : tie.Need-same-length-5
 same-length-5 c = search needs
 
 returns-6 : tie.Need-returns-6
 unfolding ownedRule mayDo plainRule
-returns-6 c = ended _ _ _ _ _ (c .before .before .before .before .before .before .before .before .before .before .args .r) _ (c .before .before .before .before .before .i6 .given .1) (c .before .before .before .before .before .before .before .before .before .before .pre .3) (c .before .before .set-local .ensures _ _)
+returns-6 c =
+    let pre = c .before .before .before .before .before .before .before .before .before .before .pre in
+    let args = c .before .before .before .before .before .before .before .before .before .before .args in
+    let i6 = c .before .before .before .before .before .i6 in
+    ended _ _ _ _ _ (args .r) _ (i6 .given .1) (pre .3) (c .before .before .set-local .ensures _ _)
 
 same-length-6 : tie.Need-same-length-6
 same-length-6 c = search needs
 
 returns-7 : tie.Need-returns-7
 unfolding ownedRule mayDo plainRule
-returns-7 c = ended _ _ _ _ _ (c .before .before .before .before .before .before .before .before .before .args .r) _ (c .before .before .before .before .enum-told .given .1) (c .before .before .before .before .before .before .before .before .before .pre .3) (c .before .before .push .ensures _ _)
+returns-7 c =
+    let pre = c .before .before .before .before .before .before .before .before .before .pre in
+    let args = c .before .before .before .before .before .before .before .before .before .args in
+    let enum-told = c .before .before .before .before .enum-told in
+    ended _ _ _ _ _ (args .r) _ (enum-told .given .1) (pre .3) (c .before .before .push .ensures _ _)
 
 returns-8 : tie.Need-returns-8
 unfolding ownedRule mayDo plainRule
-returns-8 c = ended _ _ _ _ _ (c .before .before .before .before .before .before .args .r) _ (c .before .enum-told2 .given .1) (c .before .before .before .before .before .before .pre .3) (c .literal2 .ensures _)
+returns-8 c =
+    let pre = c .before .before .before .before .before .before .pre in
+    let args = c .before .before .before .before .before .before .args in
+    ended _ _ _ _ _ (args .r) _ (c .before .enum-told2 .given .1) (pre .3) (c .literal2 .ensures _)
 
 same-length-7 : tie.Need-same-length-7
 same-length-7 c = search needs
@@ -172,11 +202,19 @@ same-length-8 c = search needs
 
 returns-9 : tie.Need-returns-9
 unfolding ownedRule mayDo plainRule
-returns-9 c = ended _ _ _ _ _ (c .before .before .before .before .before .before .before .before .before .before .before .before .before .args .r) _ (c .before .before .before .before .before .before .before .before .i7 .given .1) (c .before .before .before .before .before .before .before .before .before .before .before .before .before .pre .3) (c .before .before .before .before .make-env .ensures _)
+returns-9 c =
+    let pre = c .before .before .before .before .before .before .before .before .before .before .before .before .before .pre in
+    let args = c .before .before .before .before .before .before .before .before .before .before .before .before .before .args in
+    let i7 = c .before .before .before .before .before .before .before .before .i7 in
+    let make-env = c .before .before .before .before .make-env in
+    ended _ _ _ _ _ (args .r) _ (i7 .given .1) (pre .3) (make-env .ensures _)
 
 returns-10 : tie.Need-returns-10
 unfolding ownedRule mayDo plainRule
-returns-10 c = ended _ _ _ _ _ (c .before .before .before .before .before .before .before .args .r) _ (c .before .before .i8 .given .1) (c .before .before .before .before .before .before .before .pre .3) (c .check-args .ensures _)
+returns-10 c =
+    let pre = c .before .before .before .before .before .before .before .pre in
+    let args = c .before .before .before .before .before .before .before .args in
+    ended _ _ _ _ _ (args .r) _ (c .before .before .i8 .given .1) (pre .3) (c .check-args .ensures _)
 
 same-length-9 : tie.Need-same-length-9
 same-length-9 c = search needs
@@ -186,7 +224,12 @@ same-length-10 c = search needs
 
 returns-11 : tie.Need-returns-11
 unfolding ownedRule mayDo plainRule
-returns-11 c = ended _ _ _ _ _ (c .before .before .before .before .before .before .before .before .before .before .before .before .args .r) _ (c .before .before .before .before .before .before .before .enum-told3 .given .1) (c .before .before .before .before .before .before .before .before .before .before .before .before .pre .3) (c .before .before .before .before .cons .ensures _)
+returns-11 c =
+    let pre = c .before .before .before .before .before .before .before .before .before .before .before .before .pre in
+    let args = c .before .before .before .before .before .before .before .before .before .before .before .before .args in
+    let enum-told3 = c .before .before .before .before .before .before .before .enum-told3 in
+    let cons = c .before .before .before .before .cons in
+    ended _ _ _ _ _ (args .r) _ (enum-told3 .given .1) (pre .3) (cons .ensures _)
 
 same-length-11 : tie.Need-same-length-11
 same-length-11 c = search needs
@@ -196,7 +239,11 @@ same-length-12 c = search needs
 
 returns-12 : tie.Need-returns-12
 unfolding ownedRule mayDo plainRule
-returns-12 c = ended _ _ _ _ _ (c .before .before .before .before .before .before .before .before .before .before .args .r) _ (c .before .before .before .before .before .enum-told4 .given .1) (c .before .before .before .before .before .before .before .before .before .before .pre .3) (c .before .before .car .ensures _)
+returns-12 c =
+    let pre = c .before .before .before .before .before .before .before .before .before .before .pre in
+    let args = c .before .before .before .before .before .before .before .before .before .before .args in
+    let enum-told4 = c .before .before .before .before .before .enum-told4 in
+    ended _ _ _ _ _ (args .r) _ (enum-told4 .given .1) (pre .3) (c .before .before .car .ensures _)
 
 same-length-13 : tie.Need-same-length-13
 same-length-13 c = search needs
@@ -206,42 +253,66 @@ same-length-14 c = search needs
 
 returns-13 : tie.Need-returns-13
 unfolding ownedRule mayDo plainRule
-returns-13 c = ended _ _ _ _ _ (c .before .before .before .before .before .before .before .before .before .before .args .r) _ (c .before .before .before .before .before .enum-told5 .given .1) (c .before .before .before .before .before .before .before .before .before .before .pre .3) (c .before .before .cdr .ensures _)
+returns-13 c =
+    let pre = c .before .before .before .before .before .before .before .before .before .before .pre in
+    let args = c .before .before .before .before .before .before .before .before .before .before .args in
+    let enum-told5 = c .before .before .before .before .before .enum-told5 in
+    ended _ _ _ _ _ (args .r) _ (enum-told5 .given .1) (pre .3) (c .before .before .cdr .ensures _)
 
 same-length-15 : tie.Need-same-length-15
 same-length-15 c = search needs
 
 returns-14 : tie.Need-returns-14
 unfolding ownedRule mayDo plainRule
-returns-14 c = ended _ _ _ _ _ (c .before .before .before .before .before .before .before .before .before .args .r) _ (c .before .before .before .before .enum-told6 .given .1) (c .before .before .before .before .before .before .before .before .before .pre .3) (c .before .before .eqv .ensures _ _)
+returns-14 c =
+    let pre = c .before .before .before .before .before .before .before .before .before .pre in
+    let args = c .before .before .before .before .before .before .before .before .before .args in
+    let enum-told6 = c .before .before .before .before .enum-told6 in
+    ended _ _ _ _ _ (args .r) _ (enum-told6 .given .1) (pre .3) (c .before .before .eqv .ensures _ _)
 
 same-length-16 : tie.Need-same-length-16
 same-length-16 c = search needs
 
 returns-15 : tie.Need-returns-15
 unfolding ownedRule mayDo plainRule
-returns-15 c = ended _ _ _ _ _ (c .before .before .before .before .before .before .before .before .before .args .r) _ (c .before .before .before .before .enum-told7 .given .1) (c .before .before .before .before .before .before .before .before .before .pre .3) (c .before .before .add .ensures _ _)
+returns-15 c =
+    let pre = c .before .before .before .before .before .before .before .before .before .pre in
+    let args = c .before .before .before .before .before .before .before .before .before .args in
+    let enum-told7 = c .before .before .before .before .enum-told7 in
+    ended _ _ _ _ _ (args .r) _ (enum-told7 .given .1) (pre .3) (c .before .before .add .ensures _ _)
 
 same-length-17 : tie.Need-same-length-17
 same-length-17 c = search needs
 
 returns-16 : tie.Need-returns-16
 unfolding ownedRule mayDo plainRule
-returns-16 c = ended _ _ _ _ _ (c .before .before .before .before .before .before .before .before .before .args .r) _ (c .before .before .before .before .enum-told8 .given .1) (c .before .before .before .before .before .before .before .before .before .pre .3) (c .before .before .sub .ensures _ _)
+returns-16 c =
+    let pre = c .before .before .before .before .before .before .before .before .before .pre in
+    let args = c .before .before .before .before .before .before .before .before .before .args in
+    let enum-told8 = c .before .before .before .before .enum-told8 in
+    ended _ _ _ _ _ (args .r) _ (enum-told8 .given .1) (pre .3) (c .before .before .sub .ensures _ _)
 
 same-length-18 : tie.Need-same-length-18
 same-length-18 c = search needs
 
 returns-17 : tie.Need-returns-17
 unfolding ownedRule mayDo plainRule
-returns-17 c = ended _ _ _ _ _ (c .before .before .before .before .before .before .before .before .before .args .r) _ (c .before .before .before .before .enum-told9 .given .1) (c .before .before .before .before .before .before .before .before .before .pre .3) (c .before .before .less .ensures _ _)
+returns-17 c =
+    let pre = c .before .before .before .before .before .before .before .before .before .pre in
+    let args = c .before .before .before .before .before .before .before .before .before .args in
+    let enum-told9 = c .before .before .before .before .enum-told9 in
+    ended _ _ _ _ _ (args .r) _ (enum-told9 .given .1) (pre .3) (c .before .before .less .ensures _ _)
 
 same-length-19 : tie.Need-same-length-19
 same-length-19 c = search needs
 
 returns-18 : tie.Need-returns-18
 unfolding ownedRule mayDo plainRule
-returns-18 c = ended _ _ _ _ _ (c .before .before .before .before .before .before .before .before .before .args .r) _ (c .before .before .before .before .enum-told10 .given .1) (c .before .before .before .before .before .before .before .before .before .pre .3) (c .before .before .floor-div .ensures _ _)
+returns-18 c =
+    let pre = c .before .before .before .before .before .before .before .before .before .pre in
+    let args = c .before .before .before .before .before .before .before .before .before .args in
+    let enum-told10 = c .before .before .before .before .enum-told10 in
+    ended _ _ _ _ _ (args .r) _ (enum-told10 .given .1) (pre .3) (c .before .before .floor-div .ensures _ _)
 
 pub plain-rule-spec : {M : Type 1} → statement M
 plain-rule-spec =

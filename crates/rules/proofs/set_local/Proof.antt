@@ -34,7 +34,11 @@ same-length-2 c = search needs
 
 returns-2 : tie.Need-returns-2
 unfolding told setLocalRule
-returns-2 c = λ g s. rw (found-cell _ _ _ (sym (c .before .before .before .before .before .before .before .before .find-local .ensures) ∙ c .before .before .before .before .before .before .l .given .1), c .before .before .before .put .ensures, c .valued .ensures)
+returns-2 c =
+    let find-local = c .before .before .before .before .before .before .before .before .find-local in
+    let l = c .before .before .before .before .before .before .l in
+    let put = c .before .before .before .put in
+    λ g s. rw (found-cell _ _ _ (sym (find-local .ensures) ∙ l .given .1), put .ensures, c .valued .ensures)
 
 pub set-local-spec : {M : Type 1} → statement M
 set-local-spec =

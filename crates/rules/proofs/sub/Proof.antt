@@ -18,7 +18,9 @@ difference-requires : tie.Need-difference-requires
 difference-requires c κs = rw (c .before .before .a .given .1) at (c .before .before .before .before .two-integers .ensures .1)
 
 integer-requires : tie.Need-integer-requires
-integer-requires c κs = (c .before .before .before .before .before .before .before .before .pre .0, c .before .before .before .before .before .before .before .before .pre .1, fits-of _ _ (c .difference .ensures))
+integer-requires c κs =
+    let pre = c .before .before .before .before .before .before .before .before .pre in
+    (pre .0, pre .1, fits-of _ _ (c .difference .ensures))
 
 enum-known-n : tie.Need-enum-known-n
 enum-known-n c = search needs
@@ -28,14 +30,24 @@ same-length c = search needs
 
 returns : tie.Need-returns
 unfolding subRule
-returns c = λ g t. c .before .before .integer .ensures g t ∙ ap (told (mem g (now (c .before .before .before .before .before .before .before .before .before .before .before .args .stack)) t)) (integer-of _ _ _ _ (c .before .before .before .difference .ensures) ∙ two-are subtracted (mem g (now (c .before .before .before .before .before .before .before .before .before .before .before .args .stack)) t) (c .before .before .before .before .before .before .before .before .before .before .before .args .r) _ (c .before .before .before .before .before .before .before .before .two-integers .ensures .0 g t) _ _ (c .before .before .before .before .before .before .a .given .1))
+returns c =
+    let args = c .before .before .before .before .before .before .before .before .before .before .before .args in
+    let two-integers = c .before .before .before .before .before .before .before .before .two-integers in
+    let a = c .before .before .before .before .before .before .a in
+    let difference = c .before .before .before .difference in
+    λ g t. c .before .before .integer .ensures g t ∙ ap (told (mem g (now (args .stack)) t))
+    (integer-of _ _ _ _ (difference .ensures) ∙ two-are subtracted (mem g (now (args .stack)) t) (args .r) _ (two-integers .ensures .0 g t) _ _ (a .given .1))
 
 same-length-2 : tie.Need-same-length-2
 same-length-2 c = search needs
 
 returns-2 : tie.Need-returns-2
 unfolding told subRule
-returns-2 c = λ g t. ap (told (mem g (now (c .before .before .before .before .before .before .args .stack)) t)) (two-wrong subtracted (mem g (now (c .before .before .before .before .before .before .args .stack)) t) (c .before .before .before .before .before .before .args .r) _ (c .before .before .before .two-integers .ensures .0 g t) _ (c .before .n .given .1))
+returns-2 c =
+    let args = c .before .before .before .before .before .before .args in
+    let two-integers = c .before .before .before .two-integers in
+    λ g t. ap (told (mem g (now (args .stack)) t))
+    (two-wrong subtracted (mem g (now (args .stack)) t) (args .r) _ (two-integers .ensures .0 g t) _ (c .before .n .given .1))
 
 pub sub-spec : {M : Type 1} → statement M
 sub-spec =

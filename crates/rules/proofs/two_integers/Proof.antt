@@ -33,13 +33,23 @@ tag-of-requires : tie.Need-tag-of-requires
 tag-of-requires c κs = search needs
 
 returns-2 : tie.Need-returns-2
-returns-2 c = (λ g t. operands-left (mem g (now (c .before .before .before .before .before .before .args .stack)) t) (c .before .before .before .before .before .before .args .r) (c .before .before .before .before .if1 .left) (λ k. c .if2 .taken (c .before .tag-of .ensures ∙ k)), tt)
+returns-2 c =
+    let args = c .before .before .before .before .before .before .args in
+    let if1 = c .before .before .before .before .if1 in
+    (λ g t. operands-left (mem g (now (args .stack)) t) (args .r) (if1 .left) (λ k. c .if2 .taken (c .before .tag-of .ensures ∙ k)), tt)
 
 tag-of-requires-2 : tie.Need-tag-of-requires-2
 tag-of-requires-2 c κs = search needs
 
 returns-3 : tie.Need-returns-3
-returns-3 c = (λ g t. operands-right (mem g (now (c .before .before .before .before .before .before .before .before .args .stack)) t) (c .before .before .before .before .before .before .before .before .args .r) (c .before .before .before .before .before .before .if1 .left) (sym (c .before .before .before .tag-of .ensures) ∙ c .before .before .if2 .left) (λ k. c .if3 .taken (c .before .tag-of2 .ensures ∙ k)), tt)
+returns-3 c =
+    let args = c .before .before .before .before .before .before .before .before .args in
+    let if1 = c .before .before .before .before .before .before .if1 in
+    let tag-of = c .before .before .before .tag-of in (
+      λ g t. operands-right (mem g (now (args .stack)) t) (args .r) (if1 .left) (sym (tag-of .ensures) ∙ c .before .before .if2 .left)
+          (λ k. c .if3 .taken (c .before .tag-of2 .ensures ∙ k)),
+      tt,
+    )
 
 int-of-requires : tie.Need-int-of-requires
 int-of-requires c κs = search needs
@@ -48,7 +58,18 @@ int-of-requires-2 : tie.Need-int-of-requires-2
 int-of-requires-2 c κs = search needs
 
 returns-4 : tie.Need-returns-4
-returns-4 c = (λ g t. rw (c .before .int-of .ensures, c .int-of2 .ensures) (operands-two (mem g (now (c .before .before .before .before .before .before .before .before .before .before .args .stack)) t) (c .before .before .before .before .before .before .before .before .before .before .args .r) (c .before .before .before .before .before .before .before .before .if1 .left) (sym (c .before .before .before .before .before .tag-of .ensures) ∙ c .before .before .before .before .if2 .left) (sym (c .before .before .before .tag-of2 .ensures) ∙ c .before .before .if3 .left)), (omega (arith, c .before .int-of .ensures), omega (arith, c .int-of2 .ensures)))
+returns-4 c =
+    let args = c .before .before .before .before .before .before .before .before .before .before .args in
+    let if1 = c .before .before .before .before .before .before .before .before .if1 in
+    let tag-of = c .before .before .before .before .before .tag-of in
+    let if2 = c .before .before .before .before .if2 in
+    let tag-of2 = c .before .before .before .tag-of2 in
+    let int-of = c .before .int-of in (
+      λ g t. rw (int-of .ensures, c .int-of2 .ensures)
+          (operands-two (mem g (now (args .stack)) t) (args .r) (if1 .left) (sym (tag-of .ensures) ∙ if2 .left)
+          (sym (tag-of2 .ensures) ∙ c .before .before .if3 .left)),
+      (omega (arith, int-of .ensures), omega (arith, c .int-of2 .ensures)),
+    )
 
 pub two-integers-spec : {M : Type 1} → statement M
 two-integers-spec =

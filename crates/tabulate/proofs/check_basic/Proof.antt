@@ -19,8 +19,12 @@ enum-known-count c = search needs
 
 within-limits-requires : tie.Need-within-limits-requires
 within-limits-requires c κs =
-    let k = list-in _ _ (c .before .before .before .before .before .before .end .given .1) (c .before .before .before .before .before .before .before .before .read-basic .ensures) in
-    (k .1, c .before .before .before .before .before .before .before .before .before .before .before .pre, judged-in _ _ (c .before .before .before .before .before .before .end .given .1) (c .before .before .before .before .before .before .before .before .read-basic .ensures) _ _ (c .before .before .count .given .1) (c .before .before .before .before .judge-lists .ensures))
+    let pre = c .before .before .before .before .before .before .before .before .before .before .before .pre in
+    let read-basic = c .before .before .before .before .before .before .before .before .read-basic in
+    let end = c .before .before .before .before .before .before .end in
+    let judge-lists = c .before .before .before .before .judge-lists in
+    let k = list-in _ _ (end .given .1) (read-basic .ensures) in
+    (k .1, pre, judged-in _ _ (end .given .1) (read-basic .ensures) _ _ (c .before .before .count .given .1) (judge-lists .ensures))
 
 enum-known-t : tie.Need-enum-known-t
 enum-known-t c = search needs
@@ -32,16 +36,26 @@ number-requires : tie.Need-number-requires
 number-requires c κs = search needs
 
 same-length : tie.Need-same-length
-same-length c = c .before .before .within-limits .ensures .1 ∙ sym (c .before .before .before .before .before .before .before .before .before .before .before .before .before .before .pre)
+same-length c =
+    let pre = c .before .before .before .before .before .before .before .before .before .before .before .before .before .before .pre in
+    c .before .before .within-limits .ensures .1 ∙ sym (pre)
 
 returns : tie.Need-returns
 returns c = c .before .before .within-limits .ensures
 
 returns-2 : tie.Need-returns-2
-returns-2 c = (not-closed _ _ (c .before .before .before .before .before .end .given .1) (c .before .before .before .before .before .before .before .read-basic .ensures) _ _ (c .before .t .given .1) (c .before .before .before .judge-lists .ensures), c .before .before .before .before .before .before .before .before .before .before .pre)
+returns-2 c =
+    let pre = c .before .before .before .before .before .before .before .before .before .before .pre in
+    let read-basic = c .before .before .before .before .before .before .before .read-basic in
+    let end = c .before .before .before .before .before .end in
+    let judge-lists = c .before .before .before .judge-lists in
+    (not-closed _ _ (end .given .1) (read-basic .ensures) _ _ (c .before .t .given .1) (judge-lists .ensures), pre)
 
 returns-3 : tie.Need-returns-3
-returns-3 c = (rw (c .number .ensures) (file-unread _ _ _ (c .before .before .no .given .1) (c .before .before .before .before .read-basic .ensures)), c .before .before .before .before .before .before .before .pre)
+returns-3 c =
+    let pre = c .before .before .before .before .before .before .before .pre in
+    let read-basic = c .before .before .before .before .read-basic in
+    (rw (c .number .ensures) (file-unread _ _ _ (c .before .before .no .given .1) (read-basic .ensures)), pre)
 
 pub check-basic-spec : {M : Type 1} → statement M
 check-basic-spec =

@@ -28,7 +28,11 @@ slot-bits-requires : tie.Need-slot-bits-requires Inv-loop μ-loop
 slot-bits-requires c κs = search needs
 
 add-bits : tie.Need-add-bits Inv-loop μ-loop
-add-bits c = let b = bits-bound _ _ (c .slot-bits .ensures) in omega (arith, c .before .before .before .loop .inv .2, b, c .before .before .loop-test .taken, c .before .before .before .before .before .pre .0, c .before .before .before .before .before .pre .1)
+add-bits c =
+    let pre = c .before .before .before .before .before .pre in
+    let loop = c .before .before .before .loop in
+    let b = bits-bound _ _ (c .slot-bits .ensures) in
+    omega (arith, loop .inv .2, b, c .before .before .loop-test .taken, pre .0, pre .1)
 
 add-i : tie.Need-add-i Inv-loop μ-loop
 add-i c = search needs
@@ -38,8 +42,15 @@ loop-less c = search needs
 
 loop-again : tie.Need-loop-again Inv-loop μ-loop
 loop-again c =
-    let k = c .before .before .before .loop .inv in let b = bits-bound _ _ (c .slot-bits .ensures) in
-    (omega arith, bits-on (c .before .before .before .before .before .args .table .now) _ _ _ (k .1) (omega (arith, c .before .before .loop-test .taken, c .before .before .before .before .before .pre .0)) (c .slot-bits .ensures), omega (arith, k .2, b))
+    let pre = c .before .before .before .before .before .pre in
+    let args = c .before .before .before .before .before .args in
+    let loop = c .before .before .before .loop in
+    let k = loop .inv in
+    let b = bits-bound _ _ (c .slot-bits .ensures) in (
+      omega arith,
+      bits-on (args .table .now) _ _ _ (k .1) (omega (arith, c .before .before .loop-test .taken, pre .0)) (c .slot-bits .ensures),
+      omega (arith, k .2, b),
+    )
 
 returns : tie.Need-returns Inv-loop μ-loop
 returns c =

@@ -25,32 +25,53 @@ is-closed-requires : tie.Need-is-closed-requires Inv-loop μ-loop
 is-closed-requires c κs = search needs
 
 next-closure-requires : tie.Need-next-closure-requires Inv-loop μ-loop
-next-closure-requires c κs = (omega (arith, c .before .before .before .before .pre .0), from-walk (c .before .before .loop .inv (c .before .before .before .before .pre .1) .0))
+next-closure-requires c κs =
+    let pre = c .before .before .before .before .pre in
+    (omega (arith, pre .0), from-walk (c .before .before .loop .inv (pre .1) .0))
 
 enum-told : tie.Need-enum-told Inv-loop μ-loop
 enum-told c = search needs
 
 add-t8 : tie.Need-add-t8 Inv-loop μ-loop
-add-t8 c = let w = c .before .before .before .before .before .before .before .pre .1 in omega (arith, number-small (c .before .before .before .before .before .before .before .pre .0) w, from-low (c .before .before .before .before .before .loop .inv w .0) .0)
+add-t8 c =
+    let pre = c .before .before .before .before .before .before .before .pre in
+    let loop = c .before .before .before .before .before .loop in
+    let w = pre .1 in
+    omega (arith, number-small (pre .0) w, from-low (loop .inv w .0) .0)
 
 returns : tie.Need-returns Inv-loop μ-loop
 returns c =
-    λ w. let k = c .before .before .before .before .before .loop .inv w in
-    judge-end (w .list) (k .0) (k .1) _ (c .before .before .before .before .is-closed .ensures) (c .before .before .before .if1 .taken) (next-as (c .enum-told .given .1) (c .before .before .next-closure .ensures (from-walk (k .0)) _))
+    let loop = c .before .before .before .before .before .loop in
+    let is-closed = c .before .before .before .before .is-closed in
+    let if1 = c .before .before .before .if1 in
+    λ w. let k = loop .inv w in judge-end (w .list) (k .0) (k .1) _ (is-closed .ensures) (if1 .taken)
+    (next-as (c .enum-told .given .1) (c .before .before .next-closure .ensures (from-walk (k .0)) _))
 
 enum-known-list : tie.Need-enum-known-list Inv-loop μ-loop
 enum-known-list c = search needs
 
 add-own : tie.Need-add-own Inv-loop μ-loop
-add-own c = let w = c .before .before .before .before .before .before .before .before .pre .1 in omega (arith, number-small (c .before .before .before .before .before .before .before .before .pre .0) w, from-low (c .before .before .before .before .before .before .loop .inv w .0) .0)
+add-own c =
+    let pre = c .before .before .before .before .before .before .before .before .pre in
+    let loop = c .before .before .before .before .before .before .loop in
+    let w = pre .1 in
+    omega (arith, number-small (pre .0) w, from-low (loop .inv w .0) .0)
 
 loop-less : tie.Need-loop-less Inv-loop μ-loop
-loop-less c = let w = c .before .before .before .before .before .before .before .before .pre .1 in omega (arith, number-small (c .before .before .before .before .before .before .before .before .pre .0) w, from-low (c .before .before .before .before .before .before .loop .inv w .0) .0)
+loop-less c =
+    let pre = c .before .before .before .before .before .before .before .before .pre in
+    let loop = c .before .before .before .before .before .before .loop in
+    let w = pre .1 in
+    omega (arith, number-small (pre .0) w, from-low (loop .inv w .0) .0)
 
 loop-again : tie.Need-loop-again Inv-loop μ-loop
 loop-again c =
-    λ w. let k = c .before .before .before .before .before .before .loop .inv w in
-    judge-next (w .list) (k .0) (k .1) _ (c .before .before .before .before .before .is-closed .ensures) (c .before .before .before .before .if1 .taken) _ (next-as (c .before .list .given .1) (c .before .before .before .next-closure .ensures (from-walk (k .0)) _))
+    let loop = c .before .before .before .before .before .before .loop in
+    let is-closed = c .before .before .before .before .before .is-closed in
+    let if1 = c .before .before .before .before .if1 in
+    let next-closure = c .before .before .before .next-closure in
+    λ w. let k = loop .inv w in judge-next (w .list) (k .0) (k .1) _ (is-closed .ensures) (if1 .taken) _
+    (next-as (c .before .list .given .1) (next-closure .ensures (from-walk (k .0)) _))
 
 returns-2 : tie.Need-returns-2 Inv-loop μ-loop
 returns-2 c = λ w. let k = c .before .before .loop .inv w in judge-but (w .list) (k .0) (k .1) _ (c .before .is-closed .ensures) (c .if1 .left)

@@ -43,57 +43,94 @@ since-requires c κs =
 
 copy-bits-requires : tie.Need-copy-bits-requires Inv-loop μ-loop
 copy-bits-requires c κs =
-    let w = c .before .before .before .before .before .before .before .before .before .before .before .before .pre .4 in
-    let k = c .before .before .before .before .before .before .before .before .loop .inv .1 w in
-    let h = ltb-true _ _ (sym (c .before .before .before .before .before .before .before .before2 .ensures) ∙ c .before .before .before .before .before .before .if1 .taken) in
-    let f = code-copy-room k _ (step-as (c .before .before .before .after .given .1) (c .before .before .before .before .before .step-at .ensures _ _ h (k .stand))) in
+    let pre = c .before .before .before .before .before .before .before .before .before .before .before .before .pre in
+    let loop = c .before .before .before .before .before .before .before .before .loop in
+    let before2 = c .before .before .before .before .before .before .before .before2 in
+    let if1 = c .before .before .before .before .before .before .if1 in
+    let step-at = c .before .before .before .before .before .step-at in
+    let after = c .before .before .before .after in
+    let since = c .before .since in
+    let w = pre .4 in
+    let k = loop .inv .1 w in
+    let h = ltb-true _ _ (sym (before2 .ensures) ∙ if1 .taken) in
+    let f = code-copy-room k _ (step-as (after .given .1) (step-at .ensures _ _ h (k .stand))) in
     let g = list-facts _ 15 _ (w .own .read) in
-    (omega (arith, c .before .before .before .before .before .before .before .before .before .before .before .before .pre .0), omega (arith, c .before .before .before .before .before .before .before .before .before .before .before .before .pre .3, c .before .before .before .before .before .before .before .before .loop .inv .0), omega (arith, f .1, f .2, g .1, c .before .since .ensures), omega (arith, f .0, c .before .since .ensures))
+    (omega (arith, pre .0), omega (arith, pre .3, loop .inv .0), omega (arith, f .1, f .2, g .1, since .ensures), omega (arith, f .0, since .ensures))
 
 loop-less : tie.Need-loop-less Inv-loop μ-loop
 loop-less c =
-    let w = c .before .before .before .before .before .before .before .before .before .before .before .before .before .before .before .pre .4 in
-    let k = c .before .before .before .before .before .before .before .before .before .before .before .loop .inv .1 w in
-    let h = ltb-true _ _ (sym (c .before .before .before .before .before .before .before .before .before .before .before2 .ensures) ∙ c .before .before .before .before .before .before .before .before .before .if1 .taken) in
-    let f = code-copy-room k _ (step-as (c .before .before .before .before .before .before .after .given .1) (c .before .before .before .before .before .before .before .before .step-at .ensures _ _ h (k .stand))) in omega (arith, f .1, f .2)
+    let pre = c .before .before .before .before .before .before .before .before .before .before .before .before .before .before .before .pre in
+    let loop = c .before .before .before .before .before .before .before .before .before .before .before .loop in
+    let before2 = c .before .before .before .before .before .before .before .before .before .before .before2 in
+    let if1 = c .before .before .before .before .before .before .before .before .before .if1 in
+    let step-at = c .before .before .before .before .before .before .before .before .step-at in
+    let after = c .before .before .before .before .before .before .after in
+    let w = pre .4 in
+    let k = loop .inv .1 w in
+    let h = ltb-true _ _ (sym (before2 .ensures) ∙ if1 .taken) in
+    let f = code-copy-room k _ (step-as (after .given .1) (step-at .ensures _ _ h (k .stand))) in
+    omega (arith, f .1, f .2)
 
 loop-again : tie.Need-loop-again Inv-loop μ-loop
-loop-again c = (
-  (let w = c .before .before .before .before .before .before .before .before .before .before .before .before .before .before .before .pre .4 in let k = c .before .before .before .before .before .before .before .before .before .before .before .loop .inv .1 w in
-      let h = ltb-true _ _ (sym (c .before .before .before .before .before .before .before .before .before .before .before2 .ensures) ∙ c .before .before .before .before .before .before .before .before .before .if1 .taken) in
-      code-copy k _ _ (step-as (c .before .before .before .before .before .before .after .given .1) (c .before .before .before .before .before .before .before .before .step-at .ensures _ _ h (k .stand))) (c .before .before .before .before .since .ensures) (c .before .before .copy-bits .ensures .0) (c .before .before .copy-bits .ensures .1)) .put .long,
-  λ w. let k = c .before .before .before .before .before .before .before .before .before .before .before .loop .inv .1 w in
-      let h = ltb-true _ _ (sym (c .before .before .before .before .before .before .before .before .before .before .before2 .ensures) ∙ c .before .before .before .before .before .before .before .before .before .if1 .taken) in
-      code-copy k _ _ (step-as (c .before .before .before .before .before .before .after .given .1) (c .before .before .before .before .before .before .before .before .step-at .ensures _ _ h (k .stand))) (c .before .before .before .before .since .ensures) (c .before .before .copy-bits .ensures .0) (c .before .before .copy-bits .ensures .1),
-)
+loop-again c =
+    let pre = c .before .before .before .before .before .before .before .before .before .before .before .before .before .before .before .pre in
+    let loop = c .before .before .before .before .before .before .before .before .before .before .before .loop in
+    let before2 = c .before .before .before .before .before .before .before .before .before .before .before2 in
+    let if1 = c .before .before .before .before .before .before .before .before .before .if1 in
+    let step-at = c .before .before .before .before .before .before .before .before .step-at in
+    let after = c .before .before .before .before .before .before .after in
+    let since = c .before .before .before .before .since in
+    let copy-bits = c .before .before .copy-bits in (
+      (let w = pre .4 in let k = loop .inv .1 w in let h = ltb-true _ _ (sym (before2 .ensures) ∙ if1 .taken) in code-copy k _ _
+          (step-as (after .given .1) (step-at .ensures _ _ h (k .stand))) (since .ensures) (copy-bits .ensures .0) (copy-bits .ensures .1)) .put .long,
+      λ w. let k = loop .inv .1 w in let h = ltb-true _ _ (sym (before2 .ensures) ∙ if1 .taken) in code-copy k _ _
+          (step-as (after .given .1) (step-at .ensures _ _ h (k .stand))) (since .ensures) (copy-bits .ensures .0) (copy-bits .ensures .1),
+    )
 
 enum-known-code : tie.Need-enum-known-code Inv-loop μ-loop
 enum-known-code c = search needs
 
 put-index-requires : tie.Need-put-index-requires Inv-loop μ-loop
 put-index-requires c κs =
-    let w = c .before .before .before .before .before .before .before .before .before .before .before .pre .4 in
-    let k = c .before .before .before .before .before .before .before .loop .inv .1 w in
-    let h = ltb-true _ _ (sym (c .before .before .before .before .before .before .before2 .ensures) ∙ c .before .before .before .before .before .if1 .taken) in
-    let f = entry-ready k (w .held) _ _ _ (step-as (c .before .before .code .given .1) (c .before .before .before .before .step-at .ensures _ _ h (k .stand))) in
-    (omega (arith, c .before .before .before .before .before .before .before .before .before .before .before .pre .1, c .before .before .before .before .before .before .before .before .before .before .before .pre .2), c .before .before .before .before .before .before .before .before .before .before .before .pre .2, omega (arith, c .before .before .before .before .before .before .before .before .before .before .before .pre .3, c .before .before .before .before .before .before .before .loop .inv .0), f .0, f .1, f .2)
+    let pre = c .before .before .before .before .before .before .before .before .before .before .before .pre in
+    let loop = c .before .before .before .before .before .before .before .loop in
+    let before2 = c .before .before .before .before .before .before .before2 in
+    let if1 = c .before .before .before .before .before .if1 in
+    let step-at = c .before .before .before .before .step-at in
+    let w = pre .4 in
+    let k = loop .inv .1 w in
+    let h = ltb-true _ _ (sym (before2 .ensures) ∙ if1 .taken) in
+    let f = entry-ready k (w .held) _ _ _ (step-as (c .before .before .code .given .1) (step-at .ensures _ _ h (k .stand))) in
+    (omega (arith, pre .1, pre .2), pre .2, omega (arith, pre .3, loop .inv .0), f .0, f .1, f .2)
 
 loop-less-2 : tie.Need-loop-less-2 Inv-loop μ-loop
 loop-less-2 c =
-    let w = c .before .before .before .before .before .before .before .before .before .before .before .before .before .before .pre .4 in
-    let k = c .before .before .before .before .before .before .before .before .before .before .loop .inv .1 w in
-    let h = ltb-true _ _ (sym (c .before .before .before .before .before .before .before .before .before .before2 .ensures) ∙ c .before .before .before .before .before .before .before .before .if1 .taken) in
-    let f = entry-far _ _ _ (step-as (c .before .before .before .before .before .code .given .1) (c .before .before .before .before .before .before .before .step-at .ensures _ _ h (k .stand))) in omega (arith, f .0, f .1)
+    let pre = c .before .before .before .before .before .before .before .before .before .before .before .before .before .before .pre in
+    let loop = c .before .before .before .before .before .before .before .before .before .before .loop in
+    let before2 = c .before .before .before .before .before .before .before .before .before .before2 in
+    let if1 = c .before .before .before .before .before .before .before .before .if1 in
+    let step-at = c .before .before .before .before .before .before .before .step-at in
+    let code = c .before .before .before .before .before .code in
+    let w = pre .4 in
+    let k = loop .inv .1 w in
+    let h = ltb-true _ _ (sym (before2 .ensures) ∙ if1 .taken) in
+    let f = entry-far _ _ _ (step-as (code .given .1) (step-at .ensures _ _ h (k .stand))) in
+    omega (arith, f .0, f .1)
 
 loop-again-2 : tie.Need-loop-again-2 Inv-loop μ-loop
-loop-again-2 c = (
-  (let w = c .before .before .before .before .before .before .before .before .before .before .before .before .before .before .pre .4 in let k = c .before .before .before .before .before .before .before .before .before .before .loop .inv .1 w in
-      let h = ltb-true _ _ (sym (c .before .before .before .before .before .before .before .before .before .before2 .ensures) ∙ c .before .before .before .before .before .before .before .before .if1 .taken) in
-      code-entry k (w .held) _ _ _ (step-as (c .before .before .before .before .before .code .given .1) (c .before .before .before .before .before .before .before .step-at .ensures _ _ h (k .stand))) (c .before .before .put-index .ensures)) .put .long,
-  λ w. let k = c .before .before .before .before .before .before .before .before .before .before .loop .inv .1 w in
-      let h = ltb-true _ _ (sym (c .before .before .before .before .before .before .before .before .before .before2 .ensures) ∙ c .before .before .before .before .before .before .before .before .if1 .taken) in
-      code-entry k (w .held) _ _ _ (step-as (c .before .before .before .before .before .code .given .1) (c .before .before .before .before .before .before .before .step-at .ensures _ _ h (k .stand))) (c .before .before .put-index .ensures),
-)
+loop-again-2 c =
+    let pre = c .before .before .before .before .before .before .before .before .before .before .before .before .before .before .pre in
+    let loop = c .before .before .before .before .before .before .before .before .before .before .loop in
+    let before2 = c .before .before .before .before .before .before .before .before .before .before2 in
+    let if1 = c .before .before .before .before .before .before .before .before .if1 in
+    let step-at = c .before .before .before .before .before .before .before .step-at in
+    let code = c .before .before .before .before .before .code in
+    let put-index = c .before .before .put-index in (
+      (let w = pre .4 in let k = loop .inv .1 w in let h = ltb-true _ _ (sym (before2 .ensures) ∙ if1 .taken) in code-entry k (w .held) _ _ _
+          (step-as (code .given .1) (step-at .ensures _ _ h (k .stand))) (put-index .ensures)) .put .long,
+      λ w. let k = loop .inv .1 w in let h = ltb-true _ _ (sym (before2 .ensures) ∙ if1 .taken) in code-entry k (w .held) _ _ _
+          (step-as (code .given .1) (step-at .ensures _ _ h (k .stand))) (put-index .ensures),
+    )
 
 enum-known-list : tie.Need-enum-known-list Inv-loop μ-loop
 enum-known-list c = search needs
@@ -112,56 +149,117 @@ same-length c = c .before .before .before .before .before .before .before .befor
 
 returns : tie.Need-returns Inv-loop μ-loop
 returns c =
-    λ w. let k = c .before .before .before .before .before .before .before .before .before .loop .inv .1 w in
-    let h = ltb-true _ _ (sym (c .before .before .before .before .before .before .before .before .before2 .ensures) ∙ c .before .before .before .before .before .before .before .if1 .taken) in
-    closure-read _ _ _ (step-as (c .before .before .before .before .list .given .1) (c .before .before .before .before .before .before .step-at .ensures _ _ h (k .stand))) (c .enum-told .given .1) (c .before .before .read-list .ensures)
+    let loop = c .before .before .before .before .before .before .before .before .before .loop in
+    let before2 = c .before .before .before .before .before .before .before .before .before2 in
+    let if1 = c .before .before .before .before .before .before .before .if1 in
+    let step-at = c .before .before .before .before .before .before .step-at in
+    let list = c .before .before .before .before .list in
+    λ w. let k = loop .inv .1 w in let h = ltb-true _ _ (sym (before2 .ensures) ∙ if1 .taken) in closure-read _ _ _
+    (step-as (list .given .1) (step-at .ensures _ _ h (k .stand))) (c .enum-told .given .1) (c .before .before .read-list .ensures)
 
 add-put-index : tie.Need-add-put-index Inv-loop μ-loop
 add-put-index c =
-    let w = c .before .before .before .before .before .before .before .before .before .before .before .before .before .before .pre .4 in
-    let k = c .before .before .before .before .before .before .before .before .before .before .loop .inv .1 w in
-    let h = ltb-true _ _ (sym (c .before .before .before .before .before .before .before .before .before .before2 .ensures) ∙ c .before .before .before .before .before .before .before .before .if1 .taken) in
-    let f = closure-ready k (w .held) _ (record { 0 = 0 }) (record { class = 0; inside = 0 }) (w .own .few) _ refl (step-as (c .before .before .before .before .before .list .given .1) (c .before .before .before .before .before .before .before .step-at .ensures _ _ h (k .stand))) in omega (arith, f .2)
+    let pre = c .before .before .before .before .before .before .before .before .before .before .before .before .before .before .pre in
+    let loop = c .before .before .before .before .before .before .before .before .before .before .loop in
+    let before2 = c .before .before .before .before .before .before .before .before .before .before2 in
+    let if1 = c .before .before .before .before .before .before .before .before .if1 in
+    let step-at = c .before .before .before .before .before .before .before .step-at in
+    let list = c .before .before .before .before .before .list in
+    let w = pre .4 in
+    let k = loop .inv .1 w in
+    let h = ltb-true _ _ (sym (before2 .ensures) ∙ if1 .taken) in
+    let f = closure-ready k (w .held) _ (record { 0 = 0 }) (record { class = 0; inside = 0 }) (w .own .few) _ refl
+    (step-as (list .given .1) (step-at .ensures _ _ h (k .stand))) in
+    omega (arith, f .2)
 
 put-index-requires-2 : tie.Need-put-index-requires-2 Inv-loop μ-loop
 put-index-requires-2 c κs =
-    let w = c .before .before .before .before .before .before .before .before .before .before .before .before .before .before .before .pre .4 in
-    let k = c .before .before .before .before .before .before .before .before .before .before .before .loop .inv .1 w in
-    let h = ltb-true _ _ (sym (c .before .before .before .before .before .before .before .before .before .before .before2 .ensures) ∙ c .before .before .before .before .before .before .before .before .before .if1 .taken) in
-    let f = closure-ready k (w .held) _ (record { 0 = 0 }) (record { class = 0; inside = 0 }) (w .own .few) _ refl (step-as (c .before .before .before .before .before .before .list .given .1) (c .before .before .before .before .before .before .before .before .step-at .ensures _ _ h (k .stand))) in
-    (omega (arith, c .before .before .before .before .before .before .before .before .before .before .before .before .before .before .before .pre .1, c .before .before .before .before .before .before .before .before .before .before .before .before .before .before .before .pre .2), c .before .before .before .before .before .before .before .before .before .before .before .before .before .before .before .pre .2, omega (arith, c .before .before .before .before .before .before .before .before .before .before .before .before .before .before .before .pre .3, c .before .before .before .before .before .before .before .before .before .before .before .loop .inv .0), f .0, omega arith, f .1)
+    let pre = c .before .before .before .before .before .before .before .before .before .before .before .before .before .before .before .pre in
+    let loop = c .before .before .before .before .before .before .before .before .before .before .before .loop in
+    let before2 = c .before .before .before .before .before .before .before .before .before .before .before2 in
+    let if1 = c .before .before .before .before .before .before .before .before .before .if1 in
+    let step-at = c .before .before .before .before .before .before .before .before .step-at in
+    let list = c .before .before .before .before .before .before .list in
+    let w = pre .4 in
+    let k = loop .inv .1 w in
+    let h = ltb-true _ _ (sym (before2 .ensures) ∙ if1 .taken) in
+    let f = closure-ready k (w .held) _ (record { 0 = 0 }) (record { class = 0; inside = 0 }) (w .own .few) _ refl
+    (step-as (list .given .1) (step-at .ensures _ _ h (k .stand))) in
+    (omega (arith, pre .1, pre .2), pre .2, omega (arith, pre .3, loop .inv .0), f .0, omega arith, f .1)
 
 add-next : tie.Need-add-next Inv-loop μ-loop
 add-next c =
-    let w = c .before .before .before .before .before .before .before .before .before .before .before .before .before .before .before .before .before .before .pre .4 in
-    let k = c .before .before .before .before .before .before .before .before .before .before .before .before .before .before .loop .inv .1 w in
-    let h = ltb-true _ _ (sym (c .before .before .before .before .before .before .before .before .before .before .before .before .before .before2 .ensures) ∙ c .before .before .before .before .before .before .before .before .before .before .before .before .if1 .taken) in
-    let f = closure-ready k (w .held) _ (record { 0 = 0 }) (record { class = 0; inside = 0 }) (w .own .few) _ refl (step-as (c .before .before .before .before .before .before .before .before .before .list .given .1) (c .before .before .before .before .before .before .before .before .before .before .before .step-at .ensures _ _ h (k .stand))) in omega (arith, f .2)
+    let pre = c .before .before .before .before .before .before .before .before .before .before .before .before .before .before .before .before .before
+    .before .pre in
+    let loop = c .before .before .before .before .before .before .before .before .before .before .before .before .before .before .loop in
+    let before2 = c .before .before .before .before .before .before .before .before .before .before .before .before .before .before2 in
+    let if1 = c .before .before .before .before .before .before .before .before .before .before .before .before .if1 in
+    let step-at = c .before .before .before .before .before .before .before .before .before .before .before .step-at in
+    let list = c .before .before .before .before .before .before .before .before .before .list in
+    let w = pre .4 in
+    let k = loop .inv .1 w in
+    let h = ltb-true _ _ (sym (before2 .ensures) ∙ if1 .taken) in
+    let f = closure-ready k (w .held) _ (record { 0 = 0 }) (record { class = 0; inside = 0 }) (w .own .few) _ refl
+    (step-as (list .given .1) (step-at .ensures _ _ h (k .stand))) in
+    omega (arith, f .2)
 
 add-next-2 : tie.Need-add-next-2 Inv-loop μ-loop
 add-next-2 c =
-    let w = c .before .before .before .before .before .before .before .before .before .before .before .before .before .before .before .before .before .before .before .pre .4 in
-    let k = c .before .before .before .before .before .before .before .before .before .before .before .before .before .before .before .loop .inv .1 w in
-    let h = ltb-true _ _ (sym (c .before .before .before .before .before .before .before .before .before .before .before .before .before .before .before2 .ensures) ∙ c .before .before .before .before .before .before .before .before .before .before .before .before .before .if1 .taken) in
-    let f = closure-ready k (w .held) _ (record { 0 = 0 }) (record { class = 0; inside = 0 }) (w .own .few) _ refl (step-as (c .before .before .before .before .before .before .before .before .before .before .list .given .1) (c .before .before .before .before .before .before .before .before .before .before .before .before .step-at .ensures _ _ h (k .stand))) in
-    let g = closure-past k (w .held) _ _ _ (w .own .few) _ refl (list-is _ _ _ _ _ (sym (c .before .before .before .before .before .before .after2 .given .1) ∙ c .before .before .before .before .before .before .before .before .read-list .ensures)) (step-as (c .before .before .before .before .before .before .before .before .before .before .list .given .1) (c .before .before .before .before .before .before .before .before .before .before .before .before .step-at .ensures _ _ h (k .stand))) in omega (arith, f .2, g .2)
+    let pre = c .before .before .before .before .before .before .before .before .before .before .before .before .before .before .before .before .before
+    .before .before .pre in
+    let loop = c .before .before .before .before .before .before .before .before .before .before .before .before .before .before .before .loop in
+    let before2 = c .before .before .before .before .before .before .before .before .before .before .before .before .before .before .before2 in
+    let if1 = c .before .before .before .before .before .before .before .before .before .before .before .before .before .if1 in
+    let step-at = c .before .before .before .before .before .before .before .before .before .before .before .before .step-at in
+    let list = c .before .before .before .before .before .before .before .before .before .before .list in
+    let read-list = c .before .before .before .before .before .before .before .before .read-list in
+    let after2 = c .before .before .before .before .before .before .after2 in
+    let w = pre .4 in
+    let k = loop .inv .1 w in
+    let h = ltb-true _ _ (sym (before2 .ensures) ∙ if1 .taken) in
+    let f = closure-ready k (w .held) _ (record { 0 = 0 }) (record { class = 0; inside = 0 }) (w .own .few) _ refl
+    (step-as (list .given .1) (step-at .ensures _ _ h (k .stand))) in
+    let g = closure-past k (w .held) _ _ _ (w .own .few) _ refl (list-is _ _ _ _ _ (sym (after2 .given .1) ∙ read-list .ensures))
+    (step-as (list .given .1) (step-at .ensures _ _ h (k .stand))) in
+    omega (arith, f .2, g .2)
 
 loop-less-3 : tie.Need-loop-less-3 Inv-loop μ-loop
 loop-less-3 c =
-    let w = c .before .before .before .before .before .before .before .before .before .before .before .before .before .before .before .before .before .before .before .pre .4 in
-    let k = c .before .before .before .before .before .before .before .before .before .before .before .before .before .before .before .loop .inv .1 w in
-    let h = ltb-true _ _ (sym (c .before .before .before .before .before .before .before .before .before .before .before .before .before .before .before2 .ensures) ∙ c .before .before .before .before .before .before .before .before .before .before .before .before .before .if1 .taken) in
-    let g = closure-past k (w .held) _ _ _ (w .own .few) _ refl (list-is _ _ _ _ _ (sym (c .before .before .before .before .before .before .after2 .given .1) ∙ c .before .before .before .before .before .before .before .before .read-list .ensures)) (step-as (c .before .before .before .before .before .before .before .before .before .before .list .given .1) (c .before .before .before .before .before .before .before .before .before .before .before .before .step-at .ensures _ _ h (k .stand))) in omega (arith, g .0, g .1)
+    let pre = c .before .before .before .before .before .before .before .before .before .before .before .before .before .before .before .before .before
+    .before .before .pre in
+    let loop = c .before .before .before .before .before .before .before .before .before .before .before .before .before .before .before .loop in
+    let before2 = c .before .before .before .before .before .before .before .before .before .before .before .before .before .before .before2 in
+    let if1 = c .before .before .before .before .before .before .before .before .before .before .before .before .before .if1 in
+    let step-at = c .before .before .before .before .before .before .before .before .before .before .before .before .step-at in
+    let list = c .before .before .before .before .before .before .before .before .before .before .list in
+    let read-list = c .before .before .before .before .before .before .before .before .read-list in
+    let after2 = c .before .before .before .before .before .before .after2 in
+    let w = pre .4 in
+    let k = loop .inv .1 w in
+    let h = ltb-true _ _ (sym (before2 .ensures) ∙ if1 .taken) in
+    let g = closure-past k (w .held) _ _ _ (w .own .few) _ refl (list-is _ _ _ _ _ (sym (after2 .given .1) ∙ read-list .ensures))
+    (step-as (list .given .1) (step-at .ensures _ _ h (k .stand))) in
+    omega (arith, g .0, g .1)
 
 loop-again-3 : tie.Need-loop-again-3 Inv-loop μ-loop
-loop-again-3 c = (
-  (let w = c .before .before .before .before .before .before .before .before .before .before .before .before .before .before .before .before .before .before .before .pre .4 in let k = c .before .before .before .before .before .before .before .before .before .before .before .before .before .before .before .loop .inv .1 w in
-      let h = ltb-true _ _ (sym (c .before .before .before .before .before .before .before .before .before .before .before .before .before .before .before2 .ensures) ∙ c .before .before .before .before .before .before .before .before .before .before .before .before .before .if1 .taken) in
-      code-closure k (w .held) _ _ _ (w .own .few) _ refl _ (list-is _ _ _ _ _ (sym (c .before .before .before .before .before .before .after2 .given .1) ∙ c .before .before .before .before .before .before .before .before .read-list .ensures)) (step-as (c .before .before .before .before .before .before .before .before .before .before .list .given .1) (c .before .before .before .before .before .before .before .before .before .before .before .before .step-at .ensures _ _ h (k .stand))) (c .before .before .before .put-index2 .ensures) refl) .put .long,
-  λ w. let k = c .before .before .before .before .before .before .before .before .before .before .before .before .before .before .before .loop .inv .1 w in
-      let h = ltb-true _ _ (sym (c .before .before .before .before .before .before .before .before .before .before .before .before .before .before .before2 .ensures) ∙ c .before .before .before .before .before .before .before .before .before .before .before .before .before .if1 .taken) in
-      code-closure k (w .held) _ _ _ (w .own .few) _ refl _ (list-is _ _ _ _ _ (sym (c .before .before .before .before .before .before .after2 .given .1) ∙ c .before .before .before .before .before .before .before .before .read-list .ensures)) (step-as (c .before .before .before .before .before .before .before .before .before .before .list .given .1) (c .before .before .before .before .before .before .before .before .before .before .before .before .step-at .ensures _ _ h (k .stand))) (c .before .before .before .put-index2 .ensures) refl,
-)
+loop-again-3 c =
+    let pre = c .before .before .before .before .before .before .before .before .before .before .before .before .before .before .before .before .before
+    .before .before .pre in
+    let loop = c .before .before .before .before .before .before .before .before .before .before .before .before .before .before .before .loop in
+    let before2 = c .before .before .before .before .before .before .before .before .before .before .before .before .before .before .before2 in
+    let if1 = c .before .before .before .before .before .before .before .before .before .before .before .before .before .if1 in
+    let step-at = c .before .before .before .before .before .before .before .before .before .before .before .before .step-at in
+    let list = c .before .before .before .before .before .before .before .before .before .before .list in
+    let read-list = c .before .before .before .before .before .before .before .before .read-list in
+    let after2 = c .before .before .before .before .before .before .after2 in
+    let put-index2 = c .before .before .before .put-index2 in (
+      (let w = pre .4 in let k = loop .inv .1 w in let h = ltb-true _ _ (sym (before2 .ensures) ∙ if1 .taken) in code-closure k (w .held) _ _ _ (w .own .few)
+          _ refl _ (list-is _ _ _ _ _ (sym (after2 .given .1) ∙ read-list .ensures)) (step-as (list .given .1) (step-at .ensures _ _ h (k .stand)))
+          (put-index2 .ensures) refl) .put .long,
+      λ w. let k = loop .inv .1 w in let h = ltb-true _ _ (sym (before2 .ensures) ∙ if1 .taken) in code-closure k
+          (w .held) _ _ _ (w .own .few) _ refl _ (list-is _ _ _ _ _ (sym (after2 .given .1) ∙ read-list .ensures))
+          (step-as (list .given .1) (step-at .ensures _ _ h (k .stand))) (put-index2 .ensures) refl,
+    )
 
 enum-told-2 : tie.Need-enum-told-2 Inv-loop μ-loop
 enum-told-2 c = search needs

@@ -26,10 +26,13 @@ shared-slice-read-put-entry c = search needs
 
 put-entry-requires : tie.Need-put-entry-requires Inv-loop μ-loop
 put-entry-requires c κs =
-    let k = c .before .before .before .loop .inv .2 (c .before .before .before .before .before .before .pre .3) in (
-      omega (arith, c .before .before .before .loop .inv .0, c .before .before .before .before .before .before .pre .2),
-      slot-next k (c .before .before .loop-test .taken) (omega (arith, c .before .before .before .before .before .before .pre .0, c .before .before .before .before .before .before .pre .1)),
-      listing-room k (c .before .before .loop-test .taken) (omega (arith, c .before .before .before .before .before .before .pre .0, c .before .before .before .before .before .before .pre .1)),
+    let pre = c .before .before .before .before .before .before .pre in
+    let loop = c .before .before .before .loop in
+    let loop-test = c .before .before .loop-test in
+    let k = loop .inv .2 (pre .3) in (
+      omega (arith, loop .inv .0, pre .2),
+      slot-next k (loop-test .taken) (omega (arith, pre .0, pre .1)),
+      listing-room k (loop-test .taken) (omega (arith, pre .0, pre .1)),
     )
 
 add-i : tie.Need-add-i Inv-loop μ-loop
@@ -39,11 +42,15 @@ loop-less : tie.Need-loop-less Inv-loop μ-loop
 loop-less c = search needs
 
 loop-again : tie.Need-loop-again Inv-loop μ-loop
-loop-again c = (
-  (listing-on (c .before .before .before .before .before .before .loop .inv .2 (c .before .before .before .before .before .before .before .before .before .pre .3)) (c .before .before .before .before .before .loop-test .taken) (omega (arith, c .before .before .before .before .before .before .before .before .before .pre .0, c .before .before .before .before .before .before .before .before .before .pre .1)) (c .before .before .put-entry .ensures)) .put .long,
-  omega (arith, c .before .before .before .before .before .loop-test .taken),
-  λ w. listing-on (c .before .before .before .before .before .before .loop .inv .2 w) (c .before .before .before .before .before .loop-test .taken) (omega (arith, c .before .before .before .before .before .before .before .before .before .pre .0, c .before .before .before .before .before .before .before .before .before .pre .1)) (c .before .before .put-entry .ensures),
-)
+loop-again c =
+    let pre = c .before .before .before .before .before .before .before .before .before .pre in
+    let loop = c .before .before .before .before .before .before .loop in
+    let loop-test = c .before .before .before .before .before .loop-test in
+    let put-entry = c .before .before .put-entry in (
+      (listing-on (loop .inv .2 (pre .3)) (loop-test .taken) (omega (arith, pre .0, pre .1)) (put-entry .ensures)) .put .long,
+      omega (arith, loop-test .taken),
+      λ w. listing-on (loop .inv .2 w) (loop-test .taken) (omega (arith, pre .0, pre .1)) (put-entry .ensures),
+    )
 
 same-length : tie.Need-same-length Inv-loop μ-loop
 same-length c = c .before .loop .inv .0

@@ -25,16 +25,26 @@ cast-put-field c = search needs
 
 put-field-requires-2 : tie.Need-put-field-requires-2
 put-field-requires-2 c κs =
-    let m = ap length (c .before .before .before .put-field .ensures .1) ∙ put-length _ _ _ in
-    (omega (arith, m, c .before .before .before .before .before .before .before .before .pre .2), omega arith, omega (arith, c .before .before .before .before .before .find .ensures, c .before .before .before .before .before .before .before .before .pre .3, c .before .before .before .before .before .before .before .before .pre .1), omega (arith, m, c .before .before .before .put-field .ensures .0, c .before .before .before .before .before .before .before .before .pre .5))
+    let pre = c .before .before .before .before .before .before .before .before .pre in
+    let find = c .before .before .before .before .before .find in
+    let put-field = c .before .before .before .put-field in
+    let m = ap length (put-field .ensures .1) ∙ put-length _ _ _ in
+    (omega (arith, m, pre .2), omega arith, omega (arith, find .ensures, pre .3, pre .1), omega (arith, m, put-field .ensures .0, pre .5))
 
 same-length : tie.Need-same-length
-same-length c = let m = ap length (c .before .before .before .before .before .before .put-field .ensures .1) ∙ put-length _ _ _ in ap length (c .before .before .put-field2 .ensures .1) ∙ put-length _ _ _ ∙ m
+same-length c =
+    let put-field = c .before .before .before .before .before .before .put-field in
+    let m = ap length (put-field .ensures .1) ∙ put-length _ _ _ in
+    ap length (c .before .before .put-field2 .ensures .1) ∙ put-length _ _ _ ∙ m
 
 returns : tie.Need-returns
 returns c =
-    put-code-index _ _ _ _ _ _ _ _ _ (omega (arith, c .before .before .before .before .before .before .before .before .find .ensures)) (c .before .before .before .before .before .before .before .before .before .before .before .pre .5) (c .before .before .before .before .before .before .put-field .ensures .0) (c .before .before .before .before .before .before .put-field .ensures .1)
-    (c .before .before .put-field2 .ensures .0) (c .before .before .put-field2 .ensures .1)
+    let pre = c .before .before .before .before .before .before .before .before .before .before .before .pre in
+    let find = c .before .before .before .before .before .before .before .before .find in
+    let put-field = c .before .before .before .before .before .before .put-field in
+    let put-field2 = c .before .before .put-field2 in
+    put-code-index _ _ _ _ _ _ _ _ _ (omega (arith, find .ensures)) (pre .5) (put-field .ensures .0) (put-field .ensures .1) (put-field2 .ensures .0)
+    (put-field2 .ensures .1)
 
 pub put-index-spec : {M : Type 1} → statement M
 put-index-spec =

@@ -39,46 +39,104 @@ same-length-2 : tie.Need-same-length-2 Inv-loop μ-loop
 same-length-2 c = c .before .before .before .loop .inv .1
 
 returns : tie.Need-returns Inv-loop μ-loop
-returns c = λ w. let k = c .before .before .before .loop .inv .2 w in let r = from-read (k .from) in told-none _ _ _ _ (c .enum-told .given .1) (c .before .before .read-list .ensures) _ _ (r .1)
+returns c =
+    let loop = c .before .before .before .loop in
+    λ w. let k = loop .inv .2 w in let r = from-read (k .from) in told-none _ _ _ _ (c .enum-told .given .1) (c .before .before .read-list .ensures) _ _ (r .1)
 
 add-put-template : tie.Need-add-put-template Inv-loop μ-loop
 add-put-template c = search needs
 
 put-template-requires : tie.Need-put-template-requires Inv-loop μ-loop
 put-template-requires c κs =
-    let w = c .before .before .before .before .before .before .before .before .before .before .pre .3 in
-    (c .before .before .before .before .before .before .before .before .before .before .pre .0, c .before .before .before .before .before .before .loop .inv .0, omega (arith, c .before .before .before .before .before .before .before .before .before .before .pre .2, c .before .before .before .before .before .before .loop .inv .1), template-in (c .before .before .before .before .before .before .loop .inv .2 w) _ (own-list (c .before .before .before .before .before .before .loop .inv .2 w .from) (w .few .few) _ _ (list-is _ _ _ _ _ (sym (c .before .before .before .past .given .1) ∙ c .before .before .before .before .before .read-list .ensures))) (own-list-is (c .before .before .before .before .before .before .loop .inv .2 w .from) (w .few .few) _ _ (list-is _ _ _ _ _ (sym (c .before .before .before .past .given .1) ∙ c .before .before .before .before .before .read-list .ensures))))
+    let pre = c .before .before .before .before .before .before .before .before .before .before .pre in
+    let loop = c .before .before .before .before .before .before .loop in
+    let read-list = c .before .before .before .before .before .read-list in
+    let past = c .before .before .before .past in
+    let w = pre .3 in (
+      pre .0,
+      loop .inv .0,
+      omega (arith, pre .2, loop .inv .1),
+      template-in (loop .inv .2 w) _ (own-list (loop .inv .2 w .from) (w .few .few) _ _ (list-is _ _ _ _ _ (sym (past .given .1) ∙ read-list .ensures)))
+          (own-list-is (loop .inv .2 w .from) (w .few .few) _ _ (list-is _ _ _ _ _ (sym (past .given .1) ∙ read-list .ensures))),
+    )
 
 next-closure-requires : tie.Need-next-closure-requires Inv-loop μ-loop
-next-closure-requires c κs = (omega (arith, c .before .before .before .before .before .before .before .before .before .before .before .before .before .before .before .pre .0), from-walk (c .before .before .before .before .before .before .before .before .before .before .before .loop .inv .2 (c .before .before .before .before .before .before .before .before .before .before .before .before .before .before .before .pre .3) .from))
+next-closure-requires c κs =
+    let pre = c .before .before .before .before .before .before .before .before .before .before .before .before .before .before .before .pre in
+    let loop = c .before .before .before .before .before .before .before .before .before .before .before .loop in
+    (omega (arith, pre .0), from-walk (loop .inv .2 (pre .3) .from))
 
 enum-told-2 : tie.Need-enum-told-2 Inv-loop μ-loop
 enum-told-2 c = search needs
 
 same-length-3 : tie.Need-same-length-3 Inv-loop μ-loop
-same-length-3 c = c .before .before .before .before .before .before .before .put-template .ensures .1 ∙ sym (c .before .before .before .before .before .before .before .before .before .before .before .before .before .before .before .before .before .before .pre .1)
+same-length-3 c =
+    let pre = c .before .before .before .before .before .before .before .before .before .before .before .before .before .before .before .before .before
+    .before .pre in
+    let put-template = c .before .before .before .before .before .before .before .put-template in
+    put-template .ensures .1 ∙ sym (pre .1)
 
 same-length-4 : tie.Need-same-length-4 Inv-loop μ-loop
-same-length-4 c = ap length ((one-put (c .before .before .before .before .before .before .before .before .before .before .before .before .before .before .loop .inv .2 (c .before .before .before .before .before .before .before .before .before .before .before .before .before .before .before .before .before .before .pre .3)) _ (own-list (c .before .before .before .before .before .before .before .before .before .before .before .before .before .before .loop .inv .2 (c .before .before .before .before .before .before .before .before .before .before .before .before .before .before .before .before .before .before .pre .3) .from) ((c .before .before .before .before .before .before .before .before .before .before .before .before .before .before .before .before .before .before .pre .3) .few .few) _ _ (list-is _ _ _ _ _ (sym (c .before .before .before .before .before .before .before .before .before .before .before .past .given .1) ∙ c .before .before .before .before .before .before .before .before .before .before .before .before .before .read-list .ensures))) (own-list-is (c .before .before .before .before .before .before .before .before .before .before .before .before .before .before .loop .inv .2 (c .before .before .before .before .before .before .before .before .before .before .before .before .before .before .before .before .before .before .pre .3) .from) ((c .before .before .before .before .before .before .before .before .before .before .before .before .before .before .before .before .before .before .pre .3) .few .few) _ _ (list-is _ _ _ _ _ (sym (c .before .before .before .before .before .before .before .before .before .before .before .past .given .1) ∙ c .before .before .before .before .before .before .before .before .before .before .before .before .before .read-list .ensures))) (c .before .before .before .before .before .before .before .put-template .ensures .0)) .is) ∙ put-length _ _ _ ∙ c .before .before .before .before .before .before .before .before .before .before .before .before .before .before .loop .inv .1
+same-length-4 c =
+    let pre = c .before .before .before .before .before .before .before .before .before .before .before .before .before .before .before .before .before
+    .before .pre in
+    let loop = c .before .before .before .before .before .before .before .before .before .before .before .before .before .before .loop in
+    let read-list = c .before .before .before .before .before .before .before .before .before .before .before .before .before .read-list in
+    let past = c .before .before .before .before .before .before .before .before .before .before .before .past in
+    let put-template = c .before .before .before .before .before .before .before .put-template in
+    ap length ((one-put (loop .inv .2 (pre .3)) _
+    (own-list (loop .inv .2 (pre .3) .from) ((pre .3) .few .few) _ _ (list-is _ _ _ _ _ (sym (past .given .1) ∙ read-list .ensures)))
+    (own-list-is (loop .inv .2 (pre .3) .from) ((pre .3) .few .few) _ _ (list-is _ _ _ _ _ (sym (past .given .1) ∙ read-list .ensures)))
+    (put-template .ensures .0)) .is) ∙ put-length _ _ _ ∙ loop .inv .1
 
 returns-2 : tie.Need-returns-2 Inv-loop μ-loop
-returns-2 c = λ w. writing-end (c .before .before .before .before .before .before .before .before .before .before .before .before .before .before .loop .inv .2 w) (one-put (c .before .before .before .before .before .before .before .before .before .before .before .before .before .before .loop .inv .2 w) _ (own-list (c .before .before .before .before .before .before .before .before .before .before .before .before .before .before .loop .inv .2 w .from) (w .few .few) _ _ (list-is _ _ _ _ _ (sym (c .before .before .before .before .before .before .before .before .before .before .before .past .given .1) ∙ c .before .before .before .before .before .before .before .before .before .before .before .before .before .read-list .ensures))) (own-list-is (c .before .before .before .before .before .before .before .before .before .before .before .before .before .before .loop .inv .2 w .from) (w .few .few) _ _ (list-is _ _ _ _ _ (sym (c .before .before .before .before .before .before .before .before .before .before .before .past .given .1) ∙ c .before .before .before .before .before .before .before .before .before .before .before .before .before .read-list .ensures))) (c .before .before .before .before .before .before .before .put-template .ensures .0)) (next-as (c .enum-told2 .given .1) (c .before .before .next-closure .ensures (from-walk (c .before .before .before .before .before .before .before .before .before .before .before .before .before .before .loop .inv .2 w .from)) _))
+returns-2 c =
+    let loop = c .before .before .before .before .before .before .before .before .before .before .before .before .before .before .loop in
+    let read-list = c .before .before .before .before .before .before .before .before .before .before .before .before .before .read-list in
+    let past = c .before .before .before .before .before .before .before .before .before .before .before .past in
+    let put-template = c .before .before .before .before .before .before .before .put-template in
+    λ w. writing-end (loop .inv .2 w) (one-put (loop .inv .2 w) _
+    (own-list (loop .inv .2 w .from) (w .few .few) _ _ (list-is _ _ _ _ _ (sym (past .given .1) ∙ read-list .ensures)))
+    (own-list-is (loop .inv .2 w .from) (w .few .few) _ _ (list-is _ _ _ _ _ (sym (past .given .1) ∙ read-list .ensures))) (put-template .ensures .0))
+    (next-as (c .enum-told2 .given .1) (c .before .before .next-closure .ensures (from-walk (loop .inv .2 w .from)) _))
 
 enum-known-list : tie.Need-enum-known-list Inv-loop μ-loop
 enum-known-list c = search needs
 
 add-own : tie.Need-add-own Inv-loop μ-loop
-add-own c = omega (arith, c .before .before .before .before .before .before .before .before .before .before .before .before .before .before .before .loop .inv .3)
+add-own c =
+    let loop = c .before .before .before .before .before .before .before .before .before .before .before .before .before .before .before .loop in
+    omega (arith, loop .inv .3)
 
 loop-less : tie.Need-loop-less Inv-loop μ-loop
-loop-less c = omega (arith, c .before .before .before .before .before .before .before .before .before .before .before .before .before .before .before .loop .inv .3)
+loop-less c =
+    let loop = c .before .before .before .before .before .before .before .before .before .before .before .before .before .before .before .loop in
+    omega (arith, loop .inv .3)
 
 loop-again : tie.Need-loop-again Inv-loop μ-loop
 loop-again c =
-    let w₀ = c .before .before .before .before .before .before .before .before .before .before .before .before .before .before .before .before .before .before .before .pre .3 in
-    let n = (writing-next (c .before .before .before .before .before .before .before .before .before .before .before .before .before .before .before .loop .inv .2 w₀) (one-put (c .before .before .before .before .before .before .before .before .before .before .before .before .before .before .before .loop .inv .2 w₀) _ (own-list (c .before .before .before .before .before .before .before .before .before .before .before .before .before .before .before .loop .inv .2 w₀ .from) (w₀ .few .few) _ _ (list-is _ _ _ _ _ (sym (c .before .before .before .before .before .before .before .before .before .before .before .before .past .given .1) ∙ c .before .before .before .before .before .before .before .before .before .before .before .before .before .before .read-list .ensures))) (own-list-is (c .before .before .before .before .before .before .before .before .before .before .before .before .before .before .before .loop .inv .2 w₀ .from) (w₀ .few .few) _ _ (list-is _ _ _ _ _ (sym (c .before .before .before .before .before .before .before .before .before .before .before .before .past .given .1) ∙ c .before .before .before .before .before .before .before .before .before .before .before .before .before .before .read-list .ensures))) (c .before .before .before .before .before .before .before .before .put-template .ensures .0)) _ (next-as (c .before .list .given .1) (c .before .before .before .next-closure .ensures (from-walk (c .before .before .before .before .before .before .before .before .before .before .before .before .before .before .before .loop .inv .2 w₀ .from)) _))) in
-    let l = from-low (n .from) in
-    (c .before .before .before .before .before .before .before .before .put-template .ensures .1, n .put .long, λ w. (writing-next (c .before .before .before .before .before .before .before .before .before .before .before .before .before .before .before .loop .inv .2 w) (one-put (c .before .before .before .before .before .before .before .before .before .before .before .before .before .before .before .loop .inv .2 w) _ (own-list (c .before .before .before .before .before .before .before .before .before .before .before .before .before .before .before .loop .inv .2 w .from) (w .few .few) _ _ (list-is _ _ _ _ _ (sym (c .before .before .before .before .before .before .before .before .before .before .before .before .past .given .1) ∙ c .before .before .before .before .before .before .before .before .before .before .before .before .before .before .read-list .ensures))) (own-list-is (c .before .before .before .before .before .before .before .before .before .before .before .before .before .before .before .loop .inv .2 w .from) (w .few .few) _ _ (list-is _ _ _ _ _ (sym (c .before .before .before .before .before .before .before .before .before .before .before .before .past .given .1) ∙ c .before .before .before .before .before .before .before .before .before .before .before .before .before .before .read-list .ensures))) (c .before .before .before .before .before .before .before .before .put-template .ensures .0)) _ (next-as (c .before .list .given .1) (c .before .before .before .next-closure .ensures (from-walk (c .before .before .before .before .before .before .before .before .before .before .before .before .before .before .before .loop .inv .2 w .from)) _))), omega (arith, l .0, w₀ .few .few))
+    let pre = c .before .before .before .before .before .before .before .before .before .before .before .before .before .before .before .before .before
+    .before .before .pre in
+    let loop = c .before .before .before .before .before .before .before .before .before .before .before .before .before .before .before .loop in
+    let read-list = c .before .before .before .before .before .before .before .before .before .before .before .before .before .before .read-list in
+    let past = c .before .before .before .before .before .before .before .before .before .before .before .before .past in
+    let put-template = c .before .before .before .before .before .before .before .before .put-template in
+    let next-closure = c .before .before .before .next-closure in
+    let list = c .before .list in
+    let w₀ = pre .3 in
+    let n = (writing-next (loop .inv .2 w₀) (one-put (loop .inv .2 w₀) _
+    (own-list (loop .inv .2 w₀ .from) (w₀ .few .few) _ _ (list-is _ _ _ _ _ (sym (past .given .1) ∙ read-list .ensures)))
+    (own-list-is (loop .inv .2 w₀ .from) (w₀ .few .few) _ _ (list-is _ _ _ _ _ (sym (past .given .1) ∙ read-list .ensures))) (put-template .ensures .0)) _
+    (next-as (list .given .1) (next-closure .ensures (from-walk (loop .inv .2 w₀ .from)) _))) in
+    let l = from-low (n .from) in (
+      put-template .ensures .1,
+      n .put .long,
+      λ w. (writing-next (loop .inv .2 w) (one-put (loop .inv .2 w) _
+          (own-list (loop .inv .2 w .from) (w .few .few) _ _ (list-is _ _ _ _ _ (sym (past .given .1) ∙ read-list .ensures)))
+          (own-list-is (loop .inv .2 w .from) (w .few .few) _ _ (list-is _ _ _ _ _ (sym (past .given .1) ∙ read-list .ensures))) (put-template .ensures .0)) _
+          (next-as (list .given .1) (next-closure .ensures (from-walk (loop .inv .2 w .from)) _))),
+      omega (arith, l .0, w₀ .few .few),
+    )
 
 pub put-templates-spec : {M : Type 1} → statement M
 put-templates-spec =

@@ -17,7 +17,10 @@ slice-aggregate-tabulate-checked : tie.Need-slice-aggregate-tabulate-checked
 slice-aggregate-tabulate-checked c = search needs
 
 tabulate-checked-requires : tie.Need-tabulate-checked-requires
-tabulate-checked-requires c κs = (c .before .before .before .before .before .before .check-basic .ensures .1, checked-as (c .before .before .before .end .given .1) (c .before .before .before .before .before .before .check-basic .ensures .0))
+tabulate-checked-requires c κs =
+    let check-basic = c .before .before .before .before .before .before .check-basic in
+    let end = c .before .before .before .end in
+    (check-basic .ensures .1, checked-as (end .given .1) (check-basic .ensures .0))
 
 enum-known-no : tie.Need-enum-known-no
 enum-known-no c = search needs

@@ -21,9 +21,11 @@ slice-aggregate-write-tabulated c = sym (length-take-le _ _ (c .before .before .
 
 write-tabulated-requires : tie.Need-write-tabulated-requires
 write-tabulated-requires c κs =
-    let f = checked-short (c .before .before .before .before .before .before .pre .1) in
-    let m = length-take-le _ (c .before .before .before .before .before .before .args .out .now) (c .before .before .if1 .left) in
-    (f .0, c .before .before .before .before .before .before .pre .0, rw m (omega (arith, f .1)), whole-in (c .before .before .before .before .before .before .pre .1) _ m)
+    let pre = c .before .before .before .before .before .before .pre in
+    let args = c .before .before .before .before .before .before .args in
+    let f = checked-short (pre .1) in
+    let m = length-take-le _ (args .out .now) (c .before .before .if1 .left) in
+    (f .0, pre .0, rw m (omega (arith, f .1)), whole-in (pre .1) _ m)
 
 same-length : tie.Need-same-length
 same-length c = search needs
@@ -32,7 +34,11 @@ same-length-2 : tie.Need-same-length-2
 same-length-2 c = search needs
 
 returns-2 : tie.Need-returns-2
-returns-2 c = file-written (c .before .before .before .before .before .before .before .before .before .before .before .pre .1) _ (c .before .before .before .before .before .before .before .if1 .left) _ _ (c .before .before .before .before .write-tabulated .ensures) refl
+returns-2 c =
+    let pre = c .before .before .before .before .before .before .before .before .before .before .before .pre in
+    let if1 = c .before .before .before .before .before .before .before .if1 in
+    let write-tabulated = c .before .before .before .before .write-tabulated in
+    file-written (pre .1) _ (if1 .left) _ _ (write-tabulated .ensures) refl
 
 pub tabulate-checked-spec : {M : Type 1} → statement M
 tabulate-checked-spec =

@@ -12,12 +12,17 @@ cast-put-field : tie.Need-cast-put-field
 cast-put-field c = let f = count-fits (c .before .before .before .before .pre .3) in omega (arith, f .0)
 
 put-field-requires : tie.Need-put-field-requires
-put-field-requires c κs = let f = count-fits (c .before .before .before .before .pre .3) in (omega (arith, c .before .before .before .before .pre .2), omega arith, omega (arith, f .0), omega (arith, f .1))
+put-field-requires c κs =
+    let pre = c .before .before .before .before .pre in
+    let f = count-fits (pre .3) in
+    (omega (arith, pre .2), omega arith, omega (arith, f .0), omega (arith, f .1))
 
 put-templates-requires : tie.Need-put-templates-requires
 put-templates-requires c κs =
-    let m = ap length (c .before .before .before .before .put-field .ensures .1) ∙ put-length _ _ _ in
-    (c .before .before .before .before .before .before .before .before .before .pre .0, c .before .before .before .before .before .before .before .before .before .pre .1, omega (arith, m, c .before .before .before .before .before .before .before .before .before .pre .2), templates-in (c .before .before .before .before .before .before .before .before .before .pre .3) _ _ (omega (arith, c .before .before .before .before .put-field .ensures .0)) (c .before .before .before .before .put-field .ensures .1))
+    let pre = c .before .before .before .before .before .before .before .before .before .pre in
+    let put-field = c .before .before .before .before .put-field in
+    let m = ap length (put-field .ensures .1) ∙ put-length _ _ _ in
+    (pre .0, pre .1, omega (arith, m, pre .2), templates-in (pre .3) _ _ (omega (arith, put-field .ensures .0)) (put-field .ensures .1))
 
 same-length : tie.Need-same-length
 same-length c = search needs
@@ -26,7 +31,10 @@ same-length-2 : tie.Need-same-length-2
 same-length-2 c = search needs
 
 returns : tie.Need-returns
-returns c = λ w. file-put w _ _ (omega (arith, c .before .before .before .before .before .before .before .before .before .put-field .ensures .0)) (c .before .before .before .before .before .before .before .before .before .put-field .ensures .1) _ _ (c .before .before .before .before .put-templates .ensures)
+returns c =
+    let put-field = c .before .before .before .before .before .before .before .before .before .put-field in
+    let put-templates = c .before .before .before .before .put-templates in
+    λ w. file-put w _ _ (omega (arith, put-field .ensures .0)) (put-field .ensures .1) _ _ (put-templates .ensures)
 
 pub write-tabulated-spec : {M : Type 1} → statement M
 write-tabulated-spec =

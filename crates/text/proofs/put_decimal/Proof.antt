@@ -17,8 +17,10 @@ slice-aggregate-put-bytes c = search needs
 
 put-bytes-requires : tie.Need-put-bytes-requires
 put-bytes-requires c κs =
+    let fits = c .before .before .before .before .before .fits in
+    let args = c .before .before .before .before .before .args in
     let d = c .before .before .decimal in
-    let s = decimal-short (d .result) (c .before .before .before .before .before .args .n) (c .before .before .before .before .before .fits .n .fits) (d .ensures .1 .0) in
+    let s = decimal-short (d .result) (args .n) (fits .n .fits) (d .ensures .1 .0) in
     omega arith
 
 same-length : tie.Need-same-length

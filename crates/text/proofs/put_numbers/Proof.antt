@@ -10,16 +10,26 @@ put-word-requires : tie.Need-put-word-requires
 put-word-requires c κs = search needs
 
 put-number-requires : tie.Need-put-number-requires
-put-number-requires c κs = omega (arith, simp length-append at (c .before .before .before .put-word .ensures .next), put-length (c .before .before .before .put-word .ensures))
+put-number-requires c κs =
+    let put-word = c .before .before .before .put-word in
+    omega (arith, simp length-append at (put-word .ensures .next), put-length (put-word .ensures))
 
 put-number-requires-2 : tie.Need-put-number-requires-2
-put-number-requires-2 c κs = omega (arith, simp length-append at (c .before .before .before .before .before .before .before .put-word .ensures .next), put-length (c .before .before .before .before .before .before .before .put-word .ensures), put-length (c .before .before .before .put-number .ensures .0))
+put-number-requires-2 c κs =
+    let put-word = c .before .before .before .before .before .before .before .put-word in
+    let put-number = c .before .before .before .put-number in
+    omega (arith, simp length-append at (put-word .ensures .next), put-length (put-word .ensures), put-length (put-number .ensures .0))
 
 same-length : tie.Need-same-length
 same-length c = search needs
 
 returns : tie.Need-returns
-returns c = (put-line _ _ _ (c .before .before .before .before .before .before .before .before .before .before .put-word .ensures) (c .before .before .before .before .before .before .put-number .ensures .0) (c .before .before .put-number2 .ensures .0), omega (arith, simp length-append at (c .before .before .before .before .before .before .before .before .before .before .put-word .ensures .next)))
+returns c =
+    let put-word = c .before .before .before .before .before .before .before .before .before .before .put-word in
+    let put-number = c .before .before .before .before .before .before .put-number in (
+      put-line _ _ _ (put-word .ensures) (put-number .ensures .0) (c .before .before .put-number2 .ensures .0),
+      omega (arith, simp length-append at (put-word .ensures .next)),
+    )
 
 pub put-numbers-spec : {M : Type 1} → statement M
 put-numbers-spec =

@@ -110,7 +110,10 @@ put-arms-put-list-requires : (t : ℕ) → put-arms-lts.Need-put-list-requires (
   put-list-below t,
   put-list.Post,
 ) (put-arms-at t) put-arms.Post
-put-arms-put-list-requires t c κs = let h = c .before .before .before .before .pre .1 in (omega (arith, c .before .before .before .before .pre .0), (h .0, h .1, h .2, h .4 .first, omega (arith, h .4 .order, h .4 .second, h .4 .inside), h .3, omega (arith, h .4 .room)))
+put-arms-put-list-requires t c κs =
+    let pre = c .before .before .before .before .pre in
+    let h = pre .1 in
+    (omega (arith, pre .0), (h .0, h .1, h .2, h .4 .first, omega (arith, h .4 .order, h .4 .second, h .4 .inside), h .3, omega (arith, h .4 .room)))
 
 put-arms-enum-told :
     (t : ℕ) →
@@ -127,7 +130,23 @@ put-arms-put-list-requires-2 : (t : ℕ) → put-arms-lts.Need-put-list-requires
   put-list-below t,
   put-list.Post,
 ) (put-arms-at t) put-arms.Post
-put-arms-put-list-requires-2 t c κs = let h = c .before .before .before .before .before .before .before .before .before .before .before .pre .1 in let k = c .before .before .before .before .before .before .put-list .kept .1 .1 .1 .1 .1 .1 .1 .0 in let w = puts-some (c .before .before .before .before .before .before .put-list .ensures) (c .before .before .mid .given .1) in (omega (arith, c .before .before .before .before .before .before .before .before .before .before .before .pre .0), (h .0, h .1, h .2, h .4 .second, h .4 .inside, omega (arith, h .3, k), omega (arith, h .4 .room, h .4 .first, h .4 .order, k, w .past, w .small)))
+put-arms-put-list-requires-2 t c κs =
+    let pre = c .before .before .before .before .before .before .before .before .before .before .before .pre in
+    let put-list′ = c .before .before .before .before .before .before .put-list in
+    let h = pre .1 in
+    let k = put-list′ .kept .1 .1 .1 .1 .1 .1 .1 .0 in
+    let w = puts-some (put-list′ .ensures) (c .before .before .mid .given .1) in (
+      omega (arith, pre .0),
+      (
+        h .0,
+        h .1,
+        h .2,
+        h .4 .second,
+        h .4 .inside,
+        omega (arith, h .3, k),
+        omega (arith, h .4 .room, h .4 .first, h .4 .order, k, w .past, w .small),
+      ),
+    )
 
 put-arms-same-length :
     (t : ℕ) →
@@ -143,12 +162,19 @@ put-arms-same-length-2 : (t : ℕ) → put-arms-lts.Need-same-length-2 (
   put-list-below t,
   put-list.Post,
 ) (put-arms-at t) put-arms.Post
-put-arms-same-length-2 t c = c .before .before .put-list2 .kept .1 .1 .1 .1 .1 .1 .1 .0 ∙ c .before .before .before .before .before .before .before .before .before .put-list .kept .1 .1 .1 .1 .1 .1 .1 .0
+put-arms-same-length-2 t c =
+    let put-list′ = c .before .before .before .before .before .before .before .before .before .put-list in
+    c .before .before .put-list2 .kept .1 .1 .1 .1 .1 .1 .1 .0 ∙ put-list′ .kept .1 .1 .1 .1 .1 .1 .1 .0
 
 put-arms-returns-2 :
     (t : ℕ) →
     put-arms-lts.Need-returns-2 (put-list-below t, put-list.Post) (put-arms-at t) put-arms.Post
-put-arms-returns-2 t c = let h = c .before .before .before .before .before .before .before .before .before .before .before .before .before .before .pre .1 in two-from _ _ (omega (arith, h .4 .room)) (puts-some (c .before .before .before .before .before .before .before .before .before .put-list .ensures) (c .before .before .before .before .before .mid .given .1)) (c .before .before .put-list2 .ensures)
+put-arms-returns-2 t c =
+    let pre = c .before .before .before .before .before .before .before .before .before .before .before .before .before .before .pre in
+    let put-list′ = c .before .before .before .before .before .before .before .before .before .put-list in
+    let mid = c .before .before .before .before .before .mid in
+    let h = pre .1 in
+    two-from _ _ (omega (arith, h .4 .room)) (puts-some (put-list′ .ensures) (mid .given .1)) (c .before .before .put-list2 .ensures)
 
 put-conditional-put-field-requires : (t : ℕ) → put-conditional-lts.Need-put-field-requires (
   put-field-reads.Asked,
@@ -178,7 +204,22 @@ put-conditional-put-arms-requires : (t : ℕ) → put-conditional-lts.Need-put-a
   both-reads.Asked,
   both-reads.Learnt,
 ) (put-conditional-at t) put-conditional.Post
-put-conditional-put-arms-requires t c κs = let h = c .before .before .before .before .before .before .before .before .pre .1 in let w = h .6 .within in let k = c .before .before .before .put-field .kept .0 in let f = c .before .before .before .put-field .ensures in (omega (arith, c .before .before .before .before .before .before .before .before .pre .0, w .4), (h .0, h .1, h .2, omega (arith, h .4, k), record { first = w .0; order = w .1; second = w .2; inside = omega (arith, w .3, h .3); room = omega (arith, h .5, w .0, w .1, w .2, w .3, k, f .0) }))
+put-conditional-put-arms-requires t c κs =
+    let pre = c .before .before .before .before .before .before .before .before .pre in
+    let put-field = c .before .before .before .put-field in
+    let h = pre .1 in
+    let w = h .6 .within in
+    let k = put-field .kept .0 in
+    let f = put-field .ensures in (
+      omega (arith, pre .0, w .4),
+      (
+        h .0,
+        h .1,
+        h .2,
+        omega (arith, h .4, k),
+        record { first = w .0; order = w .1; second = w .2; inside = omega (arith, w .3, h .3); room = omega (arith, h .5, w .0, w .1, w .2, w .3, k, f .0) },
+      ),
+    )
 
 put-conditional-enum-told : (t : ℕ) → put-conditional-lts.Need-enum-told (
   put-field-reads.Asked,
@@ -218,7 +259,10 @@ put-conditional-same-length : (t : ℕ) → put-conditional-lts.Need-same-length
   both-reads.Asked,
   both-reads.Learnt,
 ) (put-conditional-at t) put-conditional.Post
-put-conditional-same-length t c = c .before .before .before .before .put-arms .kept .1 .1 .1 .1 .1 .1 .0 ∙ c .before .before .before .before .before .before .before .before .put-field .kept .0
+put-conditional-same-length t c =
+    let put-field = c .before .before .before .before .before .before .before .before .put-field in
+    let put-arms′ = c .before .before .before .before .put-arms in
+    put-arms′ .kept .1 .1 .1 .1 .1 .1 .0 ∙ put-field .kept .0
 
 put-conditional-returns : (t : ℕ) → put-conditional-lts.Need-returns (
   put-field-reads.Asked,
@@ -228,7 +272,16 @@ put-conditional-returns : (t : ℕ) → put-conditional-lts.Need-returns (
   both-reads.Asked,
   both-reads.Learnt,
 ) (put-conditional-at t) put-conditional.Post
-put-conditional-returns t c = let a = c .before .before .before .before .before .before .before .before .before .before .before .before .before .args in let h = c .before .before .before .before .before .before .before .before .before .before .before .before .before .pre .1 in let f = c .before .before .before .before .before .before .before .before .put-field .ensures in arms-none (slotNamed (a .table .now) (a .own)) (a .s .now) (a .levels) (a .closed) (a .p) (a .to) (a .at .0) (a .out .now) _ (h .5) (a .arms) (h .6) _ (f .1) (f .0) (c .before .before .before .before .put-arms .ensures) (c .enum-told .given .1)
+put-conditional-returns t c =
+    let pre = c .before .before .before .before .before .before .before .before .before .before .before .before .before .pre in
+    let args = c .before .before .before .before .before .before .before .before .before .before .before .before .before .args in
+    let put-field = c .before .before .before .before .before .before .before .before .put-field in
+    let put-arms′ = c .before .before .before .before .put-arms in
+    let a = args in
+    let h = pre .1 in
+    let f = put-field .ensures in
+    arms-none (slotNamed (a .table .now) (a .own)) (a .s .now) (a .levels) (a .closed) (a .p) (a .to) (a .at .0) (a .out .now) _ (h .5) (a .arms) (h .6) _
+    (f .1) (f .0) (put-arms′ .ensures) (c .enum-told .given .1)
 
 put-conditional-same-length-2 : (t : ℕ) → put-conditional-lts.Need-same-length-2 (
   put-field-reads.Asked,
@@ -238,7 +291,10 @@ put-conditional-same-length-2 : (t : ℕ) → put-conditional-lts.Need-same-leng
   both-reads.Asked,
   both-reads.Learnt,
 ) (put-conditional-at t) put-conditional.Post
-put-conditional-same-length-2 t c = c .before .before .before .before .before .before .before .put-arms .kept .1 .1 .1 .1 .1 .1 .0 ∙ c .before .before .before .before .before .before .before .before .before .before .before .put-field .kept .0
+put-conditional-same-length-2 t c =
+    let put-field = c .before .before .before .before .before .before .before .before .before .before .before .put-field in
+    let put-arms′ = c .before .before .before .before .before .before .before .put-arms in
+    put-arms′ .kept .1 .1 .1 .1 .1 .1 .0 ∙ put-field .kept .0
 
 put-conditional-returns-2 : (t : ℕ) → put-conditional-lts.Need-returns-2 (
   put-field-reads.Asked,
@@ -248,7 +304,17 @@ put-conditional-returns-2 : (t : ℕ) → put-conditional-lts.Need-returns-2 (
   both-reads.Asked,
   both-reads.Learnt,
 ) (put-conditional-at t) put-conditional.Post
-put-conditional-returns-2 t c = let a = c .before .before .before .before .before .before .before .before .before .before .before .before .before .before .before .before .args in let h = c .before .before .before .before .before .before .before .before .before .before .before .before .before .before .before .before .pre .1 in let f = c .before .before .before .before .before .before .before .before .before .before .before .put-field .ensures in arms-more (slotNamed (a .table .now) (a .own)) (a .s .now) (a .levels) (a .closed) (a .p) (a .to) (a .at .0) (a .out .now) _ (h .5) (a .arms) (h .6) _ (f .1) (f .0) _ (c .both .ensures) (c .before .before .before .before .before .before .before .put-arms .ensures) (c .before .before .before .past .given .1)
+put-conditional-returns-2 t c =
+    let pre = c .before .before .before .before .before .before .before .before .before .before .before .before .before .before .before .before .pre in
+    let args = c .before .before .before .before .before .before .before .before .before .before .before .before .before .before .before .before .args in
+    let put-field = c .before .before .before .before .before .before .before .before .before .before .before .put-field in
+    let put-arms′ = c .before .before .before .before .before .before .before .put-arms in
+    let past = c .before .before .before .past in
+    let a = args in
+    let h = pre .1 in
+    let f = put-field .ensures in
+    arms-more (slotNamed (a .table .now) (a .own)) (a .s .now) (a .levels) (a .closed) (a .p) (a .to) (a .at .0) (a .out .now) _ (h .5) (a .arms) (h .6) _
+    (f .1) (f .0) _ (c .both .ensures) (put-arms′ .ensures) (past .given .1)
 
 put-instr-first-of-requires : (t : ℕ) → put-instr-lts.Need-first-of-requires (
   first-of-reads.Asked,
@@ -296,7 +362,11 @@ put-instr-put-plain-requires : (t : ℕ) → put-instr-lts.Need-put-plain-requir
   put-make-cont-below t,
   put-make-cont.Post,
 ) (put-instr-at t) put-instr.Post
-put-instr-put-plain-requires t c κs = let h = c .before .before .before .before .before .before .before .before .pre .1 in (h .0, h .1, h .2, h .4, h .5, h .6, head-as (c .before .before .before .before .first-of .ensures) (c .before .before .n .given .1))
+put-instr-put-plain-requires t c κs =
+    let pre = c .before .before .before .before .before .before .before .before .pre in
+    let first-of = c .before .before .before .before .first-of in
+    let h = pre .1 in
+    (h .0, h .1, h .2, h .4, h .5, h .6, head-as (first-of .ensures) (c .before .before .n .given .1))
 
 put-instr-enum-known-arms : (t : ℕ) → put-instr-lts.Need-enum-known-arms (
   first-of-reads.Asked,
@@ -320,7 +390,11 @@ put-instr-put-conditional-requires : (t : ℕ) → put-instr-lts.Need-put-condit
   put-make-cont-below t,
   put-make-cont.Post,
 ) (put-instr-at t) put-instr.Post
-put-instr-put-conditional-requires t c κs = let h = c .before .before .before .before .before .before .before .before .pre .1 in (omega (arith, c .before .before .before .before .before .before .before .before .pre .0), (h .0, h .1, h .2, h .4, h .5, h .6, head-as (c .before .before .before .before .first-of .ensures) (c .before .before .arms .given .1)))
+put-instr-put-conditional-requires t c κs =
+    let pre = c .before .before .before .before .before .before .before .before .pre in
+    let first-of = c .before .before .before .before .first-of in
+    let h = pre .1 in
+    (omega (arith, pre .0), (h .0, h .1, h .2, h .4, h .5, h .6, head-as (first-of .ensures) (c .before .before .arms .given .1)))
 
 put-instr-enum-known-cut : (t : ℕ) → put-instr-lts.Need-enum-known-cut (
   first-of-reads.Asked,
@@ -344,7 +418,11 @@ put-instr-put-make-cont-requires : (t : ℕ) → put-instr-lts.Need-put-make-con
   put-make-cont-below t,
   put-make-cont.Post,
 ) (put-instr-at t) put-instr.Post
-put-instr-put-make-cont-requires t c κs = let h = c .before .before .before .before .before .before .before .before .pre .1 in (omega (arith, c .before .before .before .before .before .before .before .before .pre .0), (h .0, h .1, h .2, h .4, h .5, h .6, head-as (c .before .before .before .before .first-of .ensures) (c .before .before .cut .given .1)))
+put-instr-put-make-cont-requires t c κs =
+    let pre = c .before .before .before .before .before .before .before .before .pre in
+    let first-of = c .before .before .before .before .first-of in
+    let h = pre .1 in
+    (omega (arith, pre .0), (h .0, h .1, h .2, h .4, h .5, h .6, head-as (first-of .ensures) (c .before .before .cut .given .1)))
 
 put-instr-returns : (t : ℕ) → put-instr-lts.Need-returns (
   first-of-reads.Asked,
@@ -356,7 +434,11 @@ put-instr-returns : (t : ℕ) → put-instr-lts.Need-returns (
   put-make-cont-below t,
   put-make-cont.Post,
 ) (put-instr-at t) put-instr.Post
-put-instr-returns t c = let a = c .before .before .before .before .before .before .args in head-none (slotNamed (a .table .now) (a .own)) (a .s .now) (a .levels) (a .closed) (a .p) (a .to) (a .out .now) (a .at .0) (c .before .before .first-of .ensures) (c .enum-told .given .1)
+put-instr-returns t c =
+    let args = c .before .before .before .before .before .before .args in
+    let a = args in
+    head-none (slotNamed (a .table .now) (a .own)) (a .s .now) (a .levels) (a .closed) (a .p) (a .to) (a .out .now) (a .at .0)
+    (c .before .before .first-of .ensures) (c .enum-told .given .1)
 
 put-instr-same-length : (t : ℕ) → put-instr-lts.Need-same-length (
   first-of-reads.Asked,
@@ -466,7 +548,12 @@ put-list-put-field-requires : (t : ℕ) → put-list-lts.Need-put-field-requires
   put-instr-below t,
   put-instr.Post,
 ) (put-list-at t) put-list.Post put-list-Inv-loop put-list-μ-loop
-put-list-put-field-requires t c κs = let h = c .before .before .before .before .before .before .before .pre .1 in let g = c .before .before .before .loop .inv in (omega (arith, h .5, g .long), omega arith, omega arith, omega (arith, g .room))
+put-list-put-field-requires t c κs =
+    let pre = c .before .before .before .before .before .before .before .pre in
+    let loop = c .before .before .before .loop in
+    let h = pre .1 in
+    let g = loop .inv in
+    (omega (arith, h .5, g .long), omega arith, omega arith, omega (arith, g .room))
 
 put-list-same-length-2 : (t : ℕ) → put-list-lts.Need-same-length-2 (
   put-field-reads.Asked,
@@ -482,7 +569,12 @@ put-list-returns-2 : (t : ℕ) → put-list-lts.Need-returns-2 (
   put-instr-below t,
   put-instr.Post,
 ) (put-list-at t) put-list.Post put-list-Inv-loop put-list-μ-loop
-put-list-returns-2 t c = let f = c .before .before .put-field .ensures in going-end _ _ _ _ _ _ _ _ _ _ _ _ _ (c .before .before .before .before .before .before .loop .inv) (c .before .before .before .before .before .if1 .taken) (c .before .before .before .before .if2 .left) (f .0) (f .1)
+put-list-returns-2 t c =
+    let loop = c .before .before .before .before .before .before .loop in
+    let if1 = c .before .before .before .before .before .if1 in
+    let if2 = c .before .before .before .before .if2 in
+    let f = c .before .before .put-field .ensures in
+    going-end _ _ _ _ _ _ _ _ _ _ _ _ _ (loop .inv) (if1 .taken) (if2 .left) (f .0) (f .1)
 
 put-list-put-instr-requires : (t : ℕ) → put-list-lts.Need-put-instr-requires (
   put-field-reads.Asked,
@@ -490,7 +582,11 @@ put-list-put-instr-requires : (t : ℕ) → put-list-lts.Need-put-instr-requires
   put-instr-below t,
   put-instr.Post,
 ) (put-list-at t) put-list.Post put-list-Inv-loop put-list-μ-loop
-put-list-put-instr-requires t c κs = let h = c .before .before .before .before .before .before .pre .1 in let g = c .before .before .loop .inv in (omega (arith, c .before .before .before .before .before .before .pre .0), (h .0, h .1, h .2, omega (arith, g .ordered, c .before .if1 .left), g .inside, omega (arith, h .5, g .long), g .room))
+put-list-put-instr-requires t c κs =
+    let pre = c .before .before .before .before .before .before .pre in
+    let h = pre .1 in
+    let g = c .before .before .loop .inv in
+    (omega (arith, pre .0), (h .0, h .1, h .2, omega (arith, g .ordered, c .before .if1 .left), g .inside, omega (arith, h .5, g .long), g .room))
 
 put-list-enum-told : (t : ℕ) → put-list-lts.Need-enum-told (
   put-field-reads.Asked,
@@ -506,7 +602,10 @@ put-list-same-length-3 : (t : ℕ) → put-list-lts.Need-same-length-3 (
   put-instr-below t,
   put-instr.Post,
 ) (put-list-at t) put-list.Post put-list-Inv-loop put-list-μ-loop
-put-list-same-length-3 t c = c .before .before .before .before .put-instr .kept .1 .1 .1 .1 .1 .1 .1 .0 ∙ c .before .before .before .before .before .before .before .loop .inv .long
+put-list-same-length-3 t c =
+    let loop = c .before .before .before .before .before .before .before .loop in
+    let put-instr′ = c .before .before .before .before .put-instr in
+    put-instr′ .kept .1 .1 .1 .1 .1 .1 .1 .0 ∙ loop .inv .long
 
 put-list-returns-3 : (t : ℕ) → put-list-lts.Need-returns-3 (
   put-field-reads.Asked,
@@ -514,7 +613,10 @@ put-list-returns-3 : (t : ℕ) → put-list-lts.Need-returns-3 (
   put-instr-below t,
   put-instr.Post,
 ) (put-list-at t) put-list.Post put-list-Inv-loop put-list-μ-loop
-put-list-returns-3 t c = going-none _ _ _ _ _ _ _ _ _ _ _ _ _ (c .before .before .before .before .before .before .before .loop .inv) (stepped-none (c .before .before .before .before .put-instr .ensures) (c .enum-told .given .1))
+put-list-returns-3 t c =
+    let loop = c .before .before .before .before .before .before .before .loop in
+    let put-instr′ = c .before .before .before .before .put-instr in
+    going-none _ _ _ _ _ _ _ _ _ _ _ _ _ (loop .inv) (stepped-none (put-instr′ .ensures) (c .enum-told .given .1))
 
 put-list-enum-known-left : (t : ℕ) → put-list-lts.Need-enum-known-left (
   put-field-reads.Asked,
@@ -530,7 +632,11 @@ put-list-loop-less : (t : ℕ) → put-list-lts.Need-loop-less (
   put-instr-below t,
   put-instr.Post,
 ) (put-list-at t) put-list.Post put-list-Inv-loop put-list-μ-loop
-put-list-loop-less t c = let g = c .before .before .before .before .before .before .before .before .loop .inv in stepped-on (g .room) (c .before .before .before .before .before .put-instr .ensures) (c .before .left .given .1) .shorter
+put-list-loop-less t c =
+    let loop = c .before .before .before .before .before .before .before .before .loop in
+    let put-instr′ = c .before .before .before .before .before .put-instr in
+    let g = loop .inv in
+    stepped-on (g .room) (put-instr′ .ensures) (c .before .left .given .1) .shorter
 
 put-list-loop-again : (t : ℕ) → put-list-lts.Need-loop-again (
   put-field-reads.Asked,
@@ -538,7 +644,11 @@ put-list-loop-again : (t : ℕ) → put-list-lts.Need-loop-again (
   put-instr-below t,
   put-instr.Post,
 ) (put-list-at t) put-list.Post put-list-Inv-loop put-list-μ-loop
-put-list-loop-again t c = let g = c .before .before .before .before .before .before .before .before .loop .inv in going-on _ _ _ _ _ _ _ _ _ _ _ _ _ g (c .before .before .before .before .before .put-instr .kept .1 .1 .1 .1 .1 .1 .1 .0) (stepped-on (g .room) (c .before .before .before .before .before .put-instr .ensures) (c .before .left .given .1))
+put-list-loop-again t c =
+    let loop = c .before .before .before .before .before .before .before .before .loop in
+    let put-instr′ = c .before .before .before .before .before .put-instr in
+    let g = loop .inv in
+    going-on _ _ _ _ _ _ _ _ _ _ _ _ _ g (put-instr′ .kept .1 .1 .1 .1 .1 .1 .1 .0) (stepped-on (g .room) (put-instr′ .ensures) (c .before .left .given .1))
 
 put-make-cont-put-field-requires : (t : ℕ) → put-make-cont-lts.Need-put-field-requires (
   put-field-reads.Asked,
@@ -554,7 +664,10 @@ put-make-cont-add-put-field : (t : ℕ) → put-make-cont-lts.Need-add-put-field
   put-list-below t,
   put-list.Post,
 ) (put-make-cont-at t) put-make-cont.Post
-put-make-cont-add-put-field t c = let h = c .before .before .before .before .before .before .before .before .pre .1 in omega (arith, h .0, h .3, h .6 .within .0, h .6 .within .1)
+put-make-cont-add-put-field t c =
+    let pre = c .before .before .before .before .before .before .before .before .pre in
+    let h = pre .1 in
+    omega (arith, h .0, h .3, h .6 .within .0, h .6 .within .1)
 
 put-make-cont-shared-slice-read-put-field :
     (t : ℕ) → put-make-cont-lts.Need-shared-slice-read-put-field (
@@ -563,7 +676,10 @@ put-make-cont-shared-slice-read-put-field :
       put-list-below t,
       put-list.Post,
     ) (put-make-cont-at t) put-make-cont.Post
-put-make-cont-shared-slice-read-put-field t c = let h = c .before .before .before .before .before .before .before .before .before .pre .1 in omega (arith, h .3, h .6 .within .0, h .6 .within .1)
+put-make-cont-shared-slice-read-put-field t c =
+    let pre = c .before .before .before .before .before .before .before .before .before .pre in
+    let h = pre .1 in
+    omega (arith, h .3, h .6 .within .0, h .6 .within .1)
 
 put-make-cont-cast-put-field : (t : ℕ) → put-make-cont-lts.Need-cast-put-field (
   put-field-reads.Asked,
@@ -571,7 +687,9 @@ put-make-cont-cast-put-field : (t : ℕ) → put-make-cont-lts.Need-cast-put-fie
   put-list-below t,
   put-list.Post,
 ) (put-make-cont-at t) put-make-cont.Post
-put-make-cont-cast-put-field t c = omega (arith, c .shared-slice-known3 .given (c .before .before .before .before .before .before .before .before .before .args .p + 3))
+put-make-cont-cast-put-field t c =
+    let args = c .before .before .before .before .before .before .before .before .before .args in
+    omega (arith, c .shared-slice-known3 .given (args .p + 3))
 
 put-make-cont-put-field-requires-2 : (t : ℕ) → put-make-cont-lts.Need-put-field-requires-2 (
   put-field-reads.Asked,
@@ -579,7 +697,18 @@ put-make-cont-put-field-requires-2 : (t : ℕ) → put-make-cont-lts.Need-put-fi
   put-list-below t,
   put-list.Post,
 ) (put-make-cont-at t) put-make-cont.Post
-put-make-cont-put-field-requires-2 t c κs = let h = c .before .before .before .before .before .before .before .before .before .pre .1 in let k = c .before .before .before .before .put-field .kept .0 in let f = c .before .before .before .before .put-field .ensures in (omega (arith, h .4, k), omega arith, omega (arith, c .shared-slice-known3 .given (c .before .before .before .before .before .before .before .before .before .args .p + 3)), omega (arith, h .5, h .6 .within .0, h .6 .within .1, k, f .0))
+put-make-cont-put-field-requires-2 t c κs =
+    let pre = c .before .before .before .before .before .before .before .before .before .pre in
+    let args = c .before .before .before .before .before .before .before .before .before .args in
+    let put-field = c .before .before .before .before .put-field in
+    let h = pre .1 in
+    let k = put-field .kept .0 in
+    let f = put-field .ensures in (
+      omega (arith, h .4, k),
+      omega arith,
+      omega (arith, c .shared-slice-known3 .given (args .p + 3)),
+      omega (arith, h .5, h .6 .within .0, h .6 .within .1, k, f .0),
+    )
 
 put-make-cont-sub-put-list : (t : ℕ) → put-make-cont-lts.Need-sub-put-list (
   put-field-reads.Asked,
@@ -587,7 +716,9 @@ put-make-cont-sub-put-list : (t : ℕ) → put-make-cont-lts.Need-sub-put-list (
   put-list-below t,
   put-list.Post,
 ) (put-make-cont-at t) put-make-cont.Post
-put-make-cont-sub-put-list t c = omega (arith, c .before .before .before .before .before .before .before .before .before .before .before .before .pre .1 .6 .within .2)
+put-make-cont-sub-put-list t c =
+    let pre = c .before .before .before .before .before .before .before .before .before .before .before .before .pre in
+    omega (arith, pre .1 .6 .within .2)
 
 put-make-cont-put-list-requires : (t : ℕ) → put-make-cont-lts.Need-put-list-requires (
   put-field-reads.Asked,
@@ -595,7 +726,17 @@ put-make-cont-put-list-requires : (t : ℕ) → put-make-cont-lts.Need-put-list-
   put-list-below t,
   put-list.Post,
 ) (put-make-cont-at t) put-make-cont.Post
-put-make-cont-put-list-requires t c κs = let h = c .before .before .before .before .before .before .before .before .before .before .before .before .before .pre .1 in let w = h .6 .within in let k = c .before .before .before .before .before .before .before .before .put-field .kept .0 in let m = c .before .before .before .put-field2 .kept .0 in let f = c .before .before .before .before .before .before .before .before .put-field .ensures in let i = c .before .before .before .put-field2 .ensures in (omega (arith, c .before .before .before .before .before .before .before .before .before .before .before .before .before .pre .0, w .2), (h .0, h .1, h .2, w .1, h .3, omega (arith, h .4, k, m), omega (arith, h .5, w .0, w .1, k, m, f .0, i .0)))
+put-make-cont-put-list-requires t c κs =
+    let pre = c .before .before .before .before .before .before .before .before .before .before .before .before .before .pre in
+    let put-field = c .before .before .before .before .before .before .before .before .put-field in
+    let put-field2 = c .before .before .before .put-field2 in
+    let h = pre .1 in
+    let w = h .6 .within in
+    let k = put-field .kept .0 in
+    let m = put-field2 .kept .0 in
+    let f = put-field .ensures in
+    let i = put-field2 .ensures in
+    (omega (arith, pre .0, w .2), (h .0, h .1, h .2, w .1, h .3, omega (arith, h .4, k, m), omega (arith, h .5, w .0, w .1, k, m, f .0, i .0)))
 
 put-make-cont-enum-told : (t : ℕ) → put-make-cont-lts.Need-enum-told (
   put-field-reads.Asked,
@@ -619,7 +760,11 @@ put-make-cont-add-t27 : (t : ℕ) → put-make-cont-lts.Need-add-t27 (
   put-list-below t,
   put-list.Post,
 ) (put-make-cont-at t) put-make-cont.Post
-put-make-cont-add-t27 t c = let h = c .before .before .before .before .before .before .before .before .before .before .before .before .before .before .before .before .before .before .before .pre .1 in omega (arith, h .0, h .3, h .6 .within .0, h .6 .within .1)
+put-make-cont-add-t27 t c =
+    let pre = c .before .before .before .before .before .before .before .before .before .before .before .before .before .before .before .before .before
+    .before .before .pre in
+    let h = pre .1 in
+    omega (arith, h .0, h .3, h .6 .within .0, h .6 .within .1)
 
 put-make-cont-same-length : (t : ℕ) → put-make-cont-lts.Need-same-length (
   put-field-reads.Asked,
@@ -627,7 +772,11 @@ put-make-cont-same-length : (t : ℕ) → put-make-cont-lts.Need-same-length (
   put-list-below t,
   put-list.Post,
 ) (put-make-cont-at t) put-make-cont.Post
-put-make-cont-same-length t c = c .before .before .before .before .put-list .kept .1 .1 .1 .1 .1 .1 .1 .0 ∙ c .before .before .before .before .before .before .before .before .put-field2 .kept .0 ∙ c .before .before .before .before .before .before .before .before .before .before .before .before .before .put-field .kept .0
+put-make-cont-same-length t c =
+    let put-field = c .before .before .before .before .before .before .before .before .before .before .before .before .before .put-field in
+    let put-field2 = c .before .before .before .before .before .before .before .before .put-field2 in
+    let put-list′ = c .before .before .before .before .put-list in
+    put-list′ .kept .1 .1 .1 .1 .1 .1 .1 .0 ∙ put-field2 .kept .0 ∙ put-field .kept .0
 
 put-make-cont-returns : (t : ℕ) → put-make-cont-lts.Need-returns (
   put-field-reads.Asked,
@@ -635,7 +784,20 @@ put-make-cont-returns : (t : ℕ) → put-make-cont-lts.Need-returns (
   put-list-below t,
   put-list.Post,
 ) (put-make-cont-at t) put-make-cont.Post
-put-make-cont-returns t c = let a = c .before .before .before .before .before .before .before .before .before .before .before .before .before .before .before .before .before .before .args in let h = c .before .before .before .before .before .before .before .before .before .before .before .before .before .before .before .before .before .before .pre .1 in let f = c .before .before .before .before .before .before .before .before .before .before .before .before .before .put-field .ensures in let i = c .before .before .before .before .before .before .before .before .put-field2 .ensures in saved-none (slotNamed (a .table .now) (a .own)) (a .s .now) (a .levels) (a .closed) (a .p) (a .to) (a .at .0) (a .out .now) _ (h .5) (a .cut) (h .6) _ _ _ (f .1) (f .0) (i .1) (i .0) (c .before .before .before .before .put-list .ensures) (c .enum-told .given .1)
+put-make-cont-returns t c =
+    let pre = c .before .before .before .before .before .before .before .before .before .before .before .before .before .before .before .before .before
+    .before .pre in
+    let args = c .before .before .before .before .before .before .before .before .before .before .before .before .before .before .before .before .before
+    .before .args in
+    let put-field = c .before .before .before .before .before .before .before .before .before .before .before .before .before .put-field in
+    let put-field2 = c .before .before .before .before .before .before .before .before .put-field2 in
+    let put-list′ = c .before .before .before .before .put-list in
+    let a = args in
+    let h = pre .1 in
+    let f = put-field .ensures in
+    let i = put-field2 .ensures in
+    saved-none (slotNamed (a .table .now) (a .own)) (a .s .now) (a .levels) (a .closed) (a .p) (a .to) (a .at .0) (a .out .now) _ (h .5) (a .cut) (h .6) _ _ _
+    (f .1) (f .0) (i .1) (i .0) (put-list′ .ensures) (c .enum-told .given .1)
 
 put-make-cont-same-length-2 : (t : ℕ) → put-make-cont-lts.Need-same-length-2 (
   put-field-reads.Asked,
@@ -643,7 +805,11 @@ put-make-cont-same-length-2 : (t : ℕ) → put-make-cont-lts.Need-same-length-2
   put-list-below t,
   put-list.Post,
 ) (put-make-cont-at t) put-make-cont.Post
-put-make-cont-same-length-2 t c = c .before .before .before .before .before .put-list .kept .1 .1 .1 .1 .1 .1 .1 .0 ∙ c .before .before .before .before .before .before .before .before .before .put-field2 .kept .0 ∙ c .before .before .before .before .before .before .before .before .before .before .before .before .before .before .put-field .kept .0
+put-make-cont-same-length-2 t c =
+    let put-field = c .before .before .before .before .before .before .before .before .before .before .before .before .before .before .put-field in
+    let put-field2 = c .before .before .before .before .before .before .before .before .before .put-field2 in
+    let put-list′ = c .before .before .before .before .before .put-list in
+    put-list′ .kept .1 .1 .1 .1 .1 .1 .1 .0 ∙ put-field2 .kept .0 ∙ put-field .kept .0
 
 put-make-cont-returns-2 : (t : ℕ) → put-make-cont-lts.Need-returns-2 (
   put-field-reads.Asked,
@@ -651,7 +817,20 @@ put-make-cont-returns-2 : (t : ℕ) → put-make-cont-lts.Need-returns-2 (
   put-list-below t,
   put-list.Post,
 ) (put-make-cont-at t) put-make-cont.Post
-put-make-cont-returns-2 t c = let a = c .before .before .before .before .before .before .before .before .before .before .before .before .before .before .before .before .before .before .before .args in let h = c .before .before .before .before .before .before .before .before .before .before .before .before .before .before .before .before .before .before .before .pre .1 in let f = c .before .before .before .before .before .before .before .before .before .before .before .before .before .before .put-field .ensures in let i = c .before .before .before .before .before .before .before .before .before .put-field2 .ensures in saved-more (slotNamed (a .table .now) (a .own)) (a .s .now) (a .levels) (a .closed) (a .p) (a .to) (a .at .0) (a .out .now) _ (h .5) (a .cut) (h .6) _ _ _ (f .1) (f .0) (i .1) (i .0) (c .before .before .before .before .before .put-list .ensures) (c .before .past .given .1)
+put-make-cont-returns-2 t c =
+    let pre = c .before .before .before .before .before .before .before .before .before .before .before .before .before .before .before .before .before
+    .before .before .pre in
+    let args = c .before .before .before .before .before .before .before .before .before .before .before .before .before .before .before .before .before
+    .before .before .args in
+    let put-field = c .before .before .before .before .before .before .before .before .before .before .before .before .before .before .put-field in
+    let put-field2 = c .before .before .before .before .before .before .before .before .before .put-field2 in
+    let put-list′ = c .before .before .before .before .before .put-list in
+    let a = args in
+    let h = pre .1 in
+    let f = put-field .ensures in
+    let i = put-field2 .ensures in
+    saved-more (slotNamed (a .table .now) (a .own)) (a .s .now) (a .levels) (a .closed) (a .p) (a .to) (a .at .0) (a .out .now) _ (h .5) (a .cut) (h .6) _ _ _
+    (f .1) (f .0) (i .1) (i .0) (put-list′ .ensures) (c .before .past .given .1)
 
 pub +put-arms+put-conditional+put-instr+put-list+put-make-cont-spec : {M : Type 1} → statement M
 +put-arms+put-conditional+put-instr+put-list+put-make-cont-spec =

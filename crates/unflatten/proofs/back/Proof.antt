@@ -22,7 +22,10 @@ slice-aggregate-back-read-2 : tie.Need-slice-aggregate-back-read-2
 slice-aggregate-back-read-2 c = search needs
 
 back-read-requires : tie.Need-back-read-requires
-back-read-requires c κs = (accepted-file _ (c .before .before .before .before .before .check-linear .ensures) (c .before .before .before .enum-told .given .1), refl, search needs)
+back-read-requires c κs =
+    let check-linear = c .before .before .before .before .before .check-linear in
+    let enum-told = c .before .before .before .enum-told in
+    (accepted-file _ (check-linear .ensures) (enum-told .given .1), refl, search needs)
 
 enum-known-no : tie.Need-enum-known-no
 enum-known-no c = search needs

@@ -18,7 +18,13 @@ use Rattle.unflatten.proofs.give.Reads as give-reads
 use Rattle.unflatten.proofs.put_templates.Reads as put-templates-reads
 
 bits-at-requires : tie.Need-bits-at-requires
-bits-at-requires c κs = let h = c .before .before .before .before .pre in let a = c .before .before .before .before .args in let p = file (a .s .now) (h .0) in (p .short, (omega arith, p .some))
+bits-at-requires c κs =
+    let pre = c .before .before .before .before .pre in
+    let args = c .before .before .before .before .args in
+    let h = pre in
+    let a = args in
+    let p = file (a .s .now) (h .0) in
+    (p .short, (omega arith, p .some))
 
 put-field-requires : tie.Need-put-field-requires
 put-field-requires c κs = search needs
@@ -27,7 +33,20 @@ cast-put-templates : tie.Need-cast-put-templates
 cast-put-templates c = search needs
 
 put-templates-requires : tie.Need-put-templates-requires
-put-templates-requires c κs = let h = c .before .before .before .before .before .before .before .before .before .before .before .pre in let a = c .before .before .before .before .before .before .before .before .before .before .before .args in let f = c .before .before .before .before .put-field .ensures in let b = c .before .before .before .before .before .before .bits-at .ensures in let w = templates-in (a .s .now) (h .0) _ _ (a .table .now) (a .tree .now) _ (b .0) (bytes-all (a .s .now) (λ i. omega (arith, c .before .before .before .before .before .before .before .before .before .before .shared-slice-known .given i))) (h .1) (h .2) (f .1) (f .0) in let p = file (a .s .now) (h .0) in (p .short, ap length (h .1) ∙ length-replicate {A = ℕ} 16384 0, omega (arith, b .0, p .few), omega (arith, h .2, c .before .before .before .before .put-field .kept .0), w)
+put-templates-requires c κs =
+    let pre = c .before .before .before .before .before .before .before .before .before .before .before .pre in
+    let args = c .before .before .before .before .before .before .before .before .before .before .before .args in
+    let shared-slice-known = c .before .before .before .before .before .before .before .before .before .before .shared-slice-known in
+    let bits-at = c .before .before .before .before .before .before .bits-at in
+    let put-field = c .before .before .before .before .put-field in
+    let h = pre in
+    let a = args in
+    let f = put-field .ensures in
+    let b = bits-at .ensures in
+    let w = templates-in (a .s .now) (h .0) _ _ (a .table .now) (a .tree .now) _ (b .0)
+    (bytes-all (a .s .now) (λ i. omega (arith, shared-slice-known .given i))) (h .1) (h .2) (f .1) (f .0) in
+    let p = file (a .s .now) (h .0) in
+    (p .short, ap length (h .1) ∙ length-replicate {A = ℕ} 16384 0, omega (arith, b .0, p .few), omega (arith, h .2, put-field .kept .0), w)
 
 enum-known-own : tie.Need-enum-known-own
 enum-known-own c = search needs
@@ -36,13 +55,50 @@ enum-known-end : tie.Need-enum-known-end
 enum-known-end c = search needs
 
 past-requires : tie.Need-past-requires
-past-requires c κs = let h = c .before .before .before .before .before .before .before .before .before .before .before .before .before .before .before .before .before .before .before .before .pre in let a = c .before .before .before .before .before .before .before .before .before .before .before .before .before .before .before .before .before .before .before .before .args in let f = c .before .before .before .before .before .before .before .before .before .before .before .before .before .put-field .ensures in let b = c .before .before .before .before .before .before .before .before .before .before .before .before .before .before .before .bits-at .ensures in let w = templates-in (a .s .now) (h .0) _ _ (a .table .now) (a .tree .now) _ (b .0) (bytes-all (a .s .now) (λ i. omega (arith, c .before .before .before .before .before .before .before .before .before .before .before .before .before .before .before .before .before .before .before .shared-slice-known .given i))) (h .1) (h .2) (f .1) (f .0) in let g = back-given (a .s .now) (h .0) (c .before .before .before .before .before .before .before .before .put-templates .ensures w) (length (a .out .now)) (a .out .now) (c .before .before .end .given .1) in omega (arith, g .room, h .2, c .before .before .before .before .before .before .before .before .before .before .before .before .before .put-field .kept .0)
+past-requires c κs =
+    let pre = c .before .before .before .before .before .before .before .before .before .before .before .before .before .before .before .before .before
+    .before .before .before .pre in
+    let args = c .before .before .before .before .before .before .before .before .before .before .before .before .before .before .before .before .before
+    .before .before .before .args in
+    let shared-slice-known = c .before .before .before .before .before .before .before .before .before .before .before .before .before .before .before
+    .before .before .before .before .shared-slice-known in
+    let bits-at = c .before .before .before .before .before .before .before .before .before .before .before .before .before .before .before .bits-at in
+    let put-field = c .before .before .before .before .before .before .before .before .before .before .before .before .before .put-field in
+    let put-templates = c .before .before .before .before .before .before .before .before .put-templates in
+    let h = pre in
+    let a = args in
+    let f = put-field .ensures in
+    let b = bits-at .ensures in
+    let w = templates-in (a .s .now) (h .0) _ _ (a .table .now) (a .tree .now) _ (b .0)
+    (bytes-all (a .s .now) (λ i. omega (arith, shared-slice-known .given i))) (h .1) (h .2) (f .1) (f .0) in
+    let g = back-given (a .s .now) (h .0) (put-templates .ensures w) (length (a .out .now)) (a .out .now) (c .before .before .end .given .1) in
+    omega (arith, g .room, h .2, put-field .kept .0)
 
 byte-requires : tie.Need-byte-requires
 byte-requires c κs = search needs
 
 give-requires : tie.Need-give-requires
-give-requires c κs = let h = c .before .before .before .before .before .before .before .before .before .before .before .before .before .before .before .before .before .before .before .before .before .before .before .pre in let a = c .before .before .before .before .before .before .before .before .before .before .before .before .before .before .before .before .before .before .before .before .before .before .before .args in let f = c .before .before .before .before .before .before .before .before .before .before .before .before .before .before .before .before .put-field .ensures in let b = c .before .before .before .before .before .before .before .before .before .before .before .before .before .before .before .before .before .before .bits-at .ensures in let w = templates-in (a .s .now) (h .0) _ _ (a .table .now) (a .tree .now) _ (b .0) (bytes-all (a .s .now) (λ i. omega (arith, c .before .before .before .before .before .before .before .before .before .before .before .before .before .before .before .before .before .before .before .before .before .before .shared-slice-known .given i))) (h .1) (h .2) (f .1) (f .0) in let g = back-given (a .s .now) (h .0) (c .before .before .before .before .before .before .before .before .before .before .before .put-templates .ensures w) (length (a .out .now)) (a .out .now) (c .before .before .before .before .before .end .given .1) in omega (arith, g .room, h .2, c .before .before .before .before .before .before .before .before .before .before .before .before .before .before .before .before .put-field .kept .0, c .before .before .before .before .before .before .before .before .before .before .before .put-templates .kept .1 .1 .1 .0, c .before .byte .ensures, c .before .before .past .ensures)
+give-requires c κs =
+    let pre = c .before .before .before .before .before .before .before .before .before .before .before .before .before .before .before .before .before
+    .before .before .before .before .before .before .pre in
+    let args = c .before .before .before .before .before .before .before .before .before .before .before .before .before .before .before .before .before
+    .before .before .before .before .before .before .args in
+    let shared-slice-known = c .before .before .before .before .before .before .before .before .before .before .before .before .before .before .before
+    .before .before .before .before .before .before .before .shared-slice-known in
+    let bits-at = c .before .before .before .before .before .before .before .before .before .before .before .before .before .before .before .before .before
+    .before .bits-at in
+    let put-field = c .before .before .before .before .before .before .before .before .before .before .before .before .before .before .before .before
+    .put-field in
+    let put-templates = c .before .before .before .before .before .before .before .before .before .before .before .put-templates in
+    let end = c .before .before .before .before .before .end in
+    let h = pre in
+    let a = args in
+    let f = put-field .ensures in
+    let b = bits-at .ensures in
+    let w = templates-in (a .s .now) (h .0) _ _ (a .table .now) (a .tree .now) _ (b .0)
+    (bytes-all (a .s .now) (λ i. omega (arith, shared-slice-known .given i))) (h .1) (h .2) (f .1) (f .0) in
+    let g = back-given (a .s .now) (h .0) (put-templates .ensures w) (length (a .out .now)) (a .out .now) (end .given .1) in
+    omega (arith, g .room, h .2, put-field .kept .0, put-templates .kept .1 .1 .1 .0, c .before .byte .ensures, c .before .before .past .ensures)
 
 same-length : tie.Need-same-length
 same-length c = search needs
@@ -51,7 +107,23 @@ same-length-2 : tie.Need-same-length-2
 same-length-2 c = search needs
 
 returns : tie.Need-returns
-returns c = let h = c .before .before .before .before .before .before .before .before .before .before .before .before .before .before .before .before .before .before .before .pre in let a = c .before .before .before .before .before .before .before .before .before .before .before .before .before .before .before .before .before .before .before .args in let f = c .before .before .before .before .before .before .before .before .before .before .before .before .put-field .ensures in let b = c .before .before .before .before .before .before .before .before .before .before .before .before .before .before .bits-at .ensures in let w = templates-in (a .s .now) (h .0) _ _ (a .table .now) (a .tree .now) _ (b .0) (bytes-all (a .s .now) (λ i. omega (arith, c .before .before .before .before .before .before .before .before .before .before .before .before .before .before .before .before .before .before .shared-slice-known .given i))) (h .1) (h .2) (f .1) (f .0) in back-stuck (a .s .now) (h .0) (c .before .before .before .before .before .before .before .put-templates .ensures w) (length (a .out .now)) (a .out .now) (c .before .own .given .1)
+returns c =
+    let pre = c .before .before .before .before .before .before .before .before .before .before .before .before .before .before .before .before .before
+    .before .before .pre in
+    let args = c .before .before .before .before .before .before .before .before .before .before .before .before .before .before .before .before .before
+    .before .before .args in
+    let shared-slice-known = c .before .before .before .before .before .before .before .before .before .before .before .before .before .before .before
+    .before .before .before .shared-slice-known in
+    let bits-at = c .before .before .before .before .before .before .before .before .before .before .before .before .before .before .bits-at in
+    let put-field = c .before .before .before .before .before .before .before .before .before .before .before .before .put-field in
+    let put-templates = c .before .before .before .before .before .before .before .put-templates in
+    let h = pre in
+    let a = args in
+    let f = put-field .ensures in
+    let b = bits-at .ensures in
+    let w = templates-in (a .s .now) (h .0) _ _ (a .table .now) (a .tree .now) _ (b .0)
+    (bytes-all (a .s .now) (λ i. omega (arith, shared-slice-known .given i))) (h .1) (h .2) (f .1) (f .0) in
+    back-stuck (a .s .now) (h .0) (put-templates .ensures w) (length (a .out .now)) (a .out .now) (c .before .own .given .1)
 
 same-length-3 : tie.Need-same-length-3
 same-length-3 c = search needs
@@ -63,7 +135,31 @@ same-length-5 : tie.Need-same-length-5
 same-length-5 c = search needs
 
 returns-2 : tie.Need-returns-2
-returns-2 c = let h = c .before .before .before .before .before .before .before .before .before .before .before .before .before .before .before .before .before .before .before .before .before .before .before .before .before .before .pre in let a = c .before .before .before .before .before .before .before .before .before .before .before .before .before .before .before .before .before .before .before .before .before .before .before .before .before .before .args in let f = c .before .before .before .before .before .before .before .before .before .before .before .before .before .before .before .before .before .before .before .put-field .ensures in let b = c .before .before .before .before .before .before .before .before .before .before .before .before .before .before .before .before .before .before .before .before .before .bits-at .ensures in let w = templates-in (a .s .now) (h .0) _ _ (a .table .now) (a .tree .now) _ (b .0) (bytes-all (a .s .now) (λ i. omega (arith, c .before .before .before .before .before .before .before .before .before .before .before .before .before .before .before .before .before .before .before .before .before .before .before .before .before .shared-slice-known .given i))) (h .1) (h .2) (f .1) (f .0) in let g = back-given (a .s .now) (h .0) (c .before .before .before .before .before .before .before .before .before .before .before .before .before .before .put-templates .ensures w) (length (a .out .now)) (a .out .now) (c .before .before .before .before .before .before .before .before .end .given .1) in let e = g .is _ (c .before .before .before .before .byte .ensures ∙ ap (λ x. x / 8) (c .before .before .before .before .before .past .ensures)) _ (a .tree .now) (b .0) (f .1) (f .0) in (c .before .before .give .ensures .0 ∙ ap answered (sym e), c .before .before .give .ensures .1 ∙ ap (written (a .out .now)) (sym e))
+returns-2 c =
+    let pre = c .before .before .before .before .before .before .before .before .before .before .before .before .before .before .before .before .before
+    .before .before .before .before .before .before .before .before .before .pre in
+    let args = c .before .before .before .before .before .before .before .before .before .before .before .before .before .before .before .before .before
+    .before .before .before .before .before .before .before .before .before .args in
+    let shared-slice-known = c .before .before .before .before .before .before .before .before .before .before .before .before .before .before .before
+    .before .before .before .before .before .before .before .before .before .before .shared-slice-known in
+    let bits-at = c .before .before .before .before .before .before .before .before .before .before .before .before .before .before .before .before .before
+    .before .before .before .before .bits-at in
+    let put-field = c .before .before .before .before .before .before .before .before .before .before .before .before .before .before .before .before .before
+    .before .before .put-field in
+    let put-templates = c .before .before .before .before .before .before .before .before .before .before .before .before .before .before .put-templates in
+    let end = c .before .before .before .before .before .before .before .before .end in
+    let past = c .before .before .before .before .before .past in
+    let byte = c .before .before .before .before .byte in
+    let give = c .before .before .give in
+    let h = pre in
+    let a = args in
+    let f = put-field .ensures in
+    let b = bits-at .ensures in
+    let w = templates-in (a .s .now) (h .0) _ _ (a .table .now) (a .tree .now) _ (b .0)
+    (bytes-all (a .s .now) (λ i. omega (arith, shared-slice-known .given i))) (h .1) (h .2) (f .1) (f .0) in
+    let g = back-given (a .s .now) (h .0) (put-templates .ensures w) (length (a .out .now)) (a .out .now) (end .given .1) in
+    let e = g .is _ (byte .ensures ∙ ap (λ x. x / 8) (past .ensures)) _ (a .tree .now) (b .0) (f .1) (f .0) in
+    (give .ensures .0 ∙ ap answered (sym e), give .ensures .1 ∙ ap (written (a .out .now)) (sym e))
 
 pub back-read-spec : {M : Type 1} → statement M
 back-read-spec =

@@ -37,7 +37,12 @@ loop-less : tie.Need-loop-less Inv-loop μ-loop
 loop-less c = omega arith
 
 loop-again : tie.Need-loop-again Inv-loop μ-loop
-loop-again c = let i = c .before .before .before .loop .inv in let h = c .before .before .before .before .before .pre in (scan-on _ _ _ _ _ _ _ (h .2) (c .before .before .loop-test .taken) refl (c .after .ensures) (i .0), omega (arith, after-low _ _ (c .after .ensures)))
+loop-again c =
+    let pre = c .before .before .before .before .before .pre in
+    let loop = c .before .before .before .loop in
+    let i = loop .inv in
+    let h = pre in
+    (scan-on _ _ _ _ _ _ _ (h .2) (c .before .before .loop-test .taken) refl (c .after .ensures) (i .0), omega (arith, after-low _ _ (c .after .ensures)))
 
 returns : tie.Need-returns Inv-loop μ-loop
 returns c = sym (c .before .before .loop .inv .0 .outside (c .if1 .taken))

@@ -41,13 +41,25 @@ loop-less : tie.Need-loop-less Inv-loop μ-loop
 loop-less c = search needs
 
 loop-again : tie.Need-loop-again Inv-loop μ-loop
-loop-again c = let i = c .before .before .loop .inv in (omega arith, simp length-set (i .1), copy-on _ _ _ _ (i .2) (omega (arith, c .before .before .before .if2 .left)) (omega (arith, c .before .before .before .before .before .pre)))
+loop-again c =
+    let pre = c .before .before .before .before .before .pre in
+    let if2 = c .before .before .before .if2 in
+    let i = c .before .before .loop .inv in
+    (omega arith, simp length-set (i .1), copy-on _ _ _ _ (i .2) (omega (arith, if2 .left)) (omega (arith, pre)))
 
 same-length : tie.Need-same-length Inv-loop μ-loop
 same-length c = c .before .loop .inv .1
 
 returns-3 : tie.Need-returns-3 Inv-loop μ-loop
-returns-3 c = let a = c .before .before .before .before .args in let i = c .before .loop .inv in let e : c .before .loop .i ≡ a .n = omega (arith, i .0, c .loop-test .left) in give-all (a .tree .now) (a .out .now) (a .n) (c .before .before .before .before .pre) (c .before .before .before .if1 .left) (c .before .before .if2 .left) (i .2 ∙ ap (paste (a .out .now) 0 (a .tree .now)) e)
+returns-3 c =
+    let pre = c .before .before .before .before .pre in
+    let args = c .before .before .before .before .args in
+    let if1 = c .before .before .before .if1 in
+    let loop = c .before .loop in
+    let a = args in
+    let i = loop .inv in
+    let e : loop .i ≡ a .n = omega (arith, i .0, c .loop-test .left) in
+    give-all (a .tree .now) (a .out .now) (a .n) (pre) (if1 .left) (c .before .before .if2 .left) (i .2 ∙ ap (paste (a .out .now) 0 (a .tree .now)) e)
 
 pub give-spec : {M : Type 1} → statement M
 give-spec =

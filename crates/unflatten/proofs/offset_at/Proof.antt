@@ -26,7 +26,9 @@ cast-result-2 : tie.Need-cast-result-2
 cast-result-2 c = omega (arith, c .shared-slice-known2 .given (c .before .before .args .at + 1))
 
 add-result-2 : tie.Need-add-result-2
-add-result-2 c = omega (arith, c .before .shared-slice-known .given (c .before .before .args .at), c .shared-slice-known2 .given (c .before .before .args .at + 1))
+add-result-2 c =
+    let args = c .before .before .args in
+    omega (arith, c .before .shared-slice-known .given (args .at), c .shared-slice-known2 .given (args .at + 1))
 
 returns : tie.Need-returns
 returns c = search needs

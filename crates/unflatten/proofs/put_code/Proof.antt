@@ -32,10 +32,20 @@ cast-to : tie.Need-cast-to
 cast-to c = search needs
 
 add-to : tie.Need-add-to
-add-to c = let h = c .before .before .before .before .before .before .before .pre in let z = told-read _ _ _ (h .4 .read) (c .before .before .before .read-three .ensures) (c .before .n .given .1) in omega (arith, h .0, h .4 .inside, z)
+add-to c =
+    let pre = c .before .before .before .before .before .before .before .pre in
+    let read-three = c .before .before .before .read-three in
+    let h = pre in
+    let z = told-read _ _ _ (h .4 .read) (read-three .ensures) (c .before .n .given .1) in
+    omega (arith, h .0, h .4 .inside, z)
 
 put-list-requires : tie.Need-put-list-requires
-put-list-requires c κs = let h = c .before .before .before .before .before .before .before .before .pre in let z = told-read _ _ _ (h .4 .read) (c .before .before .before .before .read-three .ensures) (c .before .before .n .given .1) in (h .0, h .1, h .2, omega arith, omega (arith, h .4 .inside, z), h .3, omega (arith, h .4 .room, z))
+put-list-requires c κs =
+    let pre = c .before .before .before .before .before .before .before .before .pre in
+    let read-three = c .before .before .before .before .read-three in
+    let h = pre in
+    let z = told-read _ _ _ (h .4 .read) (read-three .ensures) (c .before .before .n .given .1) in
+    (h .0, h .1, h .2, omega arith, omega (arith, h .4 .inside, z), h .3, omega (arith, h .4 .room, z))
 
 enum-told-2 : tie.Need-enum-told-2
 enum-told-2 c = search needs
@@ -47,13 +57,21 @@ same-length : tie.Need-same-length
 same-length c = c .before .before .before .before .put-list .kept .1 .1 .1 .1 .1 .1 .1 .0
 
 returns-2 : tie.Need-returns-2
-returns-2 c = λ n q e. grows-none _ _ _ n _ _ _ (told-read _ _ _ e (c .before .before .before .before .before .before .before .before .before .read-three .ensures) (c .before .before .before .before .before .before .before .n .given .1)) (c .before .before .before .before .put-list .ensures) (c .enum-told2 .given .1)
+returns-2 c =
+    let read-three = c .before .before .before .before .before .before .before .before .before .read-three in
+    let n′ = c .before .before .before .before .before .before .before .n in
+    let put-list = c .before .before .before .before .put-list in
+    λ n q e. grows-none _ _ _ n _ _ _ (told-read _ _ _ e (read-three .ensures) (n′ .given .1)) (put-list .ensures) (c .enum-told2 .given .1)
 
 same-length-2 : tie.Need-same-length-2
 same-length-2 c = c .before .before .before .before .before .put-list .kept .1 .1 .1 .1 .1 .1 .1 .0
 
 returns-3 : tie.Need-returns-3
-returns-3 c = λ n q e. grows-on _ _ _ n _ _ _ (told-read _ _ _ e (c .before .before .before .before .before .before .before .before .before .before .read-three .ensures) (c .before .before .before .before .before .before .before .before .n .given .1)) (c .before .before .before .before .before .put-list .ensures) (c .before .past .given .1)
+returns-3 c =
+    let read-three = c .before .before .before .before .before .before .before .before .before .before .read-three in
+    let n′ = c .before .before .before .before .before .before .before .before .n in
+    let put-list = c .before .before .before .before .before .put-list in
+    λ n q e. grows-on _ _ _ n _ _ _ (told-read _ _ _ e (read-three .ensures) (n′ .given .1)) (put-list .ensures) (c .before .past .given .1)
 
 pub put-code-spec : {M : Type 1} → statement M
 put-code-spec =

@@ -21,31 +21,72 @@ loop-holds : tie.Need-loop-holds Inv-loop μ-loop
 loop-holds c = let h = c .before .before .before .pre in growing-begun _ _ _ _ _ _ _ (omega arith) (h .4)
 
 put-template-requires : tie.Need-put-template-requires Inv-loop μ-loop
-put-template-requires c κs = let h = c .before .before .before .before .before .before .before .pre in let g = c .before .before .before .loop .inv in (h .0, g .rows ∙ h .1, omega (arith, c .before .before .loop-test .taken, h .2), h .2, omega (arith, h .3, g .long), this-one _ _ _ _ _ _ _ _ _ _ _ _ g (c .before .before .loop-test .taken) (h .2))
+put-template-requires c κs =
+    let pre = c .before .before .before .before .before .before .before .pre in
+    let loop = c .before .before .before .loop in
+    let loop-test = c .before .before .loop-test in
+    let h = pre in
+    let g = loop .inv in (
+      h .0,
+      g .rows ∙ h .1,
+      omega (arith, loop-test .taken, h .2),
+      h .2,
+      omega (arith, h .3, g .long),
+      this-one _ _ _ _ _ _ _ _ _ _ _ _ g (loop-test .taken) (h .2),
+    )
 
 enum-told : tie.Need-enum-told Inv-loop μ-loop
 enum-told c = search needs
 
 same-length : tie.Need-same-length Inv-loop μ-loop
-same-length c = c .before .before .before .before .before .before .put-template .kept .1 .0 ∙ c .before .before .before .before .before .before .before .before .before .before .loop .inv .rows
+same-length c =
+    let loop = c .before .before .before .before .before .before .before .before .before .before .loop in
+    let put-template = c .before .before .before .before .before .before .put-template in
+    put-template .kept .1 .0 ∙ loop .inv .rows
 
 same-length-2 : tie.Need-same-length-2 Inv-loop μ-loop
-same-length-2 c = c .before .before .before .before .before .before .put-template .kept .1 .1 .1 .1 .1 .0 ∙ c .before .before .before .before .before .before .before .before .before .before .loop .inv .long
+same-length-2 c =
+    let loop = c .before .before .before .before .before .before .before .before .before .before .loop in
+    let put-template = c .before .before .before .before .before .before .put-template in
+    put-template .kept .1 .1 .1 .1 .1 .0 ∙ loop .inv .long
 
 returns : tie.Need-returns Inv-loop μ-loop
-returns c = let h = c .before .before .before .before .before .before .before .before .before .before .before .before .before .before .pre in let g = c .before .before .before .before .before .before .before .before .before .before .loop .inv in let t = c .before .before .before .before .before .before .before .before .before .loop-test .taken in growing-stuck _ _ _ _ _ _ _ _ _ _ _ _ g t (h .2) (c .before .before .before .before .before .before .put-template .ensures .0 (this-one _ _ _ _ _ _ _ _ _ _ _ _ g t (h .2))) (c .enum-told .given .1)
+returns c =
+    let pre = c .before .before .before .before .before .before .before .before .before .before .before .before .before .before .pre in
+    let loop = c .before .before .before .before .before .before .before .before .before .before .loop in
+    let loop-test = c .before .before .before .before .before .before .before .before .before .loop-test in
+    let put-template = c .before .before .before .before .before .before .put-template in
+    let h = pre in
+    let g = loop .inv in
+    let t = loop-test .taken in
+    growing-stuck _ _ _ _ _ _ _ _ _ _ _ _ g t (h .2) (put-template .ensures .0 (this-one _ _ _ _ _ _ _ _ _ _ _ _ g t (h .2))) (c .enum-told .given .1)
 
 enum-known-next : tie.Need-enum-known-next Inv-loop μ-loop
 enum-known-next c = search needs
 
 add-own : tie.Need-add-own Inv-loop μ-loop
-add-own c = let h = c .before .before .before .before .before .before .before .before .before .before .before .before .before .before .before .pre in omega (arith, c .before .before .before .before .before .before .before .before .before .before .loop-test .taken, h .2)
+add-own c =
+    let pre = c .before .before .before .before .before .before .before .before .before .before .before .before .before .before .before .pre in
+    let loop-test = c .before .before .before .before .before .before .before .before .before .before .loop-test in
+    let h = pre in
+    omega (arith, loop-test .taken, h .2)
 
 loop-less : tie.Need-loop-less Inv-loop μ-loop
 loop-less c = let t = c .before .before .before .before .before .before .before .before .before .before .loop-test .taken in omega (arith, t)
 
 loop-again : tie.Need-loop-again Inv-loop μ-loop
-loop-again c = let h = c .before .before .before .before .before .before .before .before .before .before .before .before .before .before .before .pre in let g = c .before .before .before .before .before .before .before .before .before .before .before .loop .inv in let t = c .before .before .before .before .before .before .before .before .before .before .loop-test .taken in let w = this-one _ _ _ _ _ _ _ _ _ _ _ _ g t (h .2) in growing-on _ _ _ _ _ _ _ _ _ _ _ _ g t (h .2) (c .before .before .before .before .before .before .before .put-template .ensures .0 w) (c .before .next .given .1) (next-zeros _ _ _ _ _ _ _ (g .rows ∙ h .1) (omega (arith, t, h .2)) (h .2) w _ (c .before .before .before .before .before .before .before .put-template .ensures .1)) (c .before .before .before .before .before .before .before .put-template .kept .1 .0) (c .before .before .before .before .before .before .before .put-template .kept .1 .1 .1 .1 .1 .0)
+loop-again c =
+    let pre = c .before .before .before .before .before .before .before .before .before .before .before .before .before .before .before .pre in
+    let loop = c .before .before .before .before .before .before .before .before .before .before .before .loop in
+    let loop-test = c .before .before .before .before .before .before .before .before .before .before .loop-test in
+    let put-template = c .before .before .before .before .before .before .before .put-template in
+    let h = pre in
+    let g = loop .inv in
+    let t = loop-test .taken in
+    let w = this-one _ _ _ _ _ _ _ _ _ _ _ _ g t (h .2) in
+    growing-on _ _ _ _ _ _ _ _ _ _ _ _ g t (h .2) (put-template .ensures .0 w) (c .before .next .given .1)
+    (next-zeros _ _ _ _ _ _ _ (g .rows ∙ h .1) (omega (arith, t, h .2)) (h .2) w _ (put-template .ensures .1)) (put-template .kept .1 .0)
+    (put-template .kept .1 .1 .1 .1 .1 .0)
 
 same-length-3 : tie.Need-same-length-3 Inv-loop μ-loop
 same-length-3 c = c .before .loop .inv .rows
