@@ -3,9 +3,10 @@ use cells::BitPlace;
 use fields::Field;
 ghost use mathlib.Core.Path.{_≡_};
 ghost use mathlib.Core.Bool.{cond, _&&_, _||_};
-ghost use Prim.Native.Nat.{_+_, _*_, _≤_, _<_};
+ghost use Prim.Native.Nat.{_+_, _*_, _/_, _≤_, _<_};
 ghost use lib.ListN.{length};
 ghost use lib.Dec.{eqb};
+ghost use Rattle.fields.specs.Field.{fieldAt};
 ghost use Rattle.files.specs.Codes.{shapeOf};
 ghost use Rattle.files.specs.Flat.{armsFit};
 ghost use Rattle.files.specs.Reading.{headAt, deepOf, listAt};
@@ -127,6 +128,19 @@ pub fn shape_of(code: u32) -> u8
     }
 }
 
+// The same without a jump, four bits for each code, codes 0 and 16 lowest: reading meets codes in any order, and a jump would often be foreseen wrongly.
+fn shape_by_words(code: u32) -> u8
+    requires { ⌜ code < 32 ⌝ }
+    ensures { λ r. ⌜ r ≡ shapeOf code ⌝ }
+{
+    let word: u64 = if code < 16 {
+        0x1621332222654210
+    } else {
+        0x6666661111111162
+    };
+    ((word >> (4 * (code % 16))) % 16) as u8
+}
+
 fn both(x: bool, y: bool) -> bool
     ensures { λ r. ⌜ r ≡ (x && y) ⌝ }
 {
@@ -155,17 +169,11 @@ fn slot_fits(code: u32, slot: u64) -> bool
 
 // The first operand of a neutral code suits it, if it is an index.
 fn slot_named(table: &[u64], own: usize, code: u32, n: u32) -> bool
-    requires { ⌜ (length (now table) ≡ 16384) × (own < 64) × (n < 256) ⌝ }
+    requires { ⌜ (256 * own + 256 ≤ length (now table)) × (own < 64) × (n < 256) ⌝ }
     ensures { λ r. ⌜ r ≡ slotNamed (now (table .entry)) own code n ⌝ }
 {
-    if 9 < code {
-        return true;
-    }
-    if n == 0 {
-        return false;
-    }
-    let slot = 256 * own + n as usize;
-    slot_fits(code, table[slot])
+    let slot = table[256 * own + n as usize];
+    either(9 < code, both(n != 0, slot_fits(code, slot)))
 }
 
 // Both sets of templates together.
@@ -177,22 +185,20 @@ fn unite(x: u64, y: u64) -> u64
 
 // The set of the template that a neutral code names: a closure's, where its entry suits it.
 fn slot_closes(table: &[u64], own: usize, code: u32, n: u32) -> u64
-    requires { ⌜ (length (now table) ≡ 16384) × (own < 64) × (n < 256) ⌝ }
+    requires { ⌜ (256 * own + 256 ≤ length (now table)) × (own < 64) × (n < 256) ⌝ }
     ensures { λ r. ⌜ r ≡ slotCloses (now (table .entry)) own code n ⌝ }
 {
-    if code != 7 {
-        return 0;
+    let slot = table[256 * own + n as usize];
+    if both(code == 7, slot_named(table, own, code, n)) {
+        1u64 << (slot % 64)
+    } else {
+        0
     }
-    if slot_named(table, own, code, n) {
-        let slot = 256 * own + n as usize;
-        return 1u64 << (table[slot] % 64);
-    }
-    0
 }
 
 // What an instruction without lists adds: its code, how many operands it has, and the first of them.
 fn simple_added(table: &[u64], own: usize, code: u32, operands: usize, n: u32) -> Added
-    requires { ⌜ (length (now table) ≡ 16384) × (own < 64) × (operands ≤ 2) × (n < 256) ⌝ }
+    requires { ⌜ (256 * own + 256 ≤ length (now table)) × (own < 64) × (operands ≤ 2) × (n < 256) ⌝ }
     ensures { λ r. ⌜ r ≡ simpleAdded (now (table .entry)) own code operands n ⌝ }
 {
     let size = 1 + operands;
@@ -443,24 +449,22 @@ pub fn mark_at(marks: &[u32], at: BitPlace) -> u32
 
 // ---- reading
 
-// An instruction without lists whose code ends at a place, by its code's shape.
-fn read_simple(s: &[u8], table: &[u64], own: usize, at: BitPlace, code: u32, shape: u8) -> Item
-    requires { ⌜ (length (now s) ≤ 65536) × (length (now table) ≡ 16384) × (own < 64) × (shapeOf code ≡ shape) × (1 ≤ shape) × (shape ≤ 3) ⌝ }
-    ensures { λ r. ⌜ r ≡ itemed (now (table .entry)) own (simpleAt (now (s .entry)) code (at .0) shape) ⌝ }
+// An instruction without lists at a place, by its line, the 21 bits there, and its code's shape.
+fn read_simple(s: &[u8], table: &[u64], own: usize, at: BitPlace, line: u32, shape: u8) -> Item
+    requires { ⌜ (length (now s) ≤ 65536) × (256 * own + 256 ≤ length (now table)) × (own < 64) × (line ≡ fieldAt (now s) (at .0) 21)
+        × (at .0 + 5 ≤ 8 * length (now s)) × (shapeOf (line / 0x10000) ≡ shape) × (1 ≤ shape) × (shape ≤ 3) ⌝ }
+    ensures { λ r. ⌜ r ≡ itemed (now (table .entry)) own (simpleAt (now (s .entry)) (line / 0x10000) (at .0 + 5) shape) ⌝ }
 {
-    if shape == 1 {
-        return Item::More(at, simple_added(table, own, code, 0, 0));
+    let operands = (shape - 1) as usize;
+    let bits = 5 + 8 * operands;
+    if at.within(bits, s.len()) {
+        let added = simple_added(table, own, line / 0x10000, operands, line / 0x100 % 0x100);
+        return Item::More(at.past(bits), added);
     }
-    let Field::Read(first, second) = fields::read_field(s, at, 8) else {
-        return Item::Bad(2, at);
-    };
-    if shape == 2 {
-        return Item::More(second, simple_added(table, own, code, 1, first));
+    if at.within(13, s.len()) {
+        return Item::Bad(2, at.past(13));
     }
-    let Field::Read(_, last) = fields::read_field(s, second, 8) else {
-        return Item::Bad(2, second);
-    };
-    Item::More(last, simple_added(table, own, code, 2, first))
+    Item::Bad(2, at.past(5))
 }
 
 // An unless-false whose code ends at a place, with `levels` levels left below its arms.
@@ -473,7 +477,7 @@ fn read_conditional(
     keep: Keep,
     marks: &mut [u32],
 ) -> Item
-    requires { ⌜ (length (now s) ≤ 65536) × (length (now table) ≡ 16384) × (own < 64) ⌝ }
+    requires { ⌜ (length (now s) ≤ 65536) × (256 * own + 256 ≤ length (now table)) × (own < 64) ⌝ }
     ensures { λ r. ⌜ r ≡ itemed (now (table .entry)) own (deepAt (now (s .entry)) levels (at .0) 4) ⌝ }
     ensures { λ _. ⌜ headMarked keep (now (marks .entry)) (now (marks .exit)) (at .0) (deepAt (now (s .entry)) levels (at .0) 4) ⌝ }
 {
@@ -496,7 +500,7 @@ fn read_make_cont(
     keep: Keep,
     marks: &mut [u32],
 ) -> Item
-    requires { ⌜ (length (now s) ≤ 65536) × (length (now table) ≡ 16384) × (own < 64) ⌝ }
+    requires { ⌜ (length (now s) ≤ 65536) × (256 * own + 256 ≤ length (now table)) × (own < 64) ⌝ }
     ensures { λ r. ⌜ r ≡ itemed (now (table .entry)) own (deepAt (now (s .entry)) levels (at .0) 5) ⌝ }
     ensures { λ _. ⌜ headMarked keep (now (marks .entry)) (now (marks .exit)) (at .0) (deepAt (now (s .entry)) levels (at .0) 5) ⌝ }
 {
@@ -519,17 +523,19 @@ fn read_instr(
     keep: Keep,
     marks: &mut [u32],
 ) -> Item
-    requires { ⌜ (length (now s) ≤ 65536) × (length (now table) ≡ 16384) × (own < 64) ⌝ }
+    requires { ⌜ (length (now s) ≤ 65536) × (256 * own + 256 ≤ length (now table)) × (own < 64) ⌝ }
     ensures { λ r. ⌜ r ≡ itemed (now (table .entry)) own (headAt (now (s .entry)) (deepOf (now (s .entry)) levels) (at .0)) ⌝ }
     ensures { λ _. ⌜ headMarked keep (now (marks .entry)) (now (marks .exit)) (at .0 + 5) (headAt (now (s .entry)) (deepOf (now (s .entry)) levels) (at .0)) ⌝ }
 {
-    let Field::Read(code, next) = fields::read_field(s, at, 5) else {
+    if !at.within(5, s.len()) {
         return Item::Bad(2, at);
-    };
-    let shape = shape_of(code);
+    }
+    let line = fields::line_at(s, at);
+    let next = at.past(5);
+    let shape = shape_by_words(line / 0x10000);
     match shape {
         0 => Item::End(next),
-        1 | 2 | 3 => read_simple(s, table, own, next, code, shape),
+        1 | 2 | 3 => read_simple(s, table, own, at, line, shape),
         4 | 5 => {
             if levels == 0 {
                 return Item::Bad(4, at);
@@ -555,7 +561,7 @@ pub fn read_list(
     keep: Keep,
     marks: &mut [u32],
 ) -> Listed
-    requires { ⌜ (length (now s) ≤ 65536) × (length (now table) ≡ 16384) × (own < 64) ⌝ }
+    requires { ⌜ (length (now s) ≤ 65536) × (256 * own + 256 ≤ length (now table)) × (own < 64) ⌝ }
     ensures { λ r. ⌜ r ≡ listed (now (table .entry)) own (listAt (now (s .entry)) levels (at .0)) ⌝ }
     ensures { λ _. ⌜ listMarked keep (now (marks .entry)) (now (marks .exit)) (at .0) (listAt (now (s .entry)) levels (at .0)) ⌝ }
 {

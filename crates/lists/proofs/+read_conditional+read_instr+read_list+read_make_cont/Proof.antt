@@ -24,11 +24,14 @@ use Rattle.lists.proofs.mark_of.Reads as mark-of-reads
 use Rattle.lists.proofs.set_mark.Reads as set-mark-reads
 use Rattle.lists.proofs.read_simple.Reads as read-simple-reads
 use Rattle.lists.proofs.save_added.Reads as save-added-reads
-use Rattle.lists.proofs.shape_of.Reads as shape-of-reads
+use Rattle.lists.proofs.shape_by_words.Reads as shape-by-words-reads
+use Rattle.fields.proofs.line_at.Reads as line-at-reads
+use Rattle.cells.proofs.BitPlace.past.Reads as past-reads
+use Rattle.cells.proofs.BitPlace.within.Reads as within-reads
 use Rattle.lists.proofs.state_after.Reads as state-after-reads
 use Rattle.lists.proofs.+read_conditional+read_instr+read_list+read_make_cont.{statement}
 use Rattle.lists.proofs.+read_conditional+read_instr+read_list+read_make_cont.Tie.{close}
-use Prim.Native.Nat.{_+_, _*_, _-_, _≤_}
+use Prim.Native.Nat.{_+_, _*_, _-_, _/_, _≤_}
 use native.Mathlib.Omega.{arith}
 use mathlib.Core.Path.{_≡_, refl, sym, ap, _∙_}
 use borrow.Author.Needs.{needs}
@@ -36,13 +39,16 @@ use lib.ListN.{length}
 use Rattle.files.specs.Reading.{shaped, headAt, deepOf, listAt}
 use Rattle.files.specs.laws.Heads.{code-cut, code-read, no-code, first-arm-refused, second-arm-refused, conditional-read, count-cut, saved-refused, make-cont-read}
 use Rattle.lists.specs.Facts.{listed}
-use Rattle.lists.specs.Pass.{addedBy, begun, listedFrom, itemed, deepAt}
-use Rattle.fields.specs.laws.Laws.{value-of}
+use Rattle.lists.specs.Pass.{addedBy, begun, listedFrom, itemed, simpleAt, deepAt}
+use Rattle.fields.specs.laws.Laws.{value-of, cut}
+use Rattle.fields.specs.Field.{fieldRead}
+use Rattle.fields.specs.declared.Field.the-variants.{Read}
+use borrow.Author.Tests.{leb-true, leb-false, not-true, not-false}
 use Rattle.lists.specs.declared.Listed.the-variants.{Done}
 use Rattle.lists.specs.Marks.{listMarked, headMarked}
 use Rattle.lists.specs.laws.MarkSteps.{simple-marked, code-marked, arms-marked, saved-marked, Marking, marking-begun, marking-more, marking-end, list-marked, listed-near}
 use Rattle.lists.specs.laws.PassLaws.{listed-begun}
-use Rattle.lists.specs.laws.ReadLaws.{read-below, simple-anywhere, deep-anywhere, deep-last, listed-done, listed-refused, listed-size, turn-end, turn-more, turn-bad, turn-bits, tail-size}
+use Rattle.lists.specs.laws.ReadLaws.{line-read, read-below, simple-anywhere, deep-anywhere, deep-last, listed-done, listed-refused, listed-size, turn-end, turn-more, turn-bad, turn-bits, tail-size}
 
 abbrev μ-read-conditional : Measures 3 read-conditional-kinds.ps ℕ
 μ-read-conditional κs a = 3 * a .1 .1 .1 .1 .0 + 3
@@ -107,7 +113,7 @@ abbrev read-conditional-calls : ℕ → read-conditional-lts.Claims
 read-conditional-calls t = (read-list-below t, read-list.Post, conditional-added-reads.Asked, conditional-added-reads.Learnt)
 
 abbrev read-instr-calls : ℕ → read-instr-lts.Claims
-read-instr-calls t = (read-field-reads.Asked, read-field-reads.Learnt, shape-of-reads.Asked, shape-of-reads.Learnt, read-simple-reads.Asked, read-simple-reads.Learnt, read-conditional-below t, read-conditional.Post, read-make-cont-below t, read-make-cont.Post)
+read-instr-calls t = (within-reads.Asked, within-reads.Learnt, line-at-reads.Asked, line-at-reads.Learnt, past-reads.Asked, past-reads.Learnt, shape-by-words-reads.Asked, shape-by-words-reads.Learnt, read-simple-reads.Asked, read-simple-reads.Learnt, read-conditional-below t, read-conditional.Post, read-make-cont-below t, read-make-cont.Post)
 
 abbrev read-list-calls : ℕ → read-list-lts.Claims
 read-list-calls t = (begin-reads.Asked, begin-reads.Learnt, read-instr-below t, read-instr.Post, finished-reads.Asked, finished-reads.Learnt, mark-of-reads.Asked, mark-of-reads.Learnt, set-mark-reads.Asked, set-mark-reads.Learnt, state-after-reads.Asked, state-after-reads.Learnt)
@@ -157,29 +163,55 @@ read-conditional-returns-3 : (t : ℕ) → read-conditional-lts.Need-returns-3 (
 unfolding itemed headMarked
 read-conditional-returns-3 t c = rw (first-arm-refused _ _ _ _ _ _ _ (listed-refused _ _ _ _ _ (sym (c .before .before .before .before .before .read-list .ensures .0) ∙ c .before .no2 .given .1))) (refl, tt)
 
--- the instruction is read by its code's shape
-at-code : (t : ℕ) (k : read-instr-lts.After-shape-of (read-instr-calls t) (read-instr-at t) read-instr.Post)
-    → headAt (k .before .before .before .before .before .before .before .before .args .s .now) (deepOf (k .before .before .before .before .before .before .before .before .args .s .now) (k .before .before .before .before .before .before .before .before .args .levels)) (k .before .before .before .before .before .before .before .before .args .at .0) ≡ shaped (k .before .before .before .before .before .before .before .before .args .s .now) (deepOf (k .before .before .before .before .before .before .before .before .args .s .now) (k .before .before .before .before .before .before .before .before .args .levels)) (k .before .before .before .before .before .before .before .before .args .at .0) (k .before .before .code .given .0 .0) (k .before .before .code .given .0 .1 .0 .0) (k .shape-of .result)
-at-code t k = code-read _ _ _ _ _ _ (sym (k .before .before .before .before .read-field .ensures) ∙ k .before .before .code .given .1) (sym (k .shape-of .ensures))
+-- the code is read, and the instruction by its shape
+code-there : (t : ℕ) (k : read-instr-lts.After-past (read-instr-calls t) (read-instr-at t) read-instr.Post) →
+    let a = k .before .before .before .before .before .before .before .args in
+    fieldRead (a .s .now) (a .at .0) 5 ≡ Read (k .before .line-at .result / 65536) (k .past .result)
+code-there t k =
+    line-read _ _ _ (k .before .line-at .ensures .0) (leb-true _ _ (sym (k .before .before .before .within .ensures) ∙ not-false _ (k .before .before .if1 .left))) _
+    (k .past .ensures)
 
-read-instr-read-field-requires : (t : ℕ) → read-instr-lts.Need-read-field-requires (read-instr-calls t) (read-instr-at t) read-instr.Post
-read-instr-read-field-requires t c κs = search needs
+at-code : (t : ℕ) (k : read-instr-lts.After-shape-by-words (read-instr-calls t) (read-instr-at t) read-instr.Post) →
+    let a = k .before .before .before .before .before .before .before .before .args in
+    headAt (a .s .now) (deepOf (a .s .now) (a .levels)) (a .at .0)
+    ≡ shaped (a .s .now) (deepOf (a .s .now) (a .levels)) (a .at .0) (k .before .before .line-at .result / 65536) (k .before .past .result .0)
+    (k .shape-by-words .result)
+at-code t k = code-read _ _ _ _ _ _ (code-there t (k .before)) (sym (k .shape-by-words .ensures))
 
-read-instr-enum-known-code : (t : ℕ) → read-instr-lts.Need-enum-known-code (read-instr-calls t) (read-instr-at t) read-instr.Post
-read-instr-enum-known-code t c = search needs
-
-read-instr-enum-told : (t : ℕ) → read-instr-lts.Need-enum-told (read-instr-calls t) (read-instr-at t) read-instr.Post
-read-instr-enum-told t c = search needs
+read-instr-within-requires : (t : ℕ) → read-instr-lts.Need-within-requires (read-instr-calls t) (read-instr-at t) read-instr.Post
+read-instr-within-requires t c κs = search needs
 
 read-instr-returns : (t : ℕ) → read-instr-lts.Need-returns (read-instr-calls t) (read-instr-at t) read-instr.Post
 unfolding itemed headMarked
-read-instr-returns t c = rw (code-cut _ _ _ (sym (c .before .before .read-field .ensures) ∙ c .enum-told .given .1)) (refl, tt)
+read-instr-returns t c = rw (code-cut _ _ _ (sym (cut _ _ 5 (leb-false _ _ (sym (c .before .within .ensures) ∙ not-true _ (c .if1 .taken)))))) (refl, tt)
 
-read-instr-shape-of-requires : (t : ℕ) → read-instr-lts.Need-shape-of-requires (read-instr-calls t) (read-instr-at t) read-instr.Post
-read-instr-shape-of-requires t c κs = read-below _ _ 5 _ _ (sym (c .before .before .before .read-field .ensures) ∙ c .before .code .given .1)
+read-instr-line-at-requires : (t : ℕ) → read-instr-lts.Need-line-at-requires (read-instr-calls t) (read-instr-at t) read-instr.Post
+read-instr-line-at-requires t c κs =
+    let pre = c .before .before .before .before .before .pre in
+    let args = c .before .before .before .before .before .args in
+    let here : args .at .0 + 5 ≤ 8 * length (args .s .now) = leb-true _ _ (sym (c .before .within .ensures) ∙ not-false _ (c .if1 .left)) in
+    (omega (arith, pre .1 .0), omega (arith, here))
+
+read-instr-past-requires : (t : ℕ) → read-instr-lts.Need-past-requires (read-instr-calls t) (read-instr-at t) read-instr.Post
+read-instr-past-requires t c κs =
+    let pre = c .before .before .before .before .before .before .pre in
+    let args = c .before .before .before .before .before .before .args in
+    let here : args .at .0 + 5 ≤ 8 * length (args .s .now) =
+    leb-true _ _ (sym (c .before .before .within .ensures) ∙ not-false _ (c .before .if1 .left)) in
+    omega (arith, here, pre .1 .0)
+
+read-instr-shape-by-words-requires : (t : ℕ) → read-instr-lts.Need-shape-by-words-requires (read-instr-calls t) (read-instr-at t) read-instr.Post
+read-instr-shape-by-words-requires t c κs = omega (arith, c .before .line-at .ensures .1)
 
 read-instr-read-simple-requires : (t : ℕ) → read-instr-lts.Need-read-simple-requires (read-instr-calls t) (read-instr-at t) read-instr.Post
-read-instr-read-simple-requires t c κs = (c .before .before .before .before .before .before .before .before .before .before .pre .1 .0, c .before .before .before .before .before .before .before .before .before .before .pre .1 .1, c .before .before .before .before .before .before .before .before .before .before .pre .1 .2, sym (c .before .before .shape-of .ensures), omega arith, omega arith)
+read-instr-read-simple-requires t c κs =
+    let pre = c .before .before .before .before .before .before .before .before .before .before .pre in
+    let line-at = c .before .before .before .before .line-at in
+    let within = c .before .before .before .before .before .before .within in
+    let if1 = c .before .before .before .before .before .if1 in
+    let shape-by-words = c .before .before .shape-by-words in
+    let here = leb-true _ _ (sym (within .ensures) ∙ not-false _ (if1 .left)) in
+    (pre .1 .0, pre .1 .1, pre .1 .2, line-at .ensures .0, here, sym (shape-by-words .ensures), omega arith, omega arith)
 
 read-instr-returns-2 : (t : ℕ) → read-instr-lts.Need-returns-2 (read-instr-calls t) (read-instr-at t) read-instr.Post
 unfolding itemed headMarked
@@ -199,22 +231,29 @@ read-instr-read-make-cont-requires t c κs = search needs
 
 read-instr-returns-3 : (t : ℕ) → read-instr-lts.Need-returns-3 (read-instr-calls t) (read-instr-at t) read-instr.Post
 unfolding itemed shaped headMarked
-read-instr-returns-3 t c = rw (at-code t (c .before), c .match2 .keys1) (refl, refl)
+read-instr-returns-3 t c = rw (at-code t (c .before), c .match .keys1) (refl, refl)
 
 read-instr-returns-4 : (t : ℕ) → read-instr-lts.Need-returns-4 (read-instr-calls t) (read-instr-at t) read-instr.Post
-read-instr-returns-4 t c = let e = at-code t (c .before .before .before) ∙ simple-anywhere _ _ _ _ _ _ (omega arith) (omega arith) in (c .read-simple .ensures ∙ ap (itemed _ _) (sym e), rw e (simple-marked _ _ _ _ _ _ _ (omega arith) (omega arith)))
+read-instr-returns-4 t c =
+    let args = c .before .before .before .before .before .before .before .before .before .before .before .args in
+    let shape-by-words = c .before .before .before .shape-by-words in
+    let line-at = c .before .before .before .before .before .line-at in
+    let past = c .before .before .before .before .past in
+    let e = at-code t (c .before .before .before) ∙ simple-anywhere _ _ _ _ _ _ (omega arith) (omega arith) in
+    let m = ap (λ (x : ℕ). simpleAt (args .s .now) (line-at .result / 65536) x (shape-by-words .result)) (past .ensures) in
+    (c .read-simple .ensures ∙ ap (itemed _ _) (sym (e ∙ m)), rw e (simple-marked _ _ _ _ _ _ _ (omega arith) (omega arith)))
 
 read-instr-same-length : (t : ℕ) → read-instr-lts.Need-same-length (read-instr-calls t) (read-instr-at t) read-instr.Post
 read-instr-same-length t c = c .before .before .read-conditional .kept .1 .1 .1 .1 .1 .1 .0
 
 read-instr-returns-5 : (t : ℕ) → read-instr-lts.Need-returns-5 (read-instr-calls t) (read-instr-at t) read-instr.Post
-read-instr-returns-5 t c = let e = at-code t (c .before .before .before .before .before .before .before .before .before) ∙ deep-anywhere _ _ _ _ _ _ (omega arith) (omega arith) (omega arith) ∙ ap (deepAt _ _ _) (c .before .before .before .before .if4 .taken) in (c .before .before .read-conditional .ensures .0 ∙ ap (itemed _ _) (sym e), code-marked _ _ _ _ _ _ _ (sym (c .before .before .before .before .before .before .before .before .before .before .before .before .before .read-field .ensures) ∙ c .before .before .before .before .before .before .before .before .before .before .before .code .given .1) e (c .before .before .read-conditional .ensures .1))
+read-instr-returns-5 t c = let e = at-code t (c .before .before .before .before .before .before .before .before .before) ∙ deep-anywhere _ _ _ _ _ _ (omega arith) (omega arith) (omega arith) ∙ ap (deepAt _ _ _) (c .before .before .before .before .if5 .taken) in (c .before .before .read-conditional .ensures .0 ∙ ap (itemed _ _) (sym e), code-marked _ _ _ _ _ _ _ (code-there t (c .before .before .before .before .before .before .before .before .before .before)) e (c .before .before .read-conditional .ensures .1))
 
 read-instr-same-length-2 : (t : ℕ) → read-instr-lts.Need-same-length-2 (read-instr-calls t) (read-instr-at t) read-instr.Post
 read-instr-same-length-2 t c = c .before .before .read-make-cont .kept .1 .1 .1 .1 .1 .1 .0
 
 read-instr-returns-6 : (t : ℕ) → read-instr-lts.Need-returns-6 (read-instr-calls t) (read-instr-at t) read-instr.Post
-read-instr-returns-6 t c = let e = at-code t (c .before .before .before .before .before .before .before .before .before) ∙ deep-anywhere _ _ _ _ _ _ (omega arith) (omega arith) (omega arith) ∙ ap (deepAt _ _ _) {y = 5} (omega arith) in (c .before .before .read-make-cont .ensures .0 ∙ ap (itemed _ _) (sym e), code-marked _ _ _ _ _ _ _ (sym (c .before .before .before .before .before .before .before .before .before .before .before .before .before .read-field .ensures) ∙ c .before .before .before .before .before .before .before .before .before .before .before .code .given .1) e (c .before .before .read-make-cont .ensures .1))
+read-instr-returns-6 t c = let e = at-code t (c .before .before .before .before .before .before .before .before .before) ∙ deep-anywhere _ _ _ _ _ _ (omega arith) (omega arith) (omega arith) ∙ ap (deepAt _ _ _) {y = 5} (omega arith) in (c .before .before .read-make-cont .ensures .0 ∙ ap (itemed _ _) (sym e), code-marked _ _ _ _ _ _ _ (code-there t (c .before .before .before .before .before .before .before .before .before .before)) e (c .before .before .read-make-cont .ensures .1))
 
 read-instr-returns-7 : (t : ℕ) → read-instr-lts.Need-returns-7 (read-instr-calls t) (read-instr-at t) read-instr.Post
 unfolding itemed headMarked
@@ -341,11 +380,11 @@ pub +read-conditional+read-instr+read-list+read-make-cont-spec : {M : Type 1} �
     (λ t. read-instr-lts.spec (read-instr-calls t)
     (read-instr-at t)
     read-instr.Post
-    (read-instr-read-field-requires t)
-    (read-instr-enum-known-code t)
-    (read-instr-enum-told t)
+    (read-instr-within-requires t)
     (read-instr-returns t)
-    (read-instr-shape-of-requires t)
+    (read-instr-line-at-requires t)
+    (read-instr-past-requires t)
+    (read-instr-shape-by-words-requires t)
     (read-instr-read-simple-requires t)
     (read-instr-returns-2 t)
     (read-instr-sub-read-conditional t)
