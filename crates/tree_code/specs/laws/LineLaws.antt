@@ -14,6 +14,7 @@ use Rattle.fields.specs.declared.Field.the-variants.{Read, Cut}
 use Rattle.fields.specs.Field.{fieldAt, fieldRead}
 use Rattle.fields.specs.laws.Laws.{cut, whole, field-small, line-code, line-first, line-second}
 use Rattle.files.specs.Codes.{CodeRow, codes, shape, shapeOf}
+use Rattle.lists.specs.laws.ReadLaws.{line-read as code-read}
 use Rattle.links.specs.Links.{linkAt}
 use Rattle.machines.specs.Fetched.{Fetched, bad, plainly, ruleOf}
 use Rattle.machines.specs.Slots.{slotAt, slotResolve}
@@ -114,7 +115,7 @@ kept slot v a b h l =
 module _ (s : List ℕ) (p line : ℕ) (is : line ≡ fieldAt s p 21) where
   -- the code is read, and is that of a list's end or is not
   pub line-read : p + 5 ≤ 8 * length s → fieldRead s p 5 ≡ Read (line / 65536) (record { 0 = p + 5 })
-  line-read h = sym (whole s p 5 h) ∙ ap (λ (u : ℕ). Read u (record { 0 = p + 5 })) (sym (line-code s p line is))
+  line-read h = code-read s p line is h (record { 0 = p + 5 }) refl
 
   -- ---- an instruction of which the code v is whole
   module _ (L table : List ℕ) (t v n : ℕ) (code : v ≡ line / 65536) (count : n ≡ treeBytes v) where
