@@ -37,9 +37,9 @@ unfoldable pub linearRows : List Linear → List ℕ
 linearRows [] = []
 linearRows (t ∷ ts) = rowOf (t .start + 0x100000000 * length (t .code)) (t .entries) ++ linearRows ts
 
-unfoldable pub treeTable : List Template → List ℕ
-treeTable ts = padTo 16384 (treeRows ts)
-
 -- a table of n numbers
+unfoldable pub treeTable : ℕ → List Template → List ℕ
+treeTable n ts = padTo n (treeRows ts)
+
 unfoldable pub linearTable : ℕ → List Linear → List ℕ
 linearTable n ts = padTo n (linearRows ts)

@@ -5,11 +5,13 @@ use lists::Keep;
 use tree::Judged;
 ghost use mathlib.Core.Path.{_≡_};
 ghost use Prim.Native.Nat.{_+_, _*_, _-_, _/_, _≤_, _<_};
-ghost use lib.ListN.{length, replicate};
+ghost use lib.ListN.{length};
 ghost use lib.Seq.{sets};
 ghost use Rattle.files.specs.Linear.{byteOf, bytesOf, threeBytes, templatesBytes};
 ghost use Rattle.flatten.specs.Flatten.{flattened};
 ghost use Rattle.files.specs.Outcome.{answered, written};
+ghost use Rattle.files.specs.Room.{ZerosFor};
+ghost use Rattle.tree.specs.Tiers.{Fits, InTier};
 ghost use Rattle.readback.specs.Lists.{bitsFrom};
 ghost use Rattle.flatten.specs.ToFlatten.{TemplateToWrite, TemplatesToWrite, TemplateDone};
 
@@ -65,7 +67,7 @@ fn write_template(
     out: &mut [u8],
     front: usize,
 ) -> Past
-    requires { ⌜ (length (now s) ≤ 65536) × (length (now table) ≡ 16384) × (own < 64)
+    requires { ⌜ (length (now s) ≤ 65536) × (256 * own + 256 ≤ length (now table)) × (own < 64)
         × TemplateToWrite (now s) (now table) (now marks) own (at .0) front (length (now out)) ⌝ }
     ensures { λ r. ⌜ ((w : TemplateToWrite (now (s .entry)) (now (table .entry)) (now (marks .entry)) own (at .0) front (length (now (out .entry))))
         → TemplateDone w r (now (out .entry)) (now (out .exit))) ⌝ }
@@ -84,7 +86,7 @@ fn write_template(
 
 // The `count` templates, which stand from bit 8 on, into the bytes from 1 on.
 fn write_templates(s: &[u8], table: &[u64], marks: &[u32], count: usize, out: &mut [u8])
-    requires { ⌜ (length (now s) ≤ 65536) × (length (now table) ≡ 16384)
+    requires { ⌜ (length (now s) ≤ 65536) × (256 * count ≤ length (now table))
         × TemplatesToWrite (now s) (now table) (now marks) count 0 8 1 (length (now out)) ⌝ }
     ensures { λ _. ⌜ ((w : TemplatesToWrite (now (s .entry)) (now (table .entry)) (now (marks .entry)) count 0 8 1 (length (now (out .entry))))
         → now (out .exit) ≡ sets (now (out .entry)) 1 (templatesBytes (w .templates))) ⌝ }
@@ -103,7 +105,7 @@ fn write_templates(s: &[u8], table: &[u64], marks: &[u32], count: usize, out: &m
 
 // Flattens a tree file into an output, with a table of zeros and marks for it to fill.
 fn flatten_marked(s: &[u8], table: &mut [u64], marks: &mut [u32], out: &mut [u8]) -> Outcome
-    requires { ⌜ (now table ≡ replicate 16384 0) × (length (now s) ≤ 65536 → 8 * length (now s) ≤ 5 * length (now marks)) ⌝ }
+    requires { ⌜ ZerosFor (now s) (now table) × (length (now s) ≤ 65536 → 8 * length (now s) ≤ 5 * length (now marks)) ⌝ }
     ensures { λ r. ⌜ r ≡ answered (flattened (now (s .entry)) (length (now (out .entry)))) ⌝ }
     ensures { λ _. ⌜ now (out .exit) ≡ written (now (out .entry)) (flattened (now (s .entry)) (length (now (out .entry)))) ⌝ }
 {
@@ -125,34 +127,62 @@ fn flatten_marked(s: &[u8], table: &mut [u64], marks: &mut [u32], out: &mut [u8]
     }
 }
 
-// The same with marks of its own, one for each 5 bits, for a file of at most 512 bytes, ..
-fn flatten_short(s: &[u8], table: &mut [u64], out: &mut [u8]) -> Outcome
-    requires { ⌜ (now table ≡ replicate 16384 0) × (length (now s) ≤ 512) ⌝ }
+// The same with a table and marks of its own, one mark for each 5 bits, for a file of at most 4 templates and 512 bytes, ..
+fn flatten_small(s: &[u8], out: &mut [u8]) -> Outcome
+    requires { ⌜ Fits (now s) 1024 512 ⌝ }
     ensures { λ r. ⌜ r ≡ answered (flattened (now (s .entry)) (length (now (out .entry)))) ⌝ }
     ensures { λ _. ⌜ now (out .exit) ≡ written (now (out .entry)) (flattened (now (s .entry)) (length (now (out .entry)))) ⌝ }
 {
+    let mut table = [0u64; 1024];
     let mut marks = [0u32; 820];
-    flatten_marked(s, table, &mut marks, out)
+    flatten_marked(s, &mut table, &mut marks, out)
 }
 
-// .. of at most 4,096 bytes, ..
-fn flatten_middle(s: &[u8], table: &mut [u64], out: &mut [u8]) -> Outcome
-    requires { ⌜ (now table ≡ replicate 16384 0) × (length (now s) ≤ 4096) ⌝ }
+// .. of at most 16 templates and 4,096 bytes, ..
+fn flatten_middle(s: &[u8], out: &mut [u8]) -> Outcome
+    requires { ⌜ Fits (now s) 4096 4096 ⌝ }
     ensures { λ r. ⌜ r ≡ answered (flattened (now (s .entry)) (length (now (out .entry)))) ⌝ }
     ensures { λ _. ⌜ now (out .exit) ≡ written (now (out .entry)) (flattened (now (s .entry)) (length (now (out .entry)))) ⌝ }
 {
+    let mut table = [0u64; 4096];
     let mut marks = [0u32; 6554];
-    flatten_marked(s, table, &mut marks, out)
+    flatten_marked(s, &mut table, &mut marks, out)
 }
 
-// .. for any file. Zeroing the marks of the longest for a short file would cost more than the rest.
-fn flatten_long(s: &[u8], table: &mut [u64], out: &mut [u8]) -> Outcome
-    requires { ⌜ (now table ≡ replicate 16384 0) ⌝ }
+// .. of as many templates as there may be and at most 4,096 bytes, ..
+fn flatten_many(s: &[u8], out: &mut [u8]) -> Outcome
+    requires { ⌜ length (now s) ≤ 4096 ⌝ }
     ensures { λ r. ⌜ r ≡ answered (flattened (now (s .entry)) (length (now (out .entry)))) ⌝ }
     ensures { λ _. ⌜ now (out .exit) ≡ written (now (out .entry)) (flattened (now (s .entry)) (length (now (out .entry)))) ⌝ }
 {
+    let mut table = [0u64; 16384];
+    let mut marks = [0u32; 6554];
+    flatten_marked(s, &mut table, &mut marks, out)
+}
+
+// .. for any file.
+fn flatten_large(s: &[u8], out: &mut [u8]) -> Outcome
+    ensures { λ r. ⌜ r ≡ answered (flattened (now (s .entry)) (length (now (out .entry)))) ⌝ }
+    ensures { λ _. ⌜ now (out .exit) ≡ written (now (out .entry)) (flattened (now (s .entry)) (length (now (out .entry)))) ⌝ }
+{
+    let mut table = [0u64; 16384];
     let mut marks = [0u32; 104858];
-    flatten_marked(s, table, &mut marks, out)
+    flatten_marked(s, &mut table, &mut marks, out)
+}
+
+// The flattener for a file of a size, where 0 is the one it has. That it calls itself keeps the four tables out of one frame.
+fn flatten_tier(s: &[u8], tier: usize, out: &mut [u8]) -> Outcome
+    requires { ⌜ InTier (now s) tier ⌝ }
+    ensures { λ r. ⌜ r ≡ answered (flattened (now (s .entry)) (length (now (out .entry)))) ⌝ }
+    ensures { λ _. ⌜ now (out .exit) ≡ written (now (out .entry)) (flattened (now (s .entry)) (length (now (out .entry)))) ⌝ }
+{
+    match tier {
+        0 => flatten_tier(s, tree::tier_of(s), out),
+        1 => flatten_small(s, out),
+        2 => flatten_middle(s, out),
+        3 => flatten_many(s, out),
+        _ => flatten_large(s, out),
+    }
 }
 
 // Flattens a tree file into an output.
@@ -160,12 +190,5 @@ pub fn flatten(s: &[u8], out: &mut [u8]) -> Outcome
     ensures { λ r. ⌜ r ≡ answered (flattened (now (s .entry)) (length (now (out .entry)))) ⌝ }
     ensures { λ _. ⌜ now (out .exit) ≡ written (now (out .entry)) (flattened (now (s .entry)) (length (now (out .entry)))) ⌝ }
 {
-    let mut table = [0u64; 16384];
-    if s.len() <= 512 {
-        return flatten_short(s, &mut table, out);
-    }
-    if s.len() <= 4096 {
-        return flatten_middle(s, &mut table, out);
-    }
-    flatten_long(s, &mut table, out)
+    flatten_tier(s, 0, out)
 }

@@ -31,7 +31,8 @@ pub record Operand (s table : List ℕ) (count : ℕ) : Type 0 where
   pub templates : List Template
   pub past : ℕ
   pub read : treeRead s ≡ got templates past
-  pub filled : table ≡ treeTable templates
+  pub size : ℕ
+  pub filled : table ≡ treeTable size templates
   pub count-is : count ≡ length templates
 
 -- the lowest template whose list is not closed, 64 if all are

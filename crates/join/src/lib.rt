@@ -82,7 +82,7 @@ fn is_open(s: &[u8], table: &[u64], count: u8, unclosed: u8) -> bool
 fn read_prologue(s: &[u8], table: &mut [u64]) -> Judged
     requires { ⌜ now table ≡ replicate 16384 0 ⌝ }
     ensures { λ r. ⌜ r ≡ judgedTold (prologueChecked (now (s .entry))) ⌝ }
-    ensures { λ _. ⌜ now (table .exit) ≡ treeFilled (now (s .entry)) ⌝ }
+    ensures { λ _. ⌜ now (table .exit) ≡ treeFilled (now (s .entry)) (now (table .entry)) ⌝ }
 {
     let mut none = [0u32; 1];
     match tree::read_tree(s, table, Keep::Pasts, &mut none) {
@@ -103,7 +103,7 @@ fn read_prologue(s: &[u8], table: &mut [u64]) -> Judged
 fn read_second(s: &[u8], table: &mut [u64]) -> Judged
     requires { ⌜ now table ≡ replicate 16384 0 ⌝ }
     ensures { λ r. ⌜ r ≡ judgedTold (secondChecked (now (s .entry))) ⌝ }
-    ensures { λ _. ⌜ now (table .exit) ≡ treeFilled (now (s .entry)) ⌝ }
+    ensures { λ _. ⌜ now (table .exit) ≡ treeFilled (now (s .entry)) (now (table .entry)) ⌝ }
 {
     let mut none = [0u32; 1];
     match tree::read_tree(s, table, Keep::Pasts, &mut none) {

@@ -2,13 +2,12 @@
 use Prim.Native.Nat.{ℕ}
 use mathlib.Core.Path.{_≡_, refl, sym, ap, _∙_}
 use mathlib.Core.List.{List}
-use native.Mathlib.Omega.{arith}
-use lib.ListN.{length}
 use Rattle.cells.specs.laws.Laws.{clash}
 use Rattle.cells.specs.declared.BitPlace.{BitPlace}
 use Rattle.files.specs.Reading.{Got, got, refused}
 use Rattle.files.specs.Linear.{Linear, linearRead}
-use Rattle.files.specs.Room.{RoomFor}
+use Rattle.files.specs.Room.{ZerosFor}
+use Rattle.files.specs.laws.RoomLaws.{all-rows}
 use Rattle.files.specs.Table.{linearTable}
 use Rattle.linear.specs.Filled.{linearTold, linearFilled}
 use Rattle.linear.specs.laws.LinearTable.{linear-table}
@@ -19,13 +18,12 @@ use Rattle.owners.specs.declared.Owner.{Owner}
 use Rattle.machines.specs.Machine.{linearProgram}
 use Rattle.machines.specs.Runs.{Memory, Ran, ran, refusedRun, startState, programRun, onLinear}
 use Rattle.machines.specs.Start.{zeros, refusal}
-use Rattle.machines.specs.laws.Start.{zeros-length}
 use Rattle.machines.specs.Steps.{ranFrom}
 use Rattle.machines.specs.laws.Steps.{whole-budget}
 use Rattle.machines.specs.declared.Run.{Run}
 use Rattle.linear_code.specs.Bytes.{bytesProgram, AllBytes, AllWithin}
 use Rattle.linear_code.specs.laws.ProgramLaws.{table-within, program-is}
-use Rattle.linear_machine.specs.Again.{ZerosFor, TableOf}
+use Rattle.linear_machine.specs.Again.{TableOf}
 
 -- ---- what reading answered
 record WasRead (g : Got (List Linear)) : Type 0 where
@@ -43,9 +41,6 @@ unfolding linearTold
 was-refused (got ts q) n p e = clash (cc)
 was-refused (refused m q) n p e = let k : _≡_ {A = BitPlace} p (record { 0 = q }) = cc in let i : n ≡ m = cc in rw (i, k)
 
-pub table-room : (s table : List ℕ) → ZerosFor s table → RoomFor s (length table)
-table-room s table z few = let l = ap length (z .zero) ∙ zeros-length (z .size) in rw l (z .room few)
-
 -- ---- a file s that was read, x the answer; table is what the table was before and table′ after
 module _ (s table table′ : List ℕ) (x : LinearFile) (asked : x ≡ linearTold (linearRead s)) (was : ZerosFor s table) (filled : table′ ≡ linearFilled s table) (n : ℕ)
     (there : x ≡ Read n) where
@@ -53,7 +48,6 @@ module _ (s table table′ : List ℕ) (x : LinearFile) (asked : x ≡ linearTol
   file = was-read (linearRead s) n (sym there ∙ asked)
 
   table-is : table′ ≡ linearTable (was .size) (file .templates)
-  unfolding zeros
   table-is = filled ∙ ap (linearFilled s) (was .zero) ∙ linear-table s (was .size) (was .room) (file .is)
 
   pub file-within : AllWithin s table′
@@ -66,16 +60,17 @@ module _ (s table table′ : List ℕ) (x : LinearFile) (asked : x ≡ linearTol
       h ∙ rw (table-is, file .is, program-is s (was .size) (file .is) bytes) (whole-budget o (linearProgram (file .templates)) b (startState (m .globals) 0))
 
 -- ---- a file that was read before
-all-rows : (s : List ℕ) → ZerosFor s (zeros 16384)
-all-rows s = record { size = 16384; room = λ few. omega arith; zero = refl }
+zeros-for : (s : List ℕ) → ZerosFor s (zeros 16384)
+unfolding zeros
+zeros-for s = all-rows s refl
 
 module _ (s table : List ℕ) (t : TableOf s table) where
   pub again-within : AllWithin s table
-  again-within = file-within s (zeros 16384) table (Read (t .count)) (sym (t .read)) (all-rows s) (t .filled) (t .count) refl
+  again-within = file-within s (zeros 16384) table (Read (t .count)) (sym (t .read)) (zeros-for s) (t .filled) (t .count) refl
 
   pub again-ran : (o : Owner) (b : ℕ) (m : Memory) (r : Ran) → AllBytes s → r ≡ ranFrom o (bytesProgram s table) b 0 (startState (m .globals) 0)
       → r ≡ onLinear o b m (linearRead s)
-  again-ran = file-ran s (zeros 16384) table (Read (t .count)) (sym (t .read)) (all-rows s) (t .filled) (t .count) refl
+  again-ran = file-ran s (zeros 16384) table (Read (t .count)) (sym (t .read)) (zeros-for s) (t .filled) (t .count) refl
 
 -- ---- a file that is refused
 pub file-refused : (s : List ℕ) (x : LinearFile) (o : Owner) (b : ℕ) (m : Memory) (n : ℕ) (p : BitPlace) (r : Run) → x ≡ linearTold (linearRead s) → x ≡ Refused n p → r ≡ refusal n (p .0)

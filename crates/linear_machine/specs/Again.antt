@@ -1,20 +1,13 @@
--- A file and the table that it is read into; a file that is read once and run often, from globals that are known to fit.
+-- A file that is read once and run often, from globals that are known to fit.
 use Prim.Native.Nat.{ℕ}
 use mathlib.Core.Path.{_≡_}
 use mathlib.Core.Bool.{true}
 use mathlib.Core.List.{List, [], _∷_}
 use Rattle.cells.specs.Cells.{startingGlobal}
 use Rattle.files.specs.Linear.{linearRead}
-use Rattle.files.specs.Room.{RoomFor}
 use Rattle.linear.specs.Filled.{linearTold, linearFilled}
 use Rattle.linear.specs.declared.LinearFile.the-variants.{Read}
 use Rattle.machines.specs.Start.{zeros}
-
--- zeros, with a row for each template of s
-pub record ZerosFor (s table : List ℕ) : Type 0 where
-  pub size : ℕ
-  pub room : RoomFor s size
-  pub zero : table ≡ zeros size
 
 -- `linear::read_linear` accepted the file s, and left this in a table of zeros
 pub record TableOf (s table : List ℕ) : Type 0 where

@@ -8,12 +8,12 @@ use owners::Owner;
 ghost use mathlib.Core.Path.{_≡_};
 ghost use Prim.Native.Nat.{_*_, _≤_};
 ghost use Rattle.files.specs.Linear.{linearRead};
-ghost use Rattle.files.specs.Room.{RoomFor};
+ghost use Rattle.files.specs.Room.{RoomFor, ZerosFor};
 ghost use Rattle.machines.specs.Runs.{lent, ran, startState, onLinear, linearRun};
 ghost use Rattle.machines.specs.Start.{MayStart, startRefusal};
 ghost use Rattle.machines.specs.Steps.{ranFrom};
 ghost use Rattle.linear_code.specs.Bytes.{bytesProgram, AllWithin};
-ghost use Rattle.linear_machine.specs.Again.{ZerosFor, TableOf};
+ghost use Rattle.linear_machine.specs.Again.{TableOf};
 
 // The run of a file that is read, where the table is its table. Linear code has no links.
 fn run_read(

@@ -21,7 +21,8 @@ pub record FileReady (s table : List ℕ) (count : ℕ) : Type 0 where
   pub templates : List Template
   pub past : ℕ
   pub read : treeRead s ≡ got templates past
-  pub tabled : table ≡ treeTable templates
+  pub size : ℕ
+  pub tabled : table ≡ treeTable size templates
   pub counted : count ≡ length templates
 
 -- the links L hold still, for each list inside those of the templates from number n on, the place past that list

@@ -137,7 +137,7 @@ fn link_list(
 // The links of the lists of a tree file that is read, where the table is its table and has `count` templates, and the links are what reading
 // kept: the place past each list. No list is read again.
 pub fn link_tree(s: &[u8], table: &[u64], count: usize, links: &mut [u32])
-    requires { ⌜ FileReady (now s) (now table) count × (length (now table) ≡ 16384) × FileMarked (now s) (now links) ⌝ }
+    requires { ⌜ FileReady (now s) (now table) count × (256 * count ≤ length (now table)) × FileMarked (now s) (now links) ⌝ }
     ensures { λ _. ⌜ now (links .exit) ≡ linkedFrom (now (links .entry)) 0 (treeRead (now (s .entry))) ⌝ }
 {
     let mut own: usize = 0;

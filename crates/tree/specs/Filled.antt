@@ -3,7 +3,7 @@
 use Prim.Native.Nat.{ℕ, _+_, _*_}
 use mathlib.Core.Bool.{cond}
 use mathlib.Core.List.{List}
-use lib.ListN.{length, set, replicate}
+use lib.ListN.{length, set}
 use lib.Seq.{sets}
 use lib.Dec.{leb}
 use Rattle.files.specs.Reading.{Got, got, refused}
@@ -32,6 +32,6 @@ templatesFilled s = templatesBy (templateAt s) (templateFilled s)
 abbrev pub countFilled : List ℕ → Got ℕ → List ℕ → List ℕ
 countFilled s = countBy (templateAt s) (templateFilled s)
 
--- a table of zeros, filled from the tree file s
-unfoldable pub treeFilled : List ℕ → List ℕ
-treeFilled s = cond (leb (length s) 65536) (countFilled s (field s 0 8) (replicate 16384 0)) (replicate 16384 0)
+-- a table, filled from the tree file s
+unfoldable pub treeFilled : List ℕ → List ℕ → List ℕ
+treeFilled s table = cond (leb (length s) 65536) (countFilled s (field s 0 8) table) table

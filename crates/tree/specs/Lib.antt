@@ -2,4 +2,5 @@
 pub mod Summary
 pub mod Filled
 pub mod Marked
+pub mod Tiers
 pub mod laws

@@ -9,13 +9,15 @@ use lists::Keep;
 use lists::Listed;
 ghost use mathlib.Core.Path.{_≡_};
 ghost use Prim.Native.Nat.{_+_, _*_, _-_, _/_, _≤_, _<_};
-ghost use lib.ListN.{length, replicate};
+ghost use lib.ListN.{length};
 ghost use Rattle.files.specs.Tree.{templateAt, templatesAt, paddedEnd, treeRead};
 ghost use Rattle.files.specs.Accepted.{treeChecked, treeAccepted};
 ghost use Rattle.files.specs.EntriesRead.{paddingTold};
 ghost use Rattle.files.specs.RowFilled.{Unfilled};
+ghost use Rattle.files.specs.Room.{ZerosFor};
 ghost use Rattle.tree.specs.Summary.{lower, reportBy, summaryAfter, templateTold, templatesTold, treeTold, lowestMissing, judgedTold, checkedTold};
 ghost use Rattle.tree.specs.Marked.{templateMarked, templatesMarked};
+ghost use Rattle.tree.specs.Tiers.{InTier};
 ghost use Rattle.tree.specs.Filled.{templateFilled, templatesFilled, treeFilled};
 
 // What is to be known of a template: whether its list is closed, its instructions name fit indices, its offsets fit; how many bytes it
@@ -120,7 +122,7 @@ fn read_template(
     keep: Keep,
     marks: &mut [u32],
 ) -> TemplateRead
-    requires { ⌜ (length (now s) ≤ 65536) × ((own < 64) × ((count ≤ 64) × Unfilled own (now table))) ⌝ }
+    requires { ⌜ (length (now s) ≤ 65536) × ((own < count) × ((count ≤ 64) × Unfilled count own (now table))) ⌝ }
     ensures { λ r. ⌜ r ≡ templateTold (templateAt (now (s .entry)) own count (at .0)) ⌝ }
     ensures { λ _. ⌜ now (table .exit) ≡ templateFilled (now (s .entry)) own count (at .0) (now (table .entry)) ⌝ }
     ensures { λ _. ⌜ templateMarked keep (now (marks .entry)) (now (marks .exit)) (templateAt (now (s .entry)) own count (at .0)) ⌝ }
@@ -151,7 +153,7 @@ fn read_templates(
     keep: Keep,
     marks: &mut [u32],
 ) -> TemplatesRead
-    requires { ⌜ (length (now s) ≤ 65536) × ((count ≤ 64) × Unfilled 0 (now table)) ⌝ }
+    requires { ⌜ (length (now s) ≤ 65536) × ((count ≤ 64) × Unfilled count 0 (now table)) ⌝ }
     ensures { λ r. ⌜ r ≡ templatesTold (templatesAt (now (s .entry)) count 0 count (at .0)) ⌝ }
     ensures { λ _. ⌜ now (table .exit) ≡ templatesFilled (now (s .entry)) count 0 count (at .0) (now (table .entry)) ⌝ }
     ensures { λ _. ⌜ templatesMarked keep (now (marks .entry)) (now (marks .exit)) (templatesAt (now (s .entry)) count 0 count (at .0)) ⌝ }
@@ -194,9 +196,9 @@ fn read_end(s: &[u8], at: BitPlace) -> Padding
 
 // Reads a tree file, fills a run's table, and marks its lists as far as there is room.
 pub fn read_tree(s: &[u8], table: &mut [u64], keep: Keep, marks: &mut [u32]) -> TreeFile
-    requires { ⌜ now table ≡ replicate 16384 0 ⌝ }
+    requires { ⌜ ZerosFor (now s) (now table) ⌝ }
     ensures { λ r. ⌜ r ≡ treeTold (treeRead (now (s .entry))) ⌝ }
-    ensures { λ _. ⌜ now (table .exit) ≡ treeFilled (now (s .entry)) ⌝ }
+    ensures { λ _. ⌜ now (table .exit) ≡ treeFilled (now (s .entry)) (now (table .entry)) ⌝ }
     ensures { λ _. ⌜ templatesMarked keep (now (marks .entry)) (now (marks .exit)) (treeRead (now (s .entry))) ⌝ }
 {
     if 65536 < s.len() {
@@ -238,9 +240,9 @@ fn lowest_missing(set: u64, count: u8) -> u8
 
 // Reads and judges a file, 1 to 7, and fills a run's table.
 pub fn read_checked(s: &[u8], table: &mut [u64], keep: Keep, marks: &mut [u32]) -> Judged
-    requires { ⌜ now table ≡ replicate 16384 0 ⌝ }
+    requires { ⌜ ZerosFor (now s) (now table) ⌝ }
     ensures { λ r. ⌜ r ≡ judgedTold (treeChecked (now (s .entry))) ⌝ }
-    ensures { λ _. ⌜ now (table .exit) ≡ treeFilled (now (s .entry)) ⌝ }
+    ensures { λ _. ⌜ now (table .exit) ≡ treeFilled (now (s .entry)) (now (table .entry)) ⌝ }
     ensures { λ _. ⌜ templatesMarked keep (now (marks .entry)) (now (marks .exit)) (treeRead (now (s .entry))) ⌝ }
 {
     match read_tree(s, table, keep, marks) {
@@ -259,9 +261,9 @@ pub fn read_checked(s: &[u8], table: &mut [u64], keep: Keep, marks: &mut [u32]) 
 
 // The same with 24.
 pub fn read_accepted(s: &[u8], table: &mut [u64], keep: Keep, marks: &mut [u32]) -> Judged
-    requires { ⌜ now table ≡ replicate 16384 0 ⌝ }
+    requires { ⌜ ZerosFor (now s) (now table) ⌝ }
     ensures { λ r. ⌜ r ≡ judgedTold (treeAccepted (now (s .entry))) ⌝ }
-    ensures { λ _. ⌜ now (table .exit) ≡ treeFilled (now (s .entry)) ⌝ }
+    ensures { λ _. ⌜ now (table .exit) ≡ treeFilled (now (s .entry)) (now (table .entry)) ⌝ }
     ensures { λ _. ⌜ templatesMarked keep (now (marks .entry)) (now (marks .exit)) (treeRead (now (s .entry))) ⌝ }
 {
     match read_checked(s, table, keep, marks) {
@@ -274,6 +276,26 @@ pub fn read_accepted(s: &[u8], table: &mut [u64], keep: Keep, marks: &mut [u32])
         }
         Judged::Refused(no, place) => Judged::Refused(no, place),
     }
+}
+
+// The size of a tree file, 1 to 4, by its bytes and its number of templates.
+pub fn tier_of(s: &[u8]) -> usize
+    ensures { λ r. ⌜ (1 ≤ r) × InTier (now (s .entry)) r ⌝ }
+{
+    let count = files::count_of(s);
+    if 4096 < s.len() {
+        return 4;
+    }
+    if 16 < count {
+        return 3;
+    }
+    if 4 < count {
+        return 2;
+    }
+    if 512 < s.len() {
+        return 2;
+    }
+    1
 }
 
 // 1 to 7 and 24: what the tree machine says of a file.

@@ -11,9 +11,11 @@ ghost use Prim.Native.Nat.{_*_, _≤_};
 ghost use lib.ListN.{length};
 ghost use Rattle.files.specs.Tree.{treeRead};
 ghost use Rattle.files.specs.Accepted.{treeAccepted};
+ghost use Rattle.files.specs.Room.{ZerosFor};
+ghost use Rattle.tree.specs.Tiers.{Fits, InTier};
 ghost use Rattle.links.specs.TreeSteps.{FileReady, FileMarked};
 ghost use Rattle.machines.specs.Runs.{lent, ran, onTree, treeRun};
-ghost use Rattle.machines.specs.Start.{zeros, MayStart};
+ghost use Rattle.machines.specs.Start.{MayStart};
 
 // The run of a file that is accepted, where the table is its table and has `count` templates, and the links are what reading kept of its lists.
 fn run_linked(
@@ -28,7 +30,7 @@ fn run_linked(
     store: &mut [u64],
     frames: &mut [u64],
 ) -> Run
-    requires { ⌜ MayStart 1000000 budget (lent globals stack store frames) × FileReady (now file) (now table) count × (length (now table) ≡ 16384)
+    requires { ⌜ MayStart 1000000 budget (lent globals stack store frames) × FileReady (now file) (now table) count × (256 * count ≤ length (now table))
         × (treeAccepted (now file) ≡ treeRead (now file)) × (8 * length (now file) ≤ 5 * length (now links)) × FileMarked (now file) (now links) ⌝ }
     ensures { λ x. ⌜ ran x (lent (globals .exit) (stack .exit) (store .exit) (frames .exit))
         ≡ onTree owner budget (lent (globals .entry) (stack .entry) (store .entry) (frames .entry)) (treeAccepted (now (file .entry))) ⌝ }
@@ -61,7 +63,7 @@ fn run_marked(
     store: &mut [u64],
     frames: &mut [u64],
 ) -> Run
-    requires { ⌜ MayStart 1000000 budget (lent globals stack store frames) × (now table ≡ zeros 16384)
+    requires { ⌜ MayStart 1000000 budget (lent globals stack store frames) × ZerosFor (now file) (now table)
         × (length (now file) ≤ 65536 → 8 * length (now file) ≤ 5 * length (now links)) ⌝ }
     ensures { λ x. ⌜ ran x (lent (globals .exit) (stack .exit) (store .exit) (frames .exit))
         ≡ onTree owner budget (lent (globals .entry) (stack .entry) (store .entry) (frames .entry)) (treeAccepted (now (file .entry))) ⌝ }
@@ -83,11 +85,9 @@ fn run_marked(
     }
 }
 
-// The same, with links of its own: one for each 5 bits. Most sheets are short, and zeroing the links of the longest would cost more than
-// their runs.
-fn run_file(
+// The same with a table and links of its own, one link for each 5 bits, for a file of at most 4 templates and 512 bytes, ..
+fn run_small(
     file: &[u8],
-    table: &mut [u64],
     budget: u64,
     owner: Owner,
     globals: &mut [u64],
@@ -95,36 +95,142 @@ fn run_file(
     store: &mut [u64],
     frames: &mut [u64],
 ) -> Run
-    requires { ⌜ MayStart 1000000 budget (lent globals stack store frames) × (now table ≡ zeros 16384) ⌝ }
+    requires { ⌜ MayStart 1000000 budget (lent globals stack store frames) × Fits (now file) 1024 512 ⌝ }
     ensures { λ x. ⌜ ran x (lent (globals .exit) (stack .exit) (store .exit) (frames .exit))
         ≡ onTree owner budget (lent (globals .entry) (stack .entry) (store .entry) (frames .entry)) (treeAccepted (now (file .entry))) ⌝ }
 {
-    if file.len() <= 4096 {
-        let mut links = [0u32; 6554];
-        run_marked(
+    let mut table = [0u64; 1024];
+    let mut links = [0u32; 820];
+    run_marked(
+        file,
+        &mut table,
+        &mut links,
+        budget,
+        owner,
+        globals,
+        stack,
+        store,
+        frames,
+    )
+}
+
+// .. of at most 16 templates and 4,096 bytes, ..
+fn run_middle(
+    file: &[u8],
+    budget: u64,
+    owner: Owner,
+    globals: &mut [u64],
+    stack: &mut [u64],
+    store: &mut [u64],
+    frames: &mut [u64],
+) -> Run
+    requires { ⌜ MayStart 1000000 budget (lent globals stack store frames) × Fits (now file) 4096 4096 ⌝ }
+    ensures { λ x. ⌜ ran x (lent (globals .exit) (stack .exit) (store .exit) (frames .exit))
+        ≡ onTree owner budget (lent (globals .entry) (stack .entry) (store .entry) (frames .entry)) (treeAccepted (now (file .entry))) ⌝ }
+{
+    let mut table = [0u64; 4096];
+    let mut links = [0u32; 6554];
+    run_marked(
+        file,
+        &mut table,
+        &mut links,
+        budget,
+        owner,
+        globals,
+        stack,
+        store,
+        frames,
+    )
+}
+
+// .. of as many templates as there may be and at most 4,096 bytes, ..
+fn run_many(
+    file: &[u8],
+    budget: u64,
+    owner: Owner,
+    globals: &mut [u64],
+    stack: &mut [u64],
+    store: &mut [u64],
+    frames: &mut [u64],
+) -> Run
+    requires { ⌜ MayStart 1000000 budget (lent globals stack store frames) × (length (now file) ≤ 4096) ⌝ }
+    ensures { λ x. ⌜ ran x (lent (globals .exit) (stack .exit) (store .exit) (frames .exit))
+        ≡ onTree owner budget (lent (globals .entry) (stack .entry) (store .entry) (frames .entry)) (treeAccepted (now (file .entry))) ⌝ }
+{
+    let mut table = [0u64; 16384];
+    let mut links = [0u32; 6554];
+    run_marked(
+        file,
+        &mut table,
+        &mut links,
+        budget,
+        owner,
+        globals,
+        stack,
+        store,
+        frames,
+    )
+}
+
+// .. for any file.
+fn run_large(
+    file: &[u8],
+    budget: u64,
+    owner: Owner,
+    globals: &mut [u64],
+    stack: &mut [u64],
+    store: &mut [u64],
+    frames: &mut [u64],
+) -> Run
+    requires { ⌜ MayStart 1000000 budget (lent globals stack store frames) ⌝ }
+    ensures { λ x. ⌜ ran x (lent (globals .exit) (stack .exit) (store .exit) (frames .exit))
+        ≡ onTree owner budget (lent (globals .entry) (stack .entry) (store .entry) (frames .entry)) (treeAccepted (now (file .entry))) ⌝ }
+{
+    let mut table = [0u64; 16384];
+    let mut links = [0u32; 104858];
+    run_marked(
+        file,
+        &mut table,
+        &mut links,
+        budget,
+        owner,
+        globals,
+        stack,
+        store,
+        frames,
+    )
+}
+
+// The run for a file of a size, where 0 is the one it has. That it calls itself keeps the four tables out of one frame.
+fn run_tier(
+    file: &[u8],
+    tier: usize,
+    budget: u64,
+    owner: Owner,
+    globals: &mut [u64],
+    stack: &mut [u64],
+    store: &mut [u64],
+    frames: &mut [u64],
+) -> Run
+    requires { ⌜ MayStart 1000000 budget (lent globals stack store frames) × InTier (now file) tier ⌝ }
+    ensures { λ x. ⌜ ran x (lent (globals .exit) (stack .exit) (store .exit) (frames .exit))
+        ≡ onTree owner budget (lent (globals .entry) (stack .entry) (store .entry) (frames .entry)) (treeAccepted (now (file .entry))) ⌝ }
+{
+    match tier {
+        0 => run_tier(
             file,
-            table,
-            &mut links,
+            tree::tier_of(file),
             budget,
             owner,
             globals,
             stack,
             store,
             frames,
-        )
-    } else {
-        let mut links = [0u32; 104858];
-        run_marked(
-            file,
-            table,
-            &mut links,
-            budget,
-            owner,
-            globals,
-            stack,
-            store,
-            frames,
-        )
+        ),
+        1 => run_small(file, budget, owner, globals, stack, store, frames),
+        2 => run_middle(file, budget, owner, globals, stack, store, frames),
+        3 => run_many(file, budget, owner, globals, stack, store, frames),
+        _ => run_large(file, budget, owner, globals, stack, store, frames),
     }
 }
 
@@ -143,17 +249,7 @@ pub fn run_tree(
     match machines::start_refusal(globals, stack, store, frames, budget, 1_000_000, owner) {
         Start::Go => {
             let whose = owners::owner_of(owner);
-            let mut table = [0u64; 16384];
-            run_file(
-                file,
-                &mut table,
-                budget,
-                whose,
-                globals,
-                stack,
-                store,
-                frames,
-            )
+            run_tier(file, 0, budget, whose, globals, stack, store, frames)
         }
         Start::Refused(number, place) => machines::refused(number, place),
     }

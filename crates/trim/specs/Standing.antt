@@ -35,7 +35,8 @@ pub record FileIn (s table : List ℕ) (count : ℕ) : Type 0 where
   pub templates : List Template
   pub past : ℕ
   pub checked : treeChecked s ≡ got templates past
-  pub filled : table ≡ treeTable templates
+  pub size : ℕ
+  pub filled : table ≡ treeTable size templates
   pub count-is : count ≡ length templates
 
 -- template own of so many, which stands at a place

@@ -52,41 +52,48 @@ row-filled front own x k es f h i =
       e,
     ) refl
 
-module _ (own : ℕ) (table : List ℕ) (own-less : own < 64) (unfilled : Unfilled own table) where
+module _ (T own : ℕ) (table : List ℕ) (own-less : own < T) (unfilled : Unfilled T own table) where
   pub front-length : length (take (256 * own) table) ≡ 256 * own
   front-length = length-take (256 * own) table ∙ omega arith
 
-  pub front-zeros : table ≡ take (256 * own) table ++ replicate (16384 - 256 * own) 0
+  pub front-zeros : table ≡ take (256 * own) table ++ replicate (length table - 256 * own) 0
   front-zeros = sym (take-append-drop (256 * own) table) ∙ ap (λ (l : List ℕ). take (256 * own) table ++ l) (unfilled .1)
 
   abbrev pub rowsBefore : ℕ → List Entry → List ℕ
-  rowsBefore x es = take (256 * own) table ++ (rowOf x es ++ replicate (16384 - 256 * own - 256) 0)
+  rowsBefore x es = take (256 * own) table ++ (rowOf x es ++ replicate (length table - 256 * own - 256) 0)
 
   pub row-table : (x : ℕ) (es : List Entry) → length es < 256 → set (sets table (256 * own + 1) (map slotOf es)) (256 * own) x ≡ rowsBefore x es
   row-table x es h =
       ap (λ (l : List ℕ). set (sets l (256 * own + 1) (map slotOf es)) (256 * own) x) front-zeros
-      ∙ row-filled (take (256 * own) table) own x (16384 - 256 * own) es front-length h (omega arith)
+      ∙ row-filled (take (256 * own) table) own x (length table - 256 * own) es front-length h (omega arith)
 
-  pub row-unfilled : (x : ℕ) (es : List Entry) → length es < 256 → Unfilled (own + 1) (rowsBefore x es)
+  row-still : (x : ℕ) (es : List Entry) → length es < 256 → length (rowsBefore x es) ≡ length table
+  row-still x es h =
+      let r = row-length x es h in
+      let f = front-length in
+      let z = length-replicate {A = ℕ} (length table - 256 * own - 256) 0 in
+      rw (
+        length-append (take (256 * own) table) (rowOf x es ++ replicate (length table - 256 * own - 256) 0),
+        length-append (rowOf x es)
+            (replicate (length table - 256 * own - 256) 0),
+      ) (omega arith)
+
+  pub row-unfilled : (x : ℕ) (es : List Entry) → length es < 256 → Unfilled T (own + 1) (rowsBefore x es)
   row-unfilled x es h =
       let r = row-length x es h in
       let f = front-length in
-      let z = length-replicate {A = ℕ} (16384 - 256 * own - 256) 0 in
+      let l = row-still x es h in
       let e : 256 * (own + 1) ≡ length (take (256 * own) table) + length (rowOf x es) = omega arith in
-      let k : 16384 - 256 * own - 256 ≡ 16384 - 256 * (own + 1) = omega arith in (
-        rw (
-          length-append (take (256 * own) table) (rowOf x es ++ replicate (16384 - 256 * own - 256) 0),
-          length-append (rowOf x es)
-              (replicate (16384 - 256 * own - 256) 0),
-        ) (omega arith),
-        rw (
-          e,
-          drop-append-add (take (256 * own) table) (rowOf x es ++ replicate (16384 - 256 * own - 256) 0) (length (rowOf x es)),
-          drop-at (rowOf x es)
-              (replicate (16384 - 256 * own - 256) 0) (length (rowOf x es)) refl,
-          k,
-        ) (rw e refl),
+      let k : length table - 256 * own - 256 ≡ length (rowsBefore x es) - 256 * (own + 1) = omega arith in (
+        omega arith,
+        ap (λ (n : ℕ). drop n (rowsBefore x es)) e
+            ∙ drop-append-add (take (256 * own) table) (rowOf x es ++ replicate (length table - 256 * own - 256) 0) (length (rowOf x es))
+            ∙ drop-at (rowOf x es) (replicate (length table - 256 * own - 256) 0) (length (rowOf x es)) refl
+            ∙ ap (λ (n : ℕ). replicate n 0) k,
       )
 
-pub zeros-unfilled : Unfilled 0 (replicate 16384 0)
-zeros-unfilled = (length-replicate {A = ℕ} 16384 0, refl)
+pub zeros-unfilled : (T n : ℕ) → 256 * T ≤ n → Unfilled T 0 (replicate n 0)
+zeros-unfilled T n h =
+    let l = length-replicate {A = ℕ} n 0 in
+    let e : n ≡ length {A = ℕ} (replicate n 0) - 256 * 0 = omega arith in
+    (omega arith, ap (λ (k : ℕ). replicate k 0) e)

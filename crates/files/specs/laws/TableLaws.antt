@@ -178,14 +178,15 @@ unfolding treeRows rowsOf
 tree-rows [] = refl
 tree-rows (t ∷ ts) = ap (λ (l : List ℕ). rowOf (t .start) (t .entries) ++ l) (tree-rows ts)
 
-module _ (ts : List Template) (few : Few treeEntries ts) (t n : ℕ) where
-  pub tree-slot : (d : Template) → t < length ts → n < 256 → getD (treeTable ts) (256 * t + n) 0 ≡ getD (rowOf (getD ts t d .start) (getD ts t d .entries)) n 0
+module _ (size : ℕ) (ts : List Template) (few : Few treeEntries ts) (t n : ℕ) where
+  pub tree-slot : (d : Template) → t < length ts → n < 256
+      → getD (treeTable size ts) (256 * t + n) 0 ≡ getD (rowOf (getD ts t d .start) (getD ts t d .entries)) n 0
   unfolding treeTable
-  tree-slot d l m = rw (tree-rows ts) (table-slot treeStart treeEntries 16384 ts d t n few l m)
+  tree-slot d l m = rw (tree-rows ts) (table-slot treeStart treeEntries size ts d t n few l m)
 
-  pub tree-beyond : length ts ≤ t → _≡_ {A = ℕ} (getD (treeTable ts) (256 * t + n) 0) 0
+  pub tree-beyond : length ts ≤ t → _≡_ {A = ℕ} (getD (treeTable size ts) (256 * t + n) 0) 0
   unfolding treeTable
-  tree-beyond l = rw (tree-rows ts) (table-beyond treeStart treeEntries 16384 ts t n few l)
+  tree-beyond l = rw (tree-rows ts) (table-beyond treeStart treeEntries size ts t n few l)
 
 -- ---- the table of a linear file
 abbrev pub linearStart : Linear → ℕ

@@ -1,10 +1,9 @@
 -- `flatten::flatten_marked` meets its contract: each answer leads to its case of `flattened`. Assumes nothing.
-use Prim.Native.Nat.{ℕ}
 use native.Mathlib.Omega.{arith}
-use mathlib.Core.Path.{sym, ap, _∙_}
-use lib.ListN.{length, length-set, length-replicate}
+use mathlib.Core.Path.{sym, _∙_}
+use lib.ListN.{length-set}
 use Rattle.tree.specs.laws.Judged.{judged-refused}
-use Rattle.flatten.specs.laws.FileSteps.{flatten-refused, flatten-far, flatten-short, some-bytes, file-short, file-to-write, flatten-written}
+use Rattle.flatten.specs.laws.FileSteps.{flatten-refused, flatten-far, flatten-short, some-bytes, file-short, file-rows, file-to-write, flatten-written}
 use borrow.Author.Needs.{needs}
 use Rattle.flatten.proofs.flatten_marked.Statement.{statement}
 use Rattle.flatten.proofs.flatten_marked.Tie as tie
@@ -43,8 +42,8 @@ write-templates-requires c κs =
     let told = sym (read .0) ∙ c .before .before .before .before .before .before .before .sum .given .1 in
     let out = c .before .before .before .before .before .before .before .before .before .before .before .before .before .before .before .before .before .before .before .before .args .out .now in (
       file-short _ out told,
-      c .before .before .before .before .before .before .before .before .before .before .before .before .before .read-accepted .kept .1 .0 ∙ ap length (c .before .before .before .before .before .before .before .before .before .before .before .before .before .before .before .before .before .before .before .before .pre .0) ∙ length-replicate {A = ℕ} 16384 0,
-      file-to-write _ out told (c .before .before .before .before .if1 .left) (read .1 .0) _ _ (read .1 .1) (c .before .before .before .before .before .before .before .before .before .before .before .before .before .before .before .before .before .before .before .before .pre .1) _ (simp length-set (c .before .before .before .if2 .left)),
+      rw (c .before .before .before .before .before .before .before .before .before .before .before .before .before .read-accepted .kept .1 .0) (file-rows _ out told (c .before .before .before .before .before .before .before .before .before .before .before .before .before .before .before .before .before .before .before .before .pre .0)),
+      file-to-write _ out told (c .before .before .before .before .if1 .left) (c .before .before .before .before .before .before .before .before .before .before .before .before .before .before .before .before .before .before .before .before .pre .0) (read .1 .0) _ _ (read .1 .1) (c .before .before .before .before .before .before .before .before .before .before .before .before .before .before .before .before .before .before .before .before .pre .1) _ (simp length-set (c .before .before .before .if2 .left)),
     )
 
 enum-known-no : tie.Need-enum-known-no
@@ -57,7 +56,7 @@ returns-3 : tie.Need-returns-3
 returns-3 c =
     let read = c .before .before .before .before .before .before .before .before .before .before .before .before .before .before .before .before .read-accepted .ensures in
     let told = sym (read .0) ∙ c .before .before .before .before .before .before .before .before .before .before .sum .given .1 in
-    flatten-written _ _ told (c .before .before .before .before .before .before .before .if1 .left) (read .1 .0) _ _ (read .1 .1) (c .before .before .before .before .before .before .before .before .before .before .before .before .before .before .before .before .before .before .before .before .before .before .before .pre .1) _ (simp length-set (c .before .before .before .before .before .before .if2 .left)) (simp length-set)
+    flatten-written _ _ told (c .before .before .before .before .before .before .before .if1 .left) (c .before .before .before .before .before .before .before .before .before .before .before .before .before .before .before .before .before .before .before .before .before .before .before .pre .0) (read .1 .0) _ _ (read .1 .1) (c .before .before .before .before .before .before .before .before .before .before .before .before .before .before .before .before .before .before .before .before .before .before .before .pre .1) _ (simp length-set (c .before .before .before .before .before .before .if2 .left)) (simp length-set)
     (c .before .before .write-templates .ensures)
 
 returns-4 : tie.Need-returns-4

@@ -18,7 +18,7 @@ loop-holds : tie.Need-loop-holds Inv-loop μ-loop
 loop-holds c = (search needs, refl, left-all _ _ _ _ _ _ (c .before .before .before .before .pre .2))
 
 write-template-requires : tie.Need-write-template-requires Inv-loop μ-loop
-write-template-requires c κs = let p = c .before .before .before .before .before .before .before .pre in (p .0, p .1, omega (arith, c .before .loop-test .taken, c .before .before .loop .inv .2 .now .few), leftTemplate _ _ _ _ _ _ _ _ _ _ (c .before .before .loop .inv .2) (c .before .loop-test .taken) _ (omega (arith, c .before .before .loop .inv .1)))
+write-template-requires c κs = let p = c .before .before .before .before .before .before .before .pre in (p .0, omega (arith, p .1, c .before .loop-test .taken), omega (arith, c .before .loop-test .taken, c .before .before .loop .inv .2 .now .few), leftTemplate _ _ _ _ _ _ _ _ _ _ (c .before .before .loop .inv .2) (c .before .loop-test .taken) _ (omega (arith, c .before .before .loop .inv .1)))
 
 add-own : tie.Need-add-own Inv-loop μ-loop
 add-own c = search needs

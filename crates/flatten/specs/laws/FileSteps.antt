@@ -18,6 +18,7 @@ use Rattle.files.specs.Accepted.{orLowest, treeAccepted, flatAccepted}
 use Rattle.files.specs.Linear.{templateBytes, templatesBytes, linearFile}
 use Rattle.files.specs.Tree.{Template, templatesAt, treeRead}
 use Rattle.files.specs.Table.{treeTable}
+use Rattle.files.specs.Room.{ZerosFor}
 use Rattle.files.specs.laws.TableLaws.{Few, treeEntries, row-start, tree-slot}
 use Rattle.files.specs.laws.AllGot.{got-value, field-got, tree-read}
 use Rattle.files.specs.laws.AcceptedLaws.{lowest-none}
@@ -25,7 +26,7 @@ use Rattle.tree.specs.declared.Summary.{Summary}
 use Rattle.tree.specs.declared.Judged.the-variants.{Accepted}
 use Rattle.tree.specs.Summary.{numberOr64, summaryOf, judgedTold}
 use Rattle.tree.specs.Filled.{treeFilled}
-use Rattle.tree.specs.laws.FilledLaws.{tree-table}
+use Rattle.tree.specs.laws.FilledLaws.{tree-tabled, tree-rows-there}
 use Rattle.tree.specs.laws.Parts.{TemplatesParts, templates-parts, templates-count, FileParts, tree-parts}
 use Rattle.tree.specs.laws.Judged.{ReadAs, judged-told, number-some, number-none}
 use Rattle.cells.specs.laws.Lists.{sets-append}
@@ -106,23 +107,23 @@ module _ (s table M : List ℕ) (T room : ℕ) (o₀ : List ℕ) where
             }
 
 -- ---- the templates of a file that was read
-all-flattenable : (all : List Template) (M : List ℕ) → Few treeEntries all
+all-flattenable : (size : ℕ) (all : List Template) (M : List ℕ) → Few treeEntries all
     → ((i : ℕ) (d : Template) → i < length all → Has Sizes M (getD all i d .start) (getD all i d .code))
     → (front ts : List Template) (own : ℕ) → all ≡ front ++ ts → length front ≡ own → lowest offsetTemplate own ts ≡ none
-    → Flattenable (treeTable all) M own ts
+    → Flattenable (treeTable size all) M own ts
 unfolding Flattenable
-all-flattenable all M few has front [] own e l h = tt
-all-flattenable all M few has front (t ∷ ts) own e l h =
+all-flattenable size all M few has front [] own e l h = tt
+all-flattenable size all M few has front (t ∷ ts) own e l h =
     let n : length all ≡ length front + suc (length ts) = ap length e ∙ length-append front (t ∷ ts) in
     let at : getD all own t ≡ t = rw (e, ← l) (getD-append-seam front t ts t) in
     let z : 256 * own + 0 ≡ 256 * own = add-zero (256 * own) in
-    let slot : getD (treeTable all) (256 * own) 0 ≡ t .start = (rw z at (tree-slot all few own 0 t (omega arith) (omega arith)))
+    let slot : getD (treeTable size all) (256 * own) 0 ≡ t .start = (rw z at (tree-slot size all few own 0 t (omega arith) (omega arith)))
     ∙ row-start (getD all own t .start) (getD all own t .entries) ∙ ap (λ (x : Template). x .start) at in
     let k = lowest-none offsetTemplate own t ts h in
     let a : all ≡ (front ++ (t ∷ [])) ++ ts = e ∙ sym (append-assoc front (t ∷ []) ts) in
     let b : length (front ++ (t ∷ [])) ≡ own + 1 = length-append front (t ∷ []) ∙ omega arith in
     let has-this : Has Sizes M (t .start) (t .code) = subst (λ (x : Template). Has Sizes M (x .start) (x .code)) at (has own t (omega arith)) in
-    (slot, k .0, has-this, all-flattenable all M few has (front ++ (t ∷ [])) ts (own + 1) a b (k .1))
+    (slot, k .0, has-this, all-flattenable size all M few has (front ++ (t ∷ [])) ts (own + 1) a b (k .1))
 
 -- ---- the flattener
 module _ (s old : List ℕ) where
@@ -197,10 +198,14 @@ module _ (s old : List ℕ) where
     pub file-short : length s ≤ 65536
     file-short = parts .short
 
+    pub file-rows : {table : List ℕ} → ZerosFor s table → 256 * m .count ≤ length table
+    file-rows z = rw count-is (tree-rows-there s read z)
+
     counts : m .count ≡ parts .count
     counts = count-is ∙ templates-count s (parts .count) (parts .count) 0 (parts .first) (parts .read)
 
-    module _ (close : 64 ≤ m .far) {table : List ℕ} (filled : table ≡ treeFilled s) (M M′ : List ℕ) (marks : templatesMarked Sizes M M′ (treeRead s))
+    module _ (close : 64 ≤ m .far) {table₀ table : List ℕ} (zeros : ZerosFor s table₀) (filled : table ≡ treeFilled s table₀)
+        (M M′ : List ℕ) (marks : templatesMarked Sizes M M′ (treeRead s))
         (long : length s ≤ 65536 → 8 * length s ≤ 5 * length M) (bytes : ℕ) (enough : m .size ≤ bytes) where
       all-marked : M′ ≡ markedAll Sizes M templates
       unfolding templatesMarked
@@ -220,7 +225,8 @@ module _ (s old : List ℕ) where
             read =
                 ap (λ (n : ℕ). templatesAt s n 0 (n - 0) 8) counts ∙ ap (λ (n : ℕ). templatesAt s (parts .count) 0 n 8) (sub-zero (parts .count))
                 ∙ ap (templatesAt s (parts .count) 0 (parts .count)) first ∙ parts .read;
-            good = rw (filled, tree-table s (read)) (all-flattenable templates M′ (tree-read s (read) .1 .1) all-has [] templates 0 refl refl (near close));
+            good = rw (tree-tabled s read zeros filled)
+                (all-flattenable (zeros .size) templates M′ (tree-read s (read) .1 .1) all-has [] templates 0 refl refl (near close));
             fit-room = omega (arith, size-is);
           }
 

@@ -1,8 +1,9 @@
 -- `join::join` meets its contract: as the prologue was judged. Assumes nothing.
 use native.Mathlib.Omega.{arith}
-use mathlib.Core.Path.{sym, _∙_}
+use mathlib.Core.Path.{refl, sym, _∙_}
 use Rattle.tree.specs.laws.Judged.{judged-refused}
 use Rattle.join.specs.laws.WholeLaws.{prologue-at, prologue-refused}
+use Rattle.files.specs.laws.RoomLaws.{all-rows}
 use borrow.Author.Needs.{needs}
 use Rattle.join.proofs.join.Statement.{statement}
 use Rattle.join.proofs.join.Tie as tie
@@ -20,7 +21,7 @@ slice-aggregate-join-second : tie.Need-slice-aggregate-join-second
 slice-aggregate-join-second c = search needs
 
 join-second-requires : tie.Need-join-second-requires
-join-second-requires c κs = (c .before .before .before .before .before .read-prologue .kept .1 .0, prologue-at _ (sym (c .before .before .before .before .before .read-prologue .ensures .0) ∙ c .before .before .enum-told .given .1) (c .before .before .before .before .before .read-prologue .ensures .1))
+join-second-requires c κs = (c .before .before .before .before .before .read-prologue .kept .1 .0, prologue-at _ (sym (c .before .before .before .before .before .read-prologue .ensures .0) ∙ c .before .before .enum-told .given .1) (all-rows _ refl) (c .before .before .before .before .before .read-prologue .ensures .1))
 
 enum-known-no : tie.Need-enum-known-no
 enum-known-no c = search needs

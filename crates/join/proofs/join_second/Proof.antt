@@ -1,8 +1,9 @@
 -- `join::join_second` meets its contract: as the second operand was judged. Assumes nothing.
 use native.Mathlib.Omega.{arith}
-use mathlib.Core.Path.{sym, _∙_}
+use mathlib.Core.Path.{refl, sym, _∙_}
 use Rattle.tree.specs.laws.Judged.{judged-refused}
 use Rattle.join.specs.laws.WholeLaws.{to-join, second-refused}
+use Rattle.files.specs.laws.RoomLaws.{all-rows}
 use borrow.Author.Needs.{needs}
 use Rattle.join.proofs.join_second.Statement.{statement}
 use Rattle.join.proofs.join_second.Tie as tie
@@ -20,7 +21,7 @@ slice-aggregate-join-both : tie.Need-slice-aggregate-join-both
 slice-aggregate-join-both c = search needs
 
 join-both-requires : tie.Need-join-both-requires
-join-both-requires c κs = (c .before .before .before .before .before .before .before .before .before .before .before .before .pre .0, c .before .before .before .before .before .before .read-second .kept .1 .0, to-join (c .before .before .before .before .before .before .before .before .before .before .before .before .pre .1) _ (sym (c .before .before .before .before .before .before .read-second .ensures .0) ∙ c .before .before .before .sum .given .1) (c .before .before .before .before .before .before .read-second .ensures .1))
+join-both-requires c κs = (c .before .before .before .before .before .before .before .before .before .before .before .before .pre .0, c .before .before .before .before .before .before .read-second .kept .1 .0, to-join (c .before .before .before .before .before .before .before .before .before .before .before .before .pre .1) _ (sym (c .before .before .before .before .before .before .read-second .ensures .0) ∙ c .before .before .before .sum .given .1) (all-rows _ refl) (c .before .before .before .before .before .before .read-second .ensures .1))
 
 enum-known-no : tie.Need-enum-known-no
 enum-known-no c = search needs

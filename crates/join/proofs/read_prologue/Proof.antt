@@ -4,30 +4,31 @@ use mathlib.Core.Path.{sym, ap, _∙_}
 use lib.ListN.{length}
 use Rattle.join.specs.laws.OperandsLaws.{file-short}
 use Rattle.join.specs.laws.JudgedLaws.{zeros-length, operand-read, prologue-told, prologue-misnamed, prologue-good, prologue-other, prologue-unread}
+use Rattle.files.specs.laws.RoomLaws.{all-rows}
 use borrow.Author.Needs.{needs}
 use Rattle.join.proofs.read_prologue.Statement.{statement}
 use Rattle.join.proofs.read_prologue.Tie as tie
 
 read-tree-requires : tie.Need-read-tree-requires
-read-tree-requires c κs = search needs
+read-tree-requires c κs = all-rows _ (c .before .before .before .before .pre)
 
 enum-known-sum : tie.Need-enum-known-sum
 enum-known-sum c = search needs
 
 is-prologue-requires : tie.Need-is-prologue-requires
-is-prologue-requires c κs = (file-short _ _ _ (operand-read _ (sym (c .before .before .before .before .before .before .before .read-tree .ensures .0) ∙ c .before .before .sum .given .1) (c .before .before .before .before .before .before .before .read-tree .ensures .1 .0) .read), c .before .before .before .before .before .before .before .read-tree .kept .1 .0 ∙ ap length (c .before .before .before .before .before .before .before .before .before .before .before .before .pre) ∙ zeros-length 16384)
+is-prologue-requires c κs = (file-short _ _ _ (operand-read _ (sym (c .before .before .before .before .before .before .before .read-tree .ensures .0) ∙ c .before .before .sum .given .1) (all-rows _ (c .before .before .before .before .before .before .before .before .before .before .before .before .pre)) (c .before .before .before .before .before .before .before .read-tree .ensures .1 .0) .read), c .before .before .before .before .before .before .before .read-tree .kept .1 .0 ∙ ap length (c .before .before .before .before .before .before .before .before .before .before .before .before .pre) ∙ zeros-length 16384)
 
 same-length : tie.Need-same-length
 same-length c = search needs
 
 returns : tie.Need-returns
-returns c = (prologue-misnamed _ (sym (c .before .before .before .before .before .before .before .before .before .before .before .before .read-tree .ensures .0) ∙ c .before .before .before .before .before .before .before .sum .given .1) ((prologue-told _ (sym (c .before .before .before .before .before .before .before .before .before .before .before .before .read-tree .ensures .0) ∙ c .before .before .before .before .before .before .before .sum .given .1) (c .before .before .before .before .before .before .before .before .before .before .before .before .read-tree .ensures .1 .0) (c .before .before .before .before .is-prologue .ensures)) ∙ c .before .before .before .if1 .taken) (c .before .if2 .taken), c .before .before .before .before .before .before .before .before .before .before .before .before .read-tree .ensures .1 .0)
+returns c = (prologue-misnamed _ (sym (c .before .before .before .before .before .before .before .before .before .before .before .before .read-tree .ensures .0) ∙ c .before .before .before .before .before .before .before .sum .given .1) ((prologue-told _ (sym (c .before .before .before .before .before .before .before .before .before .before .before .before .read-tree .ensures .0) ∙ c .before .before .before .before .before .before .before .sum .given .1) (all-rows _ (c .before .before .before .before .before .before .before .before .before .before .before .before .before .before .before .before .before .pre)) (c .before .before .before .before .before .before .before .before .before .before .before .before .read-tree .ensures .1 .0) (c .before .before .before .before .is-prologue .ensures)) ∙ c .before .before .before .if1 .taken) (c .before .if2 .taken), c .before .before .before .before .before .before .before .before .before .before .before .before .read-tree .ensures .1 .0)
 
 same-length-2 : tie.Need-same-length-2
 same-length-2 c = search needs
 
 returns-2 : tie.Need-returns-2
-returns-2 c = (prologue-good _ (sym (c .before .before .before .before .before .before .before .before .before .before .before .read-tree .ensures .0) ∙ c .before .before .before .before .before .before .sum .given .1) ((prologue-told _ (sym (c .before .before .before .before .before .before .before .before .before .before .before .read-tree .ensures .0) ∙ c .before .before .before .before .before .before .sum .given .1) (c .before .before .before .before .before .before .before .before .before .before .before .read-tree .ensures .1 .0) (c .before .before .before .is-prologue .ensures)) ∙ c .before .before .if1 .taken) (c .if2 .left), c .before .before .before .before .before .before .before .before .before .before .before .read-tree .ensures .1 .0)
+returns-2 c = (prologue-good _ (sym (c .before .before .before .before .before .before .before .before .before .before .before .read-tree .ensures .0) ∙ c .before .before .before .before .before .before .sum .given .1) ((prologue-told _ (sym (c .before .before .before .before .before .before .before .before .before .before .before .read-tree .ensures .0) ∙ c .before .before .before .before .before .before .sum .given .1) (all-rows _ (c .before .before .before .before .before .before .before .before .before .before .before .before .before .before .before .before .pre)) (c .before .before .before .before .before .before .before .before .before .before .before .read-tree .ensures .1 .0) (c .before .before .before .is-prologue .ensures)) ∙ c .before .before .if1 .taken) (c .if2 .left), c .before .before .before .before .before .before .before .before .before .before .before .read-tree .ensures .1 .0)
 
 enum-known-no : tie.Need-enum-known-no
 enum-known-no c = search needs
@@ -39,7 +40,7 @@ same-length-3 : tie.Need-same-length-3
 same-length-3 c = search needs
 
 returns-3 : tie.Need-returns-3
-returns-3 c = (prologue-other _ (sym (c .before .before .before .before .before .before .before .before .before .read-tree .ensures .0) ∙ c .before .before .before .before .sum .given .1) ((prologue-told _ (sym (c .before .before .before .before .before .before .before .before .before .read-tree .ensures .0) ∙ c .before .before .before .before .sum .given .1) (c .before .before .before .before .before .before .before .before .before .read-tree .ensures .1 .0) (c .before .is-prologue .ensures)) ∙ c .if1 .left), c .before .before .before .before .before .before .before .before .before .read-tree .ensures .1 .0)
+returns-3 c = (prologue-other _ (sym (c .before .before .before .before .before .before .before .before .before .read-tree .ensures .0) ∙ c .before .before .before .before .sum .given .1) ((prologue-told _ (sym (c .before .before .before .before .before .before .before .before .before .read-tree .ensures .0) ∙ c .before .before .before .before .sum .given .1) (all-rows _ (c .before .before .before .before .before .before .before .before .before .before .before .before .before .before .pre)) (c .before .before .before .before .before .before .before .before .before .read-tree .ensures .1 .0) (c .before .is-prologue .ensures)) ∙ c .if1 .left), c .before .before .before .before .before .before .before .before .before .read-tree .ensures .1 .0)
 
 same-length-4 : tie.Need-same-length-4
 same-length-4 c = search needs

@@ -4,12 +4,13 @@ use mathlib.Core.Path.{sym, ap, _∙_}
 use lib.ListN.{length}
 use Rattle.join.specs.laws.OperandsLaws.{file-short}
 use Rattle.join.specs.laws.JudgedLaws.{zeros-length, operand-read, prologue-told, unclosed-told, second-open-misnamed, second-open-good, second-unclosed, second-misnamed, second-good, second-unread}
+use Rattle.files.specs.laws.RoomLaws.{all-rows}
 use borrow.Author.Needs.{needs}
 use Rattle.join.proofs.read_second.Statement.{statement}
 use Rattle.join.proofs.read_second.Tie as tie
 
 read-tree-requires : tie.Need-read-tree-requires
-read-tree-requires c κs = search needs
+read-tree-requires c κs = all-rows _ (c .before .before .before .before .pre)
 
 enum-known-sum : tie.Need-enum-known-sum
 enum-known-sum c = search needs
@@ -18,7 +19,7 @@ is-open-requires : tie.Need-is-open-requires
 is-open-requires c κs =
     let k = c .before .before .before .before .before .before .before in
     let told = sym (k .read-tree .ensures .0) ∙ c .before .before .sum .given .1 in (
-      file-short _ _ _ (operand-read _ told (k .read-tree .ensures .1 .0) .read),
+      file-short _ _ _ (operand-read _ told (all-rows _ (k .before .before .before .before .before .pre)) (k .read-tree .ensures .1 .0) .read),
       k .read-tree .kept .1 .0 ∙ ap length (k .before .before .before .before .before .pre) ∙ zeros-length 16384,
       unclosed-told _ told,
     )
@@ -27,25 +28,25 @@ same-length : tie.Need-same-length
 same-length c = search needs
 
 returns : tie.Need-returns
-returns c = (second-open-misnamed _ (sym (c .before .before .before .before .before .before .before .before .before .before .before .before .read-tree .ensures .0) ∙ c .before .before .before .before .before .before .before .sum .given .1) ((prologue-told _ (sym (c .before .before .before .before .before .before .before .before .before .before .before .before .read-tree .ensures .0) ∙ c .before .before .before .before .before .before .before .sum .given .1) (c .before .before .before .before .before .before .before .before .before .before .before .before .read-tree .ensures .1 .0) (c .before .before .before .before .is-open .ensures)) ∙ c .before .before .before .if1 .taken) (c .before .if2 .taken), c .before .before .before .before .before .before .before .before .before .before .before .before .read-tree .ensures .1 .0)
+returns c = (second-open-misnamed _ (sym (c .before .before .before .before .before .before .before .before .before .before .before .before .read-tree .ensures .0) ∙ c .before .before .before .before .before .before .before .sum .given .1) ((prologue-told _ (sym (c .before .before .before .before .before .before .before .before .before .before .before .before .read-tree .ensures .0) ∙ c .before .before .before .before .before .before .before .sum .given .1) (all-rows _ (c .before .before .before .before .before .before .before .before .before .before .before .before .before .before .before .before .before .pre)) (c .before .before .before .before .before .before .before .before .before .before .before .before .read-tree .ensures .1 .0) (c .before .before .before .before .is-open .ensures)) ∙ c .before .before .before .if1 .taken) (c .before .if2 .taken), c .before .before .before .before .before .before .before .before .before .before .before .before .read-tree .ensures .1 .0)
 
 same-length-2 : tie.Need-same-length-2
 same-length-2 c = search needs
 
 returns-2 : tie.Need-returns-2
-returns-2 c = (second-open-good _ (sym (c .before .before .before .before .before .before .before .before .before .before .before .read-tree .ensures .0) ∙ c .before .before .before .before .before .before .sum .given .1) ((prologue-told _ (sym (c .before .before .before .before .before .before .before .before .before .before .before .read-tree .ensures .0) ∙ c .before .before .before .before .before .before .sum .given .1) (c .before .before .before .before .before .before .before .before .before .before .before .read-tree .ensures .1 .0) (c .before .before .before .is-open .ensures)) ∙ c .before .before .if1 .taken) (c .if2 .left), c .before .before .before .before .before .before .before .before .before .before .before .read-tree .ensures .1 .0)
+returns-2 c = (second-open-good _ (sym (c .before .before .before .before .before .before .before .before .before .before .before .read-tree .ensures .0) ∙ c .before .before .before .before .before .before .sum .given .1) ((prologue-told _ (sym (c .before .before .before .before .before .before .before .before .before .before .before .read-tree .ensures .0) ∙ c .before .before .before .before .before .before .sum .given .1) (all-rows _ (c .before .before .before .before .before .before .before .before .before .before .before .before .before .before .before .before .pre)) (c .before .before .before .before .before .before .before .before .before .before .before .read-tree .ensures .1 .0) (c .before .before .before .is-open .ensures)) ∙ c .before .before .if1 .taken) (c .if2 .left), c .before .before .before .before .before .before .before .before .before .before .before .read-tree .ensures .1 .0)
 
 same-length-3 : tie.Need-same-length-3
 same-length-3 c = search needs
 
 returns-3 : tie.Need-returns-3
-returns-3 c = (second-unclosed _ (sym (c .before .before .before .before .before .before .before .before .before .before .before .before .read-tree .ensures .0) ∙ c .before .before .before .before .before .before .before .sum .given .1) ((prologue-told _ (sym (c .before .before .before .before .before .before .before .before .before .before .before .before .read-tree .ensures .0) ∙ c .before .before .before .before .before .before .before .sum .given .1) (c .before .before .before .before .before .before .before .before .before .before .before .before .read-tree .ensures .1 .0) (c .before .before .before .before .is-open .ensures)) ∙ c .before .before .before .if1 .left) (c .before .if3 .taken), c .before .before .before .before .before .before .before .before .before .before .before .before .read-tree .ensures .1 .0)
+returns-3 c = (second-unclosed _ (sym (c .before .before .before .before .before .before .before .before .before .before .before .before .read-tree .ensures .0) ∙ c .before .before .before .before .before .before .before .sum .given .1) ((prologue-told _ (sym (c .before .before .before .before .before .before .before .before .before .before .before .before .read-tree .ensures .0) ∙ c .before .before .before .before .before .before .before .sum .given .1) (all-rows _ (c .before .before .before .before .before .before .before .before .before .before .before .before .before .before .before .before .before .pre)) (c .before .before .before .before .before .before .before .before .before .before .before .before .read-tree .ensures .1 .0) (c .before .before .before .before .is-open .ensures)) ∙ c .before .before .before .if1 .left) (c .before .if3 .taken), c .before .before .before .before .before .before .before .before .before .before .before .before .read-tree .ensures .1 .0)
 
 same-length-4 : tie.Need-same-length-4
 same-length-4 c = search needs
 
 returns-4 : tie.Need-returns-4
-returns-4 c = (second-misnamed _ (sym (c .before .before .before .before .before .before .before .before .before .before .before .before .before .before .read-tree .ensures .0) ∙ c .before .before .before .before .before .before .before .before .before .sum .given .1) ((prologue-told _ (sym (c .before .before .before .before .before .before .before .before .before .before .before .before .before .before .read-tree .ensures .0) ∙ c .before .before .before .before .before .before .before .before .before .sum .given .1) (c .before .before .before .before .before .before .before .before .before .before .before .before .before .before .read-tree .ensures .1 .0) (c .before .before .before .before .before .before .is-open .ensures)) ∙ c .before .before .before .before .before .if1 .left) (c .before .before .before .if3 .left) (c .before .if4 .taken), c .before .before .before .before .before .before .before .before .before .before .before .before .before .before .read-tree .ensures .1 .0)
+returns-4 c = (second-misnamed _ (sym (c .before .before .before .before .before .before .before .before .before .before .before .before .before .before .read-tree .ensures .0) ∙ c .before .before .before .before .before .before .before .before .before .sum .given .1) ((prologue-told _ (sym (c .before .before .before .before .before .before .before .before .before .before .before .before .before .before .read-tree .ensures .0) ∙ c .before .before .before .before .before .before .before .before .before .sum .given .1) (all-rows _ (c .before .before .before .before .before .before .before .before .before .before .before .before .before .before .before .before .before .before .before .pre)) (c .before .before .before .before .before .before .before .before .before .before .before .before .before .before .read-tree .ensures .1 .0) (c .before .before .before .before .before .before .is-open .ensures)) ∙ c .before .before .before .before .before .if1 .left) (c .before .before .before .if3 .left) (c .before .if4 .taken), c .before .before .before .before .before .before .before .before .before .before .before .before .before .before .read-tree .ensures .1 .0)
 
 enum-known-no : tie.Need-enum-known-no
 enum-known-no c = search needs
@@ -57,7 +58,7 @@ same-length-5 : tie.Need-same-length-5
 same-length-5 c = search needs
 
 returns-5 : tie.Need-returns-5
-returns-5 c = (second-good _ (sym (c .before .before .before .before .before .before .before .before .before .before .before .before .before .read-tree .ensures .0) ∙ c .before .before .before .before .before .before .before .before .sum .given .1) ((prologue-told _ (sym (c .before .before .before .before .before .before .before .before .before .before .before .before .before .read-tree .ensures .0) ∙ c .before .before .before .before .before .before .before .before .sum .given .1) (c .before .before .before .before .before .before .before .before .before .before .before .before .before .read-tree .ensures .1 .0) (c .before .before .before .before .before .is-open .ensures)) ∙ c .before .before .before .before .if1 .left) (c .before .before .if3 .left) (c .if4 .left), c .before .before .before .before .before .before .before .before .before .before .before .before .before .read-tree .ensures .1 .0)
+returns-5 c = (second-good _ (sym (c .before .before .before .before .before .before .before .before .before .before .before .before .before .read-tree .ensures .0) ∙ c .before .before .before .before .before .before .before .before .sum .given .1) ((prologue-told _ (sym (c .before .before .before .before .before .before .before .before .before .before .before .before .before .read-tree .ensures .0) ∙ c .before .before .before .before .before .before .before .before .sum .given .1) (all-rows _ (c .before .before .before .before .before .before .before .before .before .before .before .before .before .before .before .before .before .before .pre)) (c .before .before .before .before .before .before .before .before .before .before .before .before .before .read-tree .ensures .1 .0) (c .before .before .before .before .before .is-open .ensures)) ∙ c .before .before .before .before .if1 .left) (c .before .before .if3 .left) (c .if4 .left), c .before .before .before .before .before .before .before .before .before .before .before .before .before .read-tree .ensures .1 .0)
 
 same-length-6 : tie.Need-same-length-6
 same-length-6 c = search needs

@@ -28,8 +28,9 @@ use Rattle.tree.specs.declared.TreeFile.the-variants.{Read, Refused as RefusedT
 use Rattle.tree.specs.declared.Judged.{Judged}
 use Rattle.tree.specs.declared.Judged.the-variants.{Accepted, Refused}
 use Rattle.tree.specs.Summary.{numberOr64, summaryOf, treeTold, judgedTold}
+use Rattle.files.specs.Room.{ZerosFor}
 use Rattle.tree.specs.Filled.{treeFilled}
-use Rattle.tree.specs.laws.FilledLaws.{tree-table}
+use Rattle.tree.specs.laws.FilledLaws.{tree-tabled}
 use Rattle.tree.specs.laws.Judged.{ReadAs, tree-told, number-some, number-none}
 use Rattle.join.specs.Join.{isPrologue, indicesChecked, prologueChecked, unclosed, secondChecked}
 use Rattle.join.specs.Operands.{Operand, Unclosed}
@@ -64,7 +65,7 @@ module _ {s table : List ℕ} {count : ℕ} (w : Operand s table count) (single 
   list-is =
       let t = it .the in
       let r : treeRead s ≡ got (t ∷ []) (w .past) = rw (it .is) at (w .read) in
-      let z : getD table 0 0 ≡ t .start = slot-start s (t ∷ []) (w .past) r 0 t (omega arith) (rw (it .is) at (w .filled)) in
+      let z : getD table 0 0 ≡ t .start = slot-start s (t ∷ []) (w .past) r 0 t (omega arith) (w .size) (rw (it .is) at (w .filled)) in
       ap (listAt s 15) (at-is ∙ z) ∙ list-read s (t ∷ []) (w .past) r 0 t (omega arith)
 
   pub prologue-class : (q : BitPlace) (f : Facts) → listed table 0 (listAt s 15 at) ≡ ListDone q f → eqb (f .class) 1 ≡ isPrologue (w .templates)
@@ -103,22 +104,23 @@ module _ (s : List ℕ) {m : Summary} (told : treeTold (treeRead s) ≡ Read m) 
   abbrev pub ts : List Template
   ts = file .templates
 
-  pub operand-read : {table : List ℕ} → table ≡ treeFilled s → Operand s table (m .count)
+  pub operand-read : {table table′ : List ℕ} → ZerosFor s table → table′ ≡ treeFilled s table → Operand s table′ (m .count)
   unfolding summaryOf
-  operand-read e =
+  operand-read z e =
       record {
         templates = ts;
         past = file .past;
         read = file .is;
-        filled = e ∙ tree-table s (file .is);
+        size = z .size;
+        filled = tree-tabled s (file .is) z e;
         count-is = sym (ap (λ (x : Summary). x .count) (file .summary));
       }
 
   -- what is asked of an operand is told of these templates
-  pub prologue-told : {table : List ℕ} {b : Bool} → table ≡ treeFilled s → ((w : Operand s table (m .count)) → b ≡ isPrologue (w .templates))
-      → isPrologue ts ≡ b
+  pub prologue-told : {table table′ : List ℕ} {b : Bool} → ZerosFor s table → table′ ≡ treeFilled s table
+      → ((w : Operand s table′ (m .count)) → b ≡ isPrologue (w .templates)) → isPrologue ts ≡ b
   unfolding operand-read
-  prologue-told e f = sym (f (operand-read e))
+  prologue-told z e f = sym (f (operand-read z e))
 
   few : 0 + length ts ≤ 64
   few = omega (arith, file-count s ts (file .past) (file .is))

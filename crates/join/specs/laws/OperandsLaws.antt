@@ -129,11 +129,11 @@ module _ (s : List ℕ) (ts : List Template) (q : ℕ) (read : treeRead s ≡ go
 
   module _ (i : ℕ) (d : Template) (lt : i < length ts) where
     -- slot 0 of row i is where list i begins
-    pub slot-start : {table : List ℕ} → table ≡ treeTable ts → getD table (256 * i) 0 ≡ getD ts i d .start
-    slot-start filled =
+    pub slot-start : (size : ℕ) {table : List ℕ} → table ≡ treeTable size ts → getD table (256 * i) 0 ≡ getD ts i d .start
+    slot-start size filled =
         let z : 256 * i + 0 ≡ 256 * i = add-zero (256 * i) in
         let few = tree-read s read .1 .1 in
-        ap (λ (x : List ℕ). getD x (256 * i) 0) filled ∙ (rw z at (tree-slot ts few i 0 d lt (omega arith)))
+        ap (λ (x : List ℕ). getD x (256 * i) 0) filled ∙ (rw z at (tree-slot size ts few i 0 d lt (omega arith)))
         ∙ row-start (getD ts i d .start) (getD ts i d .entries)
 
     pub list-code : CodeAt s 15 (getD ts i d .start)

@@ -126,7 +126,7 @@ module _ {s table : List ℕ} {count : ℕ} (w : Operand s table count) where
   read : treeRead s ≡ got (t ∷ us) (w .past)
   read = rw (parts .is) at (w .read)
 
-  filled : table ≡ treeTable (t ∷ us)
+  filled : table ≡ treeTable (w .size) (t ∷ us)
   filled = rw (parts .is) at (w .filled)
 
   pub operand-two : 16 ≤ 8 * length s
@@ -137,7 +137,7 @@ module _ {s table : List ℕ} {count : ℕ} (w : Operand s table count) where
     pub first-is : at .0 ≡ getD table 0 0 → (e : ℕ) → e ≡ fieldAt s 8 8 → record { entries = e; start = at; past = m } ≡ firstOf (w .templates)
     unfolding firstOf
     first-is here e counted =
-        let k : at .0 ≡ t .start = here ∙ slot-start s (t ∷ us) (w .past) read 0 t (omega arith) filled in
+        let k : at .0 ≡ t .start = here ∙ slot-start s (t ∷ us) (w .past) read 0 t (omega arith) (w .size) filled in
         let r : m .0 ≡ t .start + bits (t .code) = found (t .code) _ (ap (listAt s 15) k ∙ list-read s (t ∷ us) (w .past) read 0 t (omega arith)) in
         let n : e ≡ length (t .entries) = counted ∙ first-counted s t us (w .past) read in
         rw (parts .is) (all e (length (t .entries)) at (record { 0 = t .start }) m (record { 0 = t .start + bits (t .code) }) n k r)
@@ -155,7 +155,7 @@ module _ {s table : List ℕ} {count : ℕ} (w : Operand s table count) where
         let n : own ≡ length us = last ∙ omega (arith, w .count-is, ap length (parts .is)) in
         let h : length us < length (t ∷ us) = omega arith in
         let k : at .0 ≡ getD (t ∷ us) (length us) t .start =
-        here ∙ ap (λ i. getD table (256 * i) 0) n ∙ slot-start s (t ∷ us) (w .past) read (length us) t h filled in
+        here ∙ ap (λ i. getD table (256 * i) 0) n ∙ slot-start s (t ∷ us) (w .past) read (length us) t h (w .size) filled in
         found _ _ (ap (listAt s 15) k ∙ list-read s (t ∷ us) (w .past) read (length us) t h)
         ∙ last-at s t us (w .past) read ∙ ap (λ (ts : List Template). length (fileBits ts)) (sym (parts .is))
 

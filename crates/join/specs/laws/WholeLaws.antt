@@ -16,8 +16,9 @@ use Rattle.readback.specs.laws.Led.{cond-led}
 use Rattle.tree.specs.declared.Summary.{Summary}
 use Rattle.tree.specs.declared.Judged.the-variants.{Accepted}
 use Rattle.tree.specs.Summary.{summaryOf, judgedTold}
+use Rattle.files.specs.Room.{ZerosFor}
 use Rattle.tree.specs.Filled.{treeFilled}
-use Rattle.tree.specs.laws.FilledLaws.{tree-table}
+use Rattle.tree.specs.laws.FilledLaws.{tree-tabled}
 use Rattle.tree.specs.laws.Judged.{ReadAs, judged-told}
 use Rattle.files.specs.Outcome.{answered, written}
 use Rattle.files.specs.declared.Outcome.{Outcome}
@@ -52,8 +53,10 @@ one-template [] e = clash (cc)
 one-template (t ∷ []) e = refl
 one-template (t ∷ u ∷ ts) e = clash (cc)
 
-pub prologue-at : (a : List ℕ) {m : Summary} {table : List ℕ} → judgedTold (prologueChecked a) ≡ Accepted m → table ≡ treeFilled a → PrologueAt a table
-prologue-at a told e =
+pub prologue-at : (a : List ℕ) {m : Summary} {table table′ : List ℕ} → judgedTold (prologueChecked a) ≡ Accepted m → ZerosFor a table
+    → table′ ≡ treeFilled a table
+    → PrologueAt a table′
+prologue-at a told z e =
     let f = judged-told (prologueChecked a) told in
     let r = prologue-read a (f .templates) (f .past) (f .is) in
     record {
@@ -61,17 +64,18 @@ prologue-at a told e =
         templates = f .templates;
         past = f .past;
         read = r .0;
-        filled = e ∙ tree-table a (r .0);
+        size = z .size;
+        filled = tree-tabled a (r .0) z e;
         count-is = one-template (f .templates) (r .1);
       };
       checked = f .is;
     }
 
-pub to-join : {a first : List ℕ} → PrologueAt a first → (b : List ℕ) {m : Summary} {second : List ℕ} → judgedTold (secondChecked b) ≡ Accepted m
-    → second ≡ treeFilled b
+pub to-join : {a first : List ℕ} → PrologueAt a first → (b : List ℕ) {m : Summary} {zeros second : List ℕ} → judgedTold (secondChecked b) ≡ Accepted m
+    → ZerosFor b zeros → second ≡ treeFilled b zeros
     → ToJoin a first b second (m .count)
 unfolding summaryOf
-to-join w b told e =
+to-join w b told z e =
     let f = judged-told (secondChecked b) told in
     let r = second-read b (f .templates) (f .past) (f .is) in
     record {
@@ -80,7 +84,8 @@ to-join w b told e =
         templates = f .templates;
         past = f .past;
         read = r;
-        filled = e ∙ tree-table b r;
+        size = z .size;
+        filled = tree-tabled b r z e;
         count-is = sym (ap (λ (x : Summary). x .count) (f .summary));
       };
       checked = f .is;

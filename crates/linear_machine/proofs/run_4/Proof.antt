@@ -1,7 +1,6 @@
 -- `linear_machine::run_4` meets its contract. Assumes nothing.
 use borrow.Author.Needs.{needs}
 use mathlib.Core.Path.{refl}
-use Rattle.machines.specs.Start.{zeros}
 use Rattle.linear_machine.proofs.run_4.Statement.{statement}
 use Rattle.linear_machine.proofs.run_4.Tie as tie
 
@@ -9,7 +8,6 @@ slice-aggregate-run-file : tie.Need-slice-aggregate-run-file
 slice-aggregate-run-file c = search needs
 
 run-file-requires : tie.Need-run-file-requires
-unfolding zeros
 run-file-requires c κs = let p = c .before .before .before .before .before .before .before .before .before .before .pre in (p .0, record { size = 1024; room = p .1; zero = refl })
 
 same-length : tie.Need-same-length

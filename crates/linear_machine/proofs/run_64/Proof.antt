@@ -1,8 +1,7 @@
 -- `linear_machine::run_64` meets its contract. Assumes nothing.
-use borrow.Author.Needs.{needs}
 use mathlib.Core.Path.{refl}
-use native.Mathlib.Omega.{arith}
-use Rattle.machines.specs.Start.{zeros}
+use borrow.Author.Needs.{needs}
+use Rattle.files.specs.laws.RoomLaws.{all-rows}
 use Rattle.linear_machine.proofs.run_64.Statement.{statement}
 use Rattle.linear_machine.proofs.run_64.Tie as tie
 
@@ -10,8 +9,7 @@ slice-aggregate-run-file : tie.Need-slice-aggregate-run-file
 slice-aggregate-run-file c = search needs
 
 run-file-requires : tie.Need-run-file-requires
-unfolding zeros
-run-file-requires c κs = (c .before .before .before .before .before .before .before .before .before .before .pre, record { size = 16384; room = λ few. omega arith; zero = refl })
+run-file-requires c κs = (c .before .before .before .before .before .before .before .before .before .before .pre, all-rows _ refl)
 
 same-length : tie.Need-same-length
 same-length c = search needs

@@ -1,7 +1,8 @@
 -- `linear_machine::run_file` meets its contract. Assumes nothing.
 use borrow.Author.Needs.{needs}
 use native.Mathlib.Omega.{arith}
-use Rattle.linear_machine.proofs.FileLaws.{table-room, file-within, file-ran, file-refused}
+use Rattle.files.specs.laws.RoomLaws.{table-room}
+use Rattle.linear_machine.proofs.FileLaws.{file-within, file-ran, file-refused}
 use Rattle.linear_machine.proofs.run_file.Statement.{statement}
 use Rattle.linear_machine.proofs.run_file.Tie as tie
 

@@ -55,7 +55,7 @@ module _ {s table : List ℕ} {count : ℕ} (r : FileReady s table count) where
     slot-start : getD table (256 * own) 0 ≡ template .start
     unfolding template
     slot-start =
-        let e = tree-slot (r .templates) (tree-read s (r .read) .1 .1) own 0 none within (omega arith) in
+        let e = tree-slot (r .size) (r .templates) (tree-read s (r .read) .1 .1) own 0 none within (omega arith) in
         rw (r .tabled) (rw add-zero at e ∙ row-start _ _)
 
     list-is : listAt s 15 (getD table (256 * own) 0) ≡ got (template .code) (template .start + bits (template .code))

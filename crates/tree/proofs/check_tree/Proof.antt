@@ -1,7 +1,8 @@
 -- `tree::check_tree` meets its contract. Assumes nothing.
-use mathlib.Core.Path.{sym, ap, _∙_}
+use mathlib.Core.Path.{refl, sym, ap, _∙_}
 use Rattle.tree.specs.Summary.{checkedTold}
 use Rattle.tree.specs.laws.Judged.{judged-told, judged-refused}
+use Rattle.files.specs.laws.RoomLaws.{all-rows}
 use borrow.Author.Needs.{needs}
 use Rattle.tree.proofs.check_tree.Statement.{statement}
 use Rattle.tree.proofs.check_tree.Tie as tie
@@ -10,7 +11,7 @@ slice-aggregate-read-accepted : tie.Need-slice-aggregate-read-accepted
 slice-aggregate-read-accepted c = search needs
 
 read-accepted-requires : tie.Need-read-accepted-requires
-read-accepted-requires c κs = search needs
+read-accepted-requires c κs = all-rows _ refl
 
 enum-told : tie.Need-enum-told
 enum-told c = search needs

@@ -46,7 +46,7 @@ slice-write-table : tie.Need-slice-write-table
 slice-write-table c = search needs
 
 read-list-requires : tie.Need-read-list-requires
-read-list-requires c κs = let p = c .before .before .before .before .before .before .before .before .before .before .before .before .before .before .before .before .before .pre in (p .0, simp length-set (c .before .before .before .before .before .before .before .before .read-entries .kept .1 .0 ∙ p .1 .1 .1 .0), omega (arith, p .1 .0))
+read-list-requires c κs = let p = c .before .before .before .before .before .before .before .before .before .before .before .before .before .before .before .before .before .pre in (p .0, simp length-set (omega (arith, c .before .before .before .before .before .before .before .before .read-entries .kept .1 .0, p .1 .1 .1 .0, p .1 .0)), omega (arith, p .1 .0, p .1 .1 .0))
 
 enum-known-past : tie.Need-enum-known-past
 enum-known-past c = search needs

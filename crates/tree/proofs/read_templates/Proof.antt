@@ -16,10 +16,10 @@ use Rattle.tree.proofs.read_templates.Statement.{statement}
 use Rattle.tree.proofs.read_templates.Tie as tie
 
 abbrev Inv-loop : tie.InvT-loop
-Inv-loop s table₀ count keep marks₀ own₀ here₀ sum₀ table marks own here sum = (own ≤ count) × Unfilled own table × (sum .size ≤ 1 + 2097152 * own)
+Inv-loop s table₀ count keep marks₀ own₀ here₀ sum₀ table marks own here sum = (own ≤ count) × Unfilled count own table × (sum .size ≤ 1 + 2097152 * own)
     × (templatesTold (templatesAt s count 0 count (here₀ .0)) ≡ toldFrom own sum (templatesAt s count own (count - own) (here .0)))
     × (templatesFilled s count 0 count (here₀ .0) table₀ ≡ templatesFilled s count own (count - own) (here .0) table)
-    × Marking keep s count marks₀ (here₀ .0) marks own (here .0) × (length marks ≡ length marks₀)
+    × Marking keep s count marks₀ (here₀ .0) marks own (here .0) × (length marks ≡ length marks₀) × (length table ≡ length table₀)
 
 abbrev μ-loop : tie.MeasureT-loop
 μ-loop s table₀ count keep marks₀ own₀ here₀ sum₀ table marks own here sum = count - own
@@ -28,7 +28,7 @@ loop-holds : tie.Need-loop-holds Inv-loop μ-loop
 unfolding begun
 loop-holds c =
     let k = c .before .before .before .pre in
-    (search needs, k .1 .1, search needs, rw sub-zero (told-all _ _ _ (k .1 .0)), rw sub-zero refl, marking-begun _ _ _ _ _, refl)
+    (search needs, k .1 .1, search needs, rw sub-zero (told-all _ _ _ (k .1 .0)), rw sub-zero refl, marking-begun _ _ _ _ _, refl, refl)
 
 read-template-requires : tie.Need-read-template-requires Inv-loop μ-loop
 read-template-requires c κs = let k = c .before .before .before .before .before .before .before .pre in let i = c .before .before .before .loop .inv in (k .0, (omega arith, (k .1 .0, i .1)))
@@ -65,7 +65,7 @@ loop-again c =
     let less = c .before .before .before .before .before .before .before .before .before .before .before .loop-test .taken in
     let d = templates-on _ _ _ _ _ _ less (c .before .before .before .before .before .before .before .before .read-template .ensures .0, c .before .before .before .before .before .before .before .before .read-template .ensures .1 .0) (k .1 .0) (c .before .before .past .given .1) (c .summary-after .ensures) in
     let small = next-small _ _ _ _ _ (k .1 .0) (c .before .before .before .before .before .before .before .before .read-template .ensures .0, c .before .before .before .before .before .before .before .before .read-template .ensures .1 .0) (c .before .before .past .given .1) (k .0) in
-    (search needs, next-unfilled _ _ _ _ _ (k .1 .0) (c .before .before .before .before .before .before .before .before .read-template .ensures .0, c .before .before .before .before .before .before .before .before .read-template .ensures .1 .0) (c .before .before .past .given .1) less (i .1), rw (c .summary-after .ensures) (omega arith), i .3 ∙ d .0, i .4 ∙ d .1, marking-more _ _ _ _ _ (i .5) _ less (this _ _ _ _ _ (k .1 .0) (c .before .before .before .before .before .before .before .before .read-template .ensures .0, c .before .before .before .before .before .before .before .before .read-template .ensures .1 .0) (c .before .before .past .given .1) .is) (c .before .before .before .before .before .before .before .before .read-template .ensures .1 .1), c .before .before .before .before .before .before .before .before .read-template .kept .1 .1 .1 .1 .1 .1 .0 ∙ i .6)
+    (search needs, next-unfilled _ _ _ _ _ (k .1 .0) (c .before .before .before .before .before .before .before .before .read-template .ensures .0, c .before .before .before .before .before .before .before .before .read-template .ensures .1 .0) (c .before .before .past .given .1) less (i .1), rw (c .summary-after .ensures) (omega arith), i .3 ∙ d .0, i .4 ∙ d .1, marking-more _ _ _ _ _ (i .5) _ less (this _ _ _ _ _ (k .1 .0) (c .before .before .before .before .before .before .before .before .read-template .ensures .0, c .before .before .before .before .before .before .before .before .read-template .ensures .1 .0) (c .before .before .past .given .1) .is) (c .before .before .before .before .before .before .before .before .read-template .ensures .1 .1), c .before .before .before .before .before .before .before .before .read-template .kept .1 .1 .1 .1 .1 .1 .0 ∙ i .6, c .before .before .before .before .before .before .before .before .read-template .kept .1 .0 ∙ i .7)
 
 same-length-2 : tie.Need-same-length-2 Inv-loop μ-loop
 same-length-2 c = search needs

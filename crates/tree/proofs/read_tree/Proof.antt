@@ -1,6 +1,8 @@
 -- `tree::read_tree` meets its contract. Assumes nothing.
 use Rattle.files.specs.laws.EntriesSteps.{field-cut, field-read}
 use Rattle.files.specs.laws.RowFilled.{zeros-unfilled}
+use Rattle.files.specs.laws.RoomLaws.{room-rows}
+use native.Mathlib.Omega.{arith}
 use Rattle.tree.specs.laws.TreeSteps.{too-long, count-cut, count-none, count-many, file-stop, file-within, file-set, file-read}
 use Rattle.tree.specs.laws.MarkedSteps.{also, also-by, tree-unmarked, tree-marked}
 use borrow.Author.Needs.{needs}
@@ -8,7 +10,7 @@ use Rattle.tree.proofs.read_tree.Statement.{statement}
 use Rattle.tree.proofs.read_tree.Tie as tie
 
 returns : tie.Need-returns
-returns c = rw (c .before .before .before .before .pre) (also-by (too-long _ (c .if1 .taken)) (tree-unmarked _ _ _ _))
+returns c = also-by (too-long _ _ (c .if1 .taken)) (tree-unmarked _ _ _ _)
 
 read-field-requires : tie.Need-read-field-requires
 read-field-requires c κs = search needs
@@ -20,25 +22,29 @@ enum-told : tie.Need-enum-told
 enum-told c = search needs
 
 returns-2 : tie.Need-returns-2
-returns-2 c = rw (c .before .before .before .before .before .before .before .pre) (also-by (count-cut _ (c .before .before .before .if1 .left) (field-cut _ _ _ (c .before .before .read-field .ensures) (c .enum-told .given .1))) (tree-unmarked _ _ _ _))
+returns-2 c = also-by (count-cut _ _ (c .before .before .before .if1 .left) (field-cut _ _ _ (c .before .before .read-field .ensures) (c .enum-told .given .1))) (tree-unmarked _ _ _ _)
 
 returns-3 : tie.Need-returns-3
-returns-3 c = rw (c .before .before .before .before .before .before .before .before .before .pre) (also-by (count-none _ (c .before .before .before .before .before .if1 .left) (field-read _ _ _ (c .before .before .before .before .read-field .ensures) (c .before .before .count .given .1)) (c .if2 .taken)) (tree-unmarked _ _ _ _))
+returns-3 c = also-by (count-none _ _ (c .before .before .before .before .before .if1 .left) (field-read _ _ _ (c .before .before .before .before .read-field .ensures) (c .before .before .count .given .1)) (c .if2 .taken)) (tree-unmarked _ _ _ _)
 
 returns-4 : tie.Need-returns-4
-returns-4 c = rw (c .before .before .before .before .before .before .before .before .before .before .pre) (also-by (count-many _ (c .before .before .before .before .before .before .if1 .left) (field-read _ _ _ (c .before .before .before .before .before .read-field .ensures) (c .before .before .before .count .given .1)) (c .if3 .taken)) (tree-unmarked _ _ _ _))
+returns-4 c = also-by (count-many _ _ (c .before .before .before .before .before .before .if1 .left) (field-read _ _ _ (c .before .before .before .before .before .read-field .ensures) (c .before .before .before .count .given .1)) (c .if3 .taken)) (tree-unmarked _ _ _ _)
 
 cast-read-templates : tie.Need-cast-read-templates
 cast-read-templates c = search needs
 
 read-templates-requires : tie.Need-read-templates-requires
-read-templates-requires c κs = (c .before .before .before .before .before .before .before .before .if1 .left, (c .before .before .if3 .left, rw (c .before .before .before .before .before .before .before .before .before .before .before .before .pre) zeros-unfilled))
+read-templates-requires c κs =
+    let z = c .before .before .before .before .before .before .before .before .before .before .before .before .pre in
+    let short = c .before .before .before .before .before .before .before .before .if1 .left in
+    let rows = room-rows _ (omega (arith, short)) (z .room) (field-read _ _ _ (c .before .before .before .before .before .before .before .read-field .ensures) (c .before .before .before .before .before .count .given .1)) (c .before .before .if3 .left) in
+    (c .before .before .before .before .before .before .before .before .if1 .left, (c .before .before .if3 .left, rw (c .before .before .before .before .before .before .before .before .before .before .before .before .pre .zero) (zeros-unfilled _ _ rows)))
 
 enum-known-past : tie.Need-enum-known-past
 enum-known-past c = search needs
 
 read-end-requires : tie.Need-read-end-requires
-read-end-requires c κs = (c .before .before .before .before .before .before .before .before .before .before .before .before .before .before .before .before .if1 .left, file-within _ (c .before .before .before .before .before .before .before .before .before .before .before .before .before .before .before .before .if1 .left) (field-read _ _ _ (c .before .before .before .before .before .before .before .before .before .before .before .before .before .before .before .read-field .ensures) (c .before .before .before .before .before .before .before .before .before .before .before .before .before .count .given .1)) (c .before .before .before .before .before .before .before .before .before .before .before .if2 .left) (c .before .before .before .before .before .before .before .before .before .before .if3 .left) (c .before .before .before .before .before .before .before .read-templates .ensures .0) (rw (c .before .before .before .before .before .before .before .before .before .before .before .before .before .before .before .before .before .before .before .before .pre) at (c .before .before .before .before .before .before .before .read-templates .ensures .1 .0)) (c .before .past .given .1))
+read-end-requires c κs = (c .before .before .before .before .before .before .before .before .before .before .before .before .before .before .before .before .if1 .left, file-within _ _ (c .before .before .before .before .before .before .before .before .before .before .before .before .before .before .before .before .if1 .left) (field-read _ _ _ (c .before .before .before .before .before .before .before .before .before .before .before .before .before .before .before .read-field .ensures) (c .before .before .before .before .before .before .before .before .before .before .before .before .before .count .given .1)) (c .before .before .before .before .before .before .before .before .before .before .before .if2 .left) (c .before .before .before .before .before .before .before .before .before .before .if3 .left) (c .before .before .before .before .before .before .before .read-templates .ensures .0) (c .before .before .before .before .before .before .before .read-templates .ensures .1 .0) (c .before .past .given .1))
 
 enum-told-2 : tie.Need-enum-told-2
 enum-told-2 c = search needs
@@ -53,19 +59,19 @@ same-length : tie.Need-same-length
 same-length c = search needs
 
 returns-5 : tie.Need-returns-5
-returns-5 c = also (file-read _ (c .before .before .before .before .before .before .before .before .before .before .before .before .before .before .before .before .before .before .before .if1 .left) (field-read _ _ _ (c .before .before .before .before .before .before .before .before .before .before .before .before .before .before .before .before .before .before .read-field .ensures) (c .before .before .before .before .before .before .before .before .before .before .before .before .before .before .before .before .count .given .1)) (c .before .before .before .before .before .before .before .before .before .before .before .before .before .before .if2 .left) (c .before .before .before .before .before .before .before .before .before .before .before .before .before .if3 .left) (c .before .before .before .before .before .before .before .before .before .before .read-templates .ensures .0) (rw (c .before .before .before .before .before .before .before .before .before .before .before .before .before .before .before .before .before .before .before .before .before .before .before .pre) at (c .before .before .before .before .before .before .before .before .before .before .read-templates .ensures .1 .0)) (c .before .before .before .before .past .given .1) (c .before .before .read-end .ensures) (c .enum-told2 .given .1)) (tree-marked _ _ _ _ (field-read _ _ _ (c .before .before .before .before .before .before .before .before .before .before .before .before .before .before .before .before .before .before .read-field .ensures) (c .before .before .before .before .before .before .before .before .before .before .before .before .before .before .before .before .count .given .1)) (c .before .before .before .before .before .before .before .before .before .before .read-templates .ensures .1 .1))
+returns-5 c = also (file-read _ _ (c .before .before .before .before .before .before .before .before .before .before .before .before .before .before .before .before .before .before .before .if1 .left) (field-read _ _ _ (c .before .before .before .before .before .before .before .before .before .before .before .before .before .before .before .before .before .before .read-field .ensures) (c .before .before .before .before .before .before .before .before .before .before .before .before .before .before .before .before .count .given .1)) (c .before .before .before .before .before .before .before .before .before .before .before .before .before .before .if2 .left) (c .before .before .before .before .before .before .before .before .before .before .before .before .before .if3 .left) (c .before .before .before .before .before .before .before .before .before .before .read-templates .ensures .0) (c .before .before .before .before .before .before .before .before .before .before .read-templates .ensures .1 .0) (c .before .before .before .before .past .given .1) (c .before .before .read-end .ensures) (c .enum-told2 .given .1)) (tree-marked _ _ _ _ (field-read _ _ _ (c .before .before .before .before .before .before .before .before .before .before .before .before .before .before .before .before .before .before .read-field .ensures) (c .before .before .before .before .before .before .before .before .before .before .before .before .before .before .before .before .count .given .1)) (c .before .before .before .before .before .before .before .before .before .before .read-templates .ensures .1 .1))
 
 same-length-2 : tie.Need-same-length-2
 same-length-2 c = search needs
 
 returns-6 : tie.Need-returns-6
-returns-6 c = also (file-set _ (c .before .before .before .before .before .before .before .before .before .before .before .before .before .before .before .before .before .before .before .before .if1 .left) (field-read _ _ _ (c .before .before .before .before .before .before .before .before .before .before .before .before .before .before .before .before .before .before .before .read-field .ensures) (c .before .before .before .before .before .before .before .before .before .before .before .before .before .before .before .before .before .count .given .1)) (c .before .before .before .before .before .before .before .before .before .before .before .before .before .before .before .if2 .left) (c .before .before .before .before .before .before .before .before .before .before .before .before .before .before .if3 .left) (c .before .before .before .before .before .before .before .before .before .before .before .read-templates .ensures .0) (rw (c .before .before .before .before .before .before .before .before .before .before .before .before .before .before .before .before .before .before .before .before .before .before .before .before .pre) at (c .before .before .before .before .before .before .before .before .before .before .before .read-templates .ensures .1 .0)) (c .before .before .before .before .before .past .given .1) (c .before .before .before .read-end .ensures) (c .before .place .given .1)) (tree-marked _ _ _ _ (field-read _ _ _ (c .before .before .before .before .before .before .before .before .before .before .before .before .before .before .before .before .before .before .before .read-field .ensures) (c .before .before .before .before .before .before .before .before .before .before .before .before .before .before .before .before .before .count .given .1)) (c .before .before .before .before .before .before .before .before .before .before .before .read-templates .ensures .1 .1))
+returns-6 c = also (file-set _ _ (c .before .before .before .before .before .before .before .before .before .before .before .before .before .before .before .before .before .before .before .before .if1 .left) (field-read _ _ _ (c .before .before .before .before .before .before .before .before .before .before .before .before .before .before .before .before .before .before .before .read-field .ensures) (c .before .before .before .before .before .before .before .before .before .before .before .before .before .before .before .before .before .count .given .1)) (c .before .before .before .before .before .before .before .before .before .before .before .before .before .before .before .if2 .left) (c .before .before .before .before .before .before .before .before .before .before .before .before .before .before .if3 .left) (c .before .before .before .before .before .before .before .before .before .before .before .read-templates .ensures .0) (c .before .before .before .before .before .before .before .before .before .before .before .read-templates .ensures .1 .0) (c .before .before .before .before .before .past .given .1) (c .before .before .before .read-end .ensures) (c .before .place .given .1)) (tree-marked _ _ _ _ (field-read _ _ _ (c .before .before .before .before .before .before .before .before .before .before .before .before .before .before .before .before .before .before .before .read-field .ensures) (c .before .before .before .before .before .before .before .before .before .before .before .before .before .before .before .before .before .count .given .1)) (c .before .before .before .before .before .before .before .before .before .before .before .read-templates .ensures .1 .1))
 
 same-length-3 : tie.Need-same-length-3
 same-length-3 c = search needs
 
 returns-7 : tie.Need-returns-7
-returns-7 c = also (file-stop _ (c .before .before .before .before .before .before .before .before .before .before .before .before .before .before .before .before .if1 .left) (field-read _ _ _ (c .before .before .before .before .before .before .before .before .before .before .before .before .before .before .before .read-field .ensures) (c .before .before .before .before .before .before .before .before .before .before .before .before .before .count .given .1)) (c .before .before .before .before .before .before .before .before .before .before .before .if2 .left) (c .before .before .before .before .before .before .before .before .before .before .if3 .left) (c .before .before .before .before .before .before .before .read-templates .ensures .0) (rw (c .before .before .before .before .before .before .before .before .before .before .before .before .before .before .before .before .before .before .before .before .pre) at (c .before .before .before .before .before .before .before .read-templates .ensures .1 .0)) (c .before .no .given .1)) (tree-marked _ _ _ _ (field-read _ _ _ (c .before .before .before .before .before .before .before .before .before .before .before .before .before .before .before .read-field .ensures) (c .before .before .before .before .before .before .before .before .before .before .before .before .before .count .given .1)) (c .before .before .before .before .before .before .before .read-templates .ensures .1 .1))
+returns-7 c = also (file-stop _ _ (c .before .before .before .before .before .before .before .before .before .before .before .before .before .before .before .before .if1 .left) (field-read _ _ _ (c .before .before .before .before .before .before .before .before .before .before .before .before .before .before .before .read-field .ensures) (c .before .before .before .before .before .before .before .before .before .before .before .before .before .count .given .1)) (c .before .before .before .before .before .before .before .before .before .before .before .if2 .left) (c .before .before .before .before .before .before .before .before .before .before .if3 .left) (c .before .before .before .before .before .before .before .read-templates .ensures .0) (c .before .before .before .before .before .before .before .read-templates .ensures .1 .0) (c .before .no .given .1)) (tree-marked _ _ _ _ (field-read _ _ _ (c .before .before .before .before .before .before .before .before .before .before .before .before .before .before .before .read-field .ensures) (c .before .before .before .before .before .before .before .before .before .before .before .before .before .count .given .1)) (c .before .before .before .before .before .before .before .read-templates .ensures .1 .1))
 
 same-length-4 : tie.Need-same-length-4
 same-length-4 c = search needs

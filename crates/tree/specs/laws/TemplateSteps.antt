@@ -55,13 +55,14 @@ module _ (s : List ℕ) (own T p : ℕ) (table : List ℕ) where
       unfolding templateAt then templateTold templateFilled rowFilled startFilled
       list-stop e = rw (number, entries, e) (refl, ap (λ (l : List ℕ). set l (256 * own) r) stored)
 
-      module _ (few : T ≤ 64) (small : n < 256) (own-less : own < 64) (unfilled : Unfilled own table) {c : Code} {z : BitPlace} {f : Facts}
+      module _ (few : T ≤ 64) (small : n < 256) (own-less : own < T) (unfilled : Unfilled T own table) {c : Code} {z : BitPlace} {f : Facts}
           (list : listAt s 15 r ≡ got c (z .0)) (facts : f ≡ factsOf (set t (256 * own) r) own c) where
         row : Row (set t (256 * own) r) own es
         row =
             let k : length es < 256 = rw (entries-read s own T few n q entries .count) small in
-            rw (stored, slots-all s own T n q entries, row-table own table own-less unfilled r es k)
-            (row-among (take (256 * own) table) (replicate (16384 - 256 * own - 256) 0) own r es (front-length own table own-less unfilled) (omega arith))
+            rw (stored, slots-all s own T n q entries, row-table T own table own-less unfilled r es k)
+            (row-among (take (256 * own) table) (replicate (length table - 256 * own - 256) 0) own r es
+            (front-length T own table own-less unfilled) (omega arith))
 
         report : reportBy f (r - q) ≡ reportOf (record { entries = es; start = r; code = c })
         unfolding reportBy reportOf factsOf
@@ -114,8 +115,8 @@ module _ (s : List ℕ) (own T p : ℕ) (table : List ℕ) (few : T ≤ 64) {r :
   pub this : ReadTemplate (templateAt s own T p) q o
   this = template-told (templateAt s own T p) (sym (done .0) ∙ is)
 
-  pub next-unfilled : own < T → Unfilled own table → Unfilled (own + 1) t
-  next-unfilled less u = rw (done .1) (template-unfilled s own T p few (this .is) table (omega arith) u)
+  pub next-unfilled : own < T → Unfilled T own table → Unfilled T (own + 1) t
+  next-unfilled less u = rw (done .1) (template-unfilled s own T p few (this .is) table less u)
 
   pub next-small : length s ≤ 65536 → o .size ≤ 2097152
   unfolding reportOf

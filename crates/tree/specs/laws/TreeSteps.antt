@@ -4,7 +4,7 @@ use native.Mathlib.Omega.{arith}
 use mathlib.Core.Path.{_≡_, refl, sym, ap, _∙_}
 use mathlib.Core.List.{List}
 use borrow.Author.Tests.{le-leb, lt-leb}
-use lib.ListN.{length, replicate}
+use lib.ListN.{length}
 use Rattle.cells.specs.laws.Laws.{clash}
 use Rattle.cells.specs.declared.BitPlace.{BitPlace}
 use Rattle.files.specs.declared.Padding.{Padding}
@@ -61,32 +61,32 @@ templates-refused (got ts z) h = clash (cc)
 templates-refused (refused m z) {n} {p} h = let k : _≡_ {A = BitPlace} (record { 0 = z }) p = cc in let i : m ≡ n = cc in rw (i, ← k)
 
 -- ---- the file
-module _ (s : List ℕ) where
+module _ (s table : List ℕ) where
   -- the answer r and the table t that its reader leaves
   abbrev pub TreeDone : TreeFile → List ℕ → Type 0
-  TreeDone r t = (r ≡ treeTold (treeRead s)) × (t ≡ treeFilled s)
+  TreeDone r t = (r ≡ treeTold (treeRead s)) × (t ≡ treeFilled s table)
 
-  pub too-long : 65536 < length s → TreeDone (Refused 1 (record { 0 = 0 })) (replicate 16384 0)
+  pub too-long : 65536 < length s → TreeDone (Refused 1 (record { 0 = 0 })) table
   unfolding treeRead treeTold treeFilled
   too-long h = rw (lt-leb (length s) 65536 h) (refl, refl)
 
   module _ (short : length s ≤ 65536) where
-    pub count-cut : field s 0 8 ≡ refused 2 0 → TreeDone (Refused 2 (record { 0 = 0 })) (replicate 16384 0)
+    pub count-cut : field s 0 8 ≡ refused 2 0 → TreeDone (Refused 2 (record { 0 = 0 })) table
     unfolding treeRead treeTold treeFilled then countBy
     count-cut e = rw (le-leb (length s) 65536 short, e) (refl, refl)
 
     module _ {T p : ℕ} (counted : field s 0 8 ≡ got T p) where
-      pub count-none : T < 1 → TreeDone (Refused 3 (record { 0 = 0 })) (replicate 16384 0)
+      pub count-none : T < 1 → TreeDone (Refused 3 (record { 0 = 0 })) table
       unfolding treeRead treeTold treeFilled then countBy
       count-none h = rw (le-leb (length s) 65536 short, counted, lt-leb 1 T h) (refl, refl)
 
-      pub count-many : 64 < T → TreeDone (Refused 3 (record { 0 = 0 })) (replicate 16384 0)
+      pub count-many : 64 < T → TreeDone (Refused 3 (record { 0 = 0 })) table
       unfolding treeRead treeTold treeFilled then countBy
       count-many h = rw (le-leb (length s) 65536 short, counted, le-leb 1 T (omega arith), lt-leb T 64 h) (refl, refl)
 
       module _ (some : 1 ≤ T) (few : T ≤ 64) {r : TemplatesRead} {t : List ℕ} (told : r ≡ templatesTold (templatesAt s T 0 T p))
-          (filled : t ≡ templatesFilled s T 0 T p (replicate 16384 0)) where
-        table-filled : t ≡ treeFilled s
+          (filled : t ≡ templatesFilled s T 0 T p table) where
+        table-filled : t ≡ treeFilled s table
         unfolding treeFilled countBy
         table-filled = rw (le-leb (length s) 65536 short, counted, le-leb 1 T some, le-leb T 64 few) filled
 

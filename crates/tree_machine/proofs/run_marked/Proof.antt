@@ -1,15 +1,10 @@
 -- `tree_machine::run_marked` meets its contract. Assumes nothing.
-use mathlib.Core.Path.{ap, _∙_}
-use lib.ListN.{length}
-use Rattle.machines.specs.Start.{zeros}
-use Rattle.machines.specs.laws.Start.{zeros-length}
-use Rattle.tree_machine.specs.laws.FileLaws.{file-ready, file-short, file-good, file-marked, file-refused}
+use Rattle.tree_machine.specs.laws.FileLaws.{file-rows, file-ready, file-short, file-good, file-marked, file-refused}
 use borrow.Author.Needs.{needs}
 use Rattle.tree_machine.proofs.run_marked.Statement.{statement}
 use Rattle.tree_machine.proofs.run_marked.Tie as tie
 
 read-accepted-requires : tie.Need-read-accepted-requires
-unfolding zeros
 read-accepted-requires c κs = c .before .before .before .before .before .before .before .before .before .pre .1
 
 enum-known-sum : tie.Need-enum-known-sum
@@ -24,8 +19,8 @@ run-linked-requires c κs =
     let read = c .before .before .before .before .before .before .before .before .before .before .before .before .before .before .read-accepted in
     let sum = c .before .before .before .before .before .before .before .before .sum .given .1 in (
       pre .0,
-      file-ready _ _ _ (read .ensures .0) sum _ (read .ensures .1 .0),
-      read .kept .1 .0 ∙ ap length (pre .1) ∙ zeros-length 16384,
+      file-ready _ _ _ (read .ensures .0) sum _ (pre .1) (read .ensures .1 .0),
+      rw (read .kept .1 .0) (file-rows _ _ _ (read .ensures .0) sum (pre .1)),
       file-good _ _ _ (read .ensures .0) sum,
       rw (read .kept .1 .1 .1 .0) (pre .2 (file-short _ _ _ (read .ensures .0) sum)),
       file-marked _ _ _ (pre .2 (file-short _ _ _ (read .ensures .0) sum)) (read .ensures .1 .1),

@@ -1,8 +1,7 @@
 -- `tree_machine::run_tree` meets its contract. Assumes nothing.
-use Rattle.machines.specs.Start.{zeros}
 use Rattle.machines.specs.laws.Start.{may-start, start-goes, start-refused}
 use Rattle.machines.specs.Runs.{treeRun}
-use mathlib.Core.Path.{refl}
+use native.Mathlib.Omega.{arith}
 use borrow.Author.Needs.{needs}
 use Rattle.tree_machine.specs.laws.FileLaws.{file-owned}
 use Rattle.tree_machine.proofs.run_tree.Statement.{statement}
@@ -17,12 +16,9 @@ enum-told c = search needs
 owner-of-requires : tie.Need-owner-of-requires
 owner-of-requires c κs = search needs
 
-slice-aggregate-run-file : tie.Need-slice-aggregate-run-file
-slice-aggregate-run-file c = search needs
-
-run-file-requires : tie.Need-run-file-requires
-unfolding zeros
-run-file-requires c κs = (may-start _ _ _ _ _ (c .before .before .before .before .before .before .before .before .start-refusal .ensures) (c .before .before .before .before .before .before .enum-told .given .1), refl)
+run-tier-requires : tie.Need-run-tier-requires
+run-tier-requires c κs =
+    (may-start _ _ _ _ _ (c .before .before .before .before .before .before .before .start-refusal .ensures) (c .before .before .before .before .before .enum-told .given .1), (λ e. absurd (omega (arith, e)), λ e. absurd (omega (arith, e)), λ e. absurd (omega (arith, e))))
 
 enum-known-number : tie.Need-enum-known-number
 enum-known-number c = search needs
@@ -44,8 +40,10 @@ same-length-4 c = search needs
 
 returns : tie.Need-returns
 unfolding treeRun
-returns c = start-goes _ _ _ _ _ (c .before .before .before .before .before .before .before .before .before .before .before .before .before .before .before .before .before .before .start-refusal .ensures) _ _ (c .before .before .before .before .before .before .before .before .before .before .before .before .before .before .before .before .enum-told .given .1)
-    (file-owned _ (c .before .before .before .before .before .before .before .before .before .before .before .before .before .before .before .before .before .before .before .before .before .before .before .before .before .before .before .before .args .owner) _ _ _ _ (c .before .before .before .before .before .before .before .before .before .before .before .before .before .before .before .owner-of .ensures) (c .before .before .before .before .before .before .before .before .before .run-file .ensures))
+returns c =
+    let told = c .before .before .before .before .before .before .before .before .before .before .before .before .before .before .before .before .start-refusal .ensures in
+    start-goes _ _ _ _ _ told _ _ (c .before .before .before .before .before .before .before .before .before .before .before .before .before .before .enum-told .given .1)
+    (file-owned _ (c .before .before .before .before .before .before .before .before .before .before .before .before .before .before .before .before .before .before .before .before .before .before .before .before .before .before .args .owner) _ _ _ _ (c .before .before .before .before .before .before .before .before .before .before .before .before .before .owner-of .ensures) (c .before .before .before .before .before .before .before .before .run-tier .ensures))
 
 same-length-5 : tie.Need-same-length-5
 same-length-5 c = search needs
@@ -70,8 +68,7 @@ run-tree-spec =
     start-refusal-requires
     enum-told
     owner-of-requires
-    slice-aggregate-run-file
-    run-file-requires
+    run-tier-requires
     enum-known-number
     refused-requires
     same-length

@@ -23,9 +23,10 @@ use Rattle.tree_code.specs.Fetch.{linkedProgram}
 use Rattle.tree_machine.specs.laws.Look.{seen, Leads}
 use Rattle.tree_machine.specs.laws.Places.{Standing, fetches, starts-agree, start-stands, standing-fits}
 
-module _ (s : List ℕ) (ts : List Template) (q : ℕ) (accepted : treeChecked s ≡ got ts q) (L₀ : List ℕ) (long : 8 * length s ≤ 5 * length L₀) (o : Owner) where
+module _ (s : List ℕ) (size : ℕ) (ts : List Template) (q : ℕ) (accepted : treeChecked s ≡ got ts q)
+    (L₀ : List ℕ) (long : 8 * length s ≤ 5 * length L₀) (o : Owner) where
   abbrev P : Program
-  P = linkedProgram s (linkedAll L₀ ts) (treeTable ts)
+  P = linkedProgram s (linkedAll L₀ ts) (treeTable size ts)
 
   abbrev Q : Program
   Q = treeProgram ts
@@ -42,7 +43,7 @@ module _ (s : List ℕ) (ts : List Template) (q : ℕ) (accepted : treeChecked s
   fetched t (calls n) h l = callF
   fetched t (branches n p p′) h l = branchF (λ z. absurd z) (refl, refl, l .0, h, refl) (refl, refl, l .1, h, refl)
   fetched t (saves n p p′) h l =
-      let f : p < 8 * 65536 = standing-fits s ts q accepted t p (l .1) in
+      let f : p < 8 * 65536 = standing-fits s size ts q accepted t p (l .1) in
       let v : Savable R n t p t p 0 =
       record { n-fits = l .0; t-fits = h; p-fits = omega arith; t′-fits = h; q-fits = omega arith; places = (refl, refl, l .1, h, refl) } in
       saveF v (refl, refl, l .2, h, refl)
@@ -53,9 +54,10 @@ module _ (s : List ℕ) (ts : List Template) (q : ℕ) (accepted : treeChecked s
   unfolding same-but-places
   paired = record {
     fetches = λ {t} {p} r.
-        let f = fetches s ts q accepted L₀ long t p (r .2) in
+        let f = fetches s size ts q accepted L₀ long t p (r .2) in
         rw (← r .0, ← r .1, f .fetched) (fetched t (treeAt ts t p) (r .3) (f .leads));
-    starts = λ {t} r. rw (← r .0) (refl, starts-agree s ts q accepted t, rw (starts-agree s ts q accepted t) (start-stands s ts q accepted t), r .1, refl);
+    starts = λ {t} r.
+        rw (← r .0) (refl, starts-agree s size ts q accepted t, rw (starts-agree s size ts q accepted t) (start-stands s size ts q accepted t), r .1, refl);
   }
 
   ends-same : {x y : Ended} → EndedR R (same-but-places R o) ⊥ x y → reported x ≡ reported y
@@ -63,11 +65,11 @@ module _ (s : List ℕ) (ts : List Template) (q : ℕ) (accepted : treeChecked s
   ends-same e = rw (e .same-ending, e .tallies .same-steps, same-data R (λ t p t′ q j r. (r .0, r .1)) (e .states .data-ok)) refl
 
   -- THE LAW
-  pub tree-run : (b : ℕ) (g : List ℕ) → ranFrom o P b 0 (startState g (slotAt (treeTable ts) 0 0)) ≡ reported (programRun o (treeProgram ts) b g)
+  pub tree-run : (b : ℕ) (g : List ℕ) → ranFrom o P b 0 (startState g (slotAt (treeTable size ts) 0 0)) ≡ reported (programRun o (treeProgram ts) b g)
   unfolding programRun ranFrom startState same-but-places
   tree-run b g =
-      rw (starts-agree s ts q accepted 0)
+      rw (starts-agree s size ts q accepted 0)
       (ends-same
       (run-alike R (same-but-places R o) ⊥ P Q paired b noCounts noCounts (startState g (Q .start 0)) (startState g (Q .start 0))
       (no-counts R (same-but-places R o) ⊥)
-      (record { data-ok = start-same R g (Q .start 0) (Q .start 0); place-ok = (refl, refl, start-stands s ts q accepted 0, omega arith, refl) })))
+      (record { data-ok = start-same R g (Q .start 0) (Q .start 0); place-ok = (refl, refl, start-stands s size ts q accepted 0, omega arith, refl) })))

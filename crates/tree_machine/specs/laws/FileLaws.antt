@@ -4,12 +4,13 @@ use mathlib.Core.Path.{_≡_, sym, ap, _∙_}
 use mathlib.Core.List.{List}
 use lib.ListN.{length}
 use Rattle.files.specs.Reading.{got}
+use Rattle.files.specs.Room.{ZerosFor}
 use Rattle.files.specs.Tree.{treeRead}
 use Rattle.files.specs.Accepted.{treeAccepted}
 use Rattle.files.specs.laws.AcceptedLaws.{checked-read, accepted-checked}
 use Rattle.tree.specs.Summary.{summaryOf, judgedTold}
 use Rattle.tree.specs.Filled.{treeFilled}
-use Rattle.tree.specs.laws.FilledLaws.{tree-table}
+use Rattle.tree.specs.laws.FilledLaws.{tree-tabled, tree-rows-there}
 use Rattle.tree.specs.laws.Judged.{ReadAs, judged-told, judged-refused}
 use Rattle.tree.specs.declared.Summary.{Summary}
 use Rattle.tree.specs.declared.Judged.{Judged}
@@ -35,7 +36,7 @@ pub linked-ran : (o : Owner) (s table L L₀ : List ℕ) (count b start : ℕ) (
 unfolding onTree linkedFrom
 linked-ran o s table L L₀ count b start m r k good long e i h =
     let c = accepted-checked s (k .templates) (k .past) (good ∙ k .read) in
-    h ∙ rw (e, i, good, k .read, k .tabled) (tree-run s (k .templates) (k .past) c L₀ long o b (m .globals))
+    h ∙ rw (e, i, good, k .read, k .tabled) (tree-run s (k .size) (k .templates) (k .past) c L₀ long o b (m .globals))
 
 -- ---- a file s that was judged
 module _ (s : List ℕ) (x : Judged) (m : Summary) (asked : x ≡ judgedTold (treeAccepted s)) (there : x ≡ Accepted m) where
@@ -45,14 +46,21 @@ module _ (s : List ℕ) (x : Judged) (m : Summary) (asked : x ≡ judgedTold (tr
   is-read : treeRead s ≡ got (file .templates) (file .past)
   is-read = checked-read s _ _ (accepted-checked s _ _ (file .is))
 
-  pub file-ready : (table : List ℕ) → table ≡ treeFilled s → FileReady s table (m .count)
+  counted : m .count ≡ length (file .templates)
   unfolding summaryOf
-  file-ready table filled = record {
+  counted = ap (λ (y : Summary). y .count) (sym (file .summary))
+
+  pub file-rows : {table : List ℕ} → ZerosFor s table → 256 * m .count ≤ length table
+  file-rows z = rw counted (tree-rows-there s is-read z)
+
+  pub file-ready : {table : List ℕ} (table′ : List ℕ) → ZerosFor s table → table′ ≡ treeFilled s table → FileReady s table′ (m .count)
+  file-ready table′ z filled = record {
     templates = file .templates;
     past = file .past;
     read = is-read;
-    tabled = filled ∙ tree-table s is-read;
-    counted = ap (λ (y : Summary). y .count) (sym (file .summary));
+    size = z .size;
+    tabled = tree-tabled s is-read z filled;
+    counted = counted;
   }
 
   pub file-short : length s ≤ 65536

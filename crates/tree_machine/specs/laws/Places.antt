@@ -36,7 +36,7 @@ pub record Fetches (s L table : List ℕ) (ts : List Template) (t p : ℕ) (F : 
   pub fetched : fetchedAt s L table t p ≡ seen F
   pub leads : Leads (Standing ts t) F
 
-module _ (s : List ℕ) (ts : List Template) (q : ℕ) (accepted : treeChecked s ≡ got ts q) where
+module _ (s : List ℕ) (size : ℕ) (ts : List Template) (q : ℕ) (accepted : treeChecked s ≡ got ts q) where
   known : Checked s ts q
   known = checked s ts q accepted
 
@@ -53,36 +53,36 @@ module _ (s : List ℕ) (ts : List Template) (q : ℕ) (accepted : treeChecked s
   no-template t h = List·getD-eq-default ts noTemplate h
 
   -- where a template's code begins
-  pub starts-agree : (t : ℕ) → slotAt (treeTable ts) t 0 ≡ getD ts t noTemplate .start
+  pub starts-agree : (t : ℕ) → slotAt (treeTable size ts) t 0 ≡ getD ts t noTemplate .start
   unfolding slotAt
   starts-agree t =
       by-lt t (length ts)
-      (λ h. tree-slot ts few t 0 noTemplate h (omega arith) ∙ row-start _ _)
-      (λ h. tree-beyond ts few t 0 h ∙ rw (no-template t h))
+      (λ h. tree-slot size ts few t 0 noTemplate h (omega arith) ∙ row-start _ _)
+      (λ h. tree-beyond size ts few t 0 h ∙ rw (no-template t h))
 
   pub start-stands : (t : ℕ) → Standing ts t (getD ts t noTemplate .start)
   unfolding fits
   start-stands t = by-lt t (length ts) (λ h. inside h (first-real false _ _ (closed-at t h))) (λ h. nowhere h (rw (no-template t h)))
 
   -- the slots of a template's row stand for its entries
-  slots : (t : ℕ) → t < length ts → RowStands (slotAt (treeTable ts) t) (getD ts t noTemplate .entries)
+  slots : (t : ℕ) → t < length ts → RowStands (slotAt (treeTable size ts) t) (getD ts t noTemplate .entries)
   unfolding slotAt
   slots t h =
       let f = there t h .2 in
-      row-stands t (length ts) (getD ts t noTemplate .start) (getD ts t noTemplate .entries) (slotAt (treeTable ts) t) (f .entries-ok)
+      row-stands t (length ts) (getD ts t noTemplate .start) (getD ts t noTemplate .entries) (slotAt (treeTable size ts) t) (f .entries-ok)
       (omega (arith, f .within, short s (known .read)))
-      (λ n l. tree-slot ts few t n noTemplate h l)
+      (λ n l. tree-slot size ts few t n noTemplate h l)
 
   module _ (L₀ : List ℕ) (long : 8 * length s ≤ 5 * length L₀) where
     real-fetches : (t p : ℕ) → t < length ts → Real false (getD ts t noTemplate .start) (getD ts t noTemplate .code) p
-        → Fetches s (linkedAll L₀ ts) (treeTable ts) ts t p (treeAt ts t p)
+        → Fetches s (linkedAll L₀ ts) (treeTable size ts) ts t p (treeAt ts t p)
     unfolding treeAt fetchedAt fits
     real-fetches t p h r =
         let x = getD ts t noTemplate in
         let l = there t h in
-        let found : Found s (linkedAll L₀ ts) (treeTable ts) t (x .entries) (Standing ts t) 16 p (look (x .entries) (x .start) (x .code) bad p) =
-        look-found s (linkedAll L₀ ts) (treeTable ts) t (x .entries) (Standing ts t)
-        (λ op ns k. slot-resolve (slotAt (treeTable ts) t) (x .entries) op ns (slots t h) k)
+        let found : Found s (linkedAll L₀ ts) (treeTable size ts) t (x .entries) (Standing ts t) 16 p (look (x .entries) (x .start) (x .code) bad p) =
+        look-found s (linkedAll L₀ ts) (treeTable size ts) t (x .entries) (Standing ts t)
+        (λ op ns k. slot-resolve (slotAt (treeTable size ts) t) (x .entries) op ns (slots t h) k)
         (x .code) false 15 (x .start) 0 0 0 bad
         (record {
           there = template-stands s (known .read) t noTemplate h;
@@ -99,7 +99,7 @@ module _ (s : List ℕ) (ts : List Template) (q : ℕ) (accepted : treeChecked s
         record { fetched = rw (ne-eqb p 0 (λ e. omega (arith, l .1, l .2 .begins)), found .reached 17 (omega arith)) (found .stands); leads = found .leads }
 
     -- THE LAW
-    pub fetches : (t p : ℕ) → Standing ts t p → Fetches s (linkedAll L₀ ts) (treeTable ts) ts t p (treeAt ts t p)
+    pub fetches : (t p : ℕ) → Standing ts t p → Fetches s (linkedAll L₀ ts) (treeTable size ts) ts t p (treeAt ts t p)
     unfolding treeAt first look fetchedAt seen Leads
     fetches t p (inside h r) = real-fetches t p h r
     fetches t p (nowhere h e) = rw (e, no-template t h) (record { fetched = refl; leads = tt })

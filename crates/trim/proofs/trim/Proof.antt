@@ -2,6 +2,7 @@
 use mathlib.Core.Path.{refl, sym, _∙_}
 use Rattle.tree.specs.laws.Judged.{judged-refused}
 use Rattle.trim.specs.laws.WholeLaws.{judged-file, all-refused}
+use Rattle.files.specs.laws.RoomLaws.{all-rows}
 use borrow.Author.Needs.{needs}
 use Rattle.trim.proofs.trim.Statement.{statement}
 use Rattle.trim.proofs.trim.Tie as tie
@@ -13,7 +14,7 @@ slice-aggregate-read-checked-2 : tie.Need-slice-aggregate-read-checked-2
 slice-aggregate-read-checked-2 c = search needs
 
 read-checked-requires : tie.Need-read-checked-requires
-read-checked-requires c κs = search needs
+read-checked-requires c κs = all-rows _ refl
 
 enum-known-sum : tie.Need-enum-known-sum
 enum-known-sum c = search needs
@@ -31,7 +32,7 @@ slice-aggregate-trim-into-4 : tie.Need-slice-aggregate-trim-into-4
 slice-aggregate-trim-into-4 c = search needs
 
 trim-into-requires : tie.Need-trim-into-requires
-trim-into-requires c κs = ((c .before .before .before .before .before .before .before .before .before .before .before .read-checked .kept .1 .0, judged-file _ (sym (c .before .before .before .before .before .before .before .before .before .before .before .read-checked .ensures .0) ∙ c .before .before .before .before .before .before .before .sum .given .1) (c .before .before .before .before .before .before .before .before .before .before .before .read-checked .ensures .1 .0)), (refl, refl, refl))
+trim-into-requires c κs = ((c .before .before .before .before .before .before .before .before .before .before .before .read-checked .kept .1 .0, judged-file _ (sym (c .before .before .before .before .before .before .before .before .before .before .before .read-checked .ensures .0) ∙ c .before .before .before .before .before .before .before .sum .given .1) (all-rows _ refl) (c .before .before .before .before .before .before .before .before .before .before .before .read-checked .ensures .1 .0)), (refl, refl, refl))
 
 enum-known-no : tie.Need-enum-known-no
 enum-known-no c = search needs

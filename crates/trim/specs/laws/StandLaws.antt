@@ -184,7 +184,7 @@ module _ {s table : List ℕ} {count : ℕ} (w : FileIn s table count) where
             (λ i d lt.
             subst (λ (m : ℕ). (getD table (256 * m) 0 ≡ getD ts i d .start) × Row table m (getD ts i d .entries)) (sym (zero-add i))
             (subst (λ (l : List ℕ). (getD l (256 * i) 0 ≡ getD ts i d .start) × Row l i (getD ts i d .entries)) (sym (w .filled)) (
-              (rw (add-zero (256 * i)) at (tree-slot ts few i 0 d lt (omega arith))) ∙ row-start (getD ts i d .start) (getD ts i d .entries),
-              λ n h m. tree-slot ts few i n d lt m ∙ row-entry (getD ts i d .start) (getD ts i d .entries) n (λ e. omega arith),
+              (rw (add-zero (256 * i)) at (tree-slot (w .size) ts few i 0 d lt (omega arith))) ∙ row-start (getD ts i d .start) (getD ts i d .entries),
+              λ n h m. tree-slot (w .size) ts few i n d lt m ∙ row-entry (getD ts i d .start) (getD ts i d .entries) n (λ e. omega arith),
             )));
       }

@@ -25,8 +25,9 @@ use Rattle.bit_writer.specs.laws.Laws.{Wrote}
 use Rattle.tree.specs.declared.Summary.{Summary}
 use Rattle.tree.specs.declared.Judged.the-variants.{Accepted}
 use Rattle.tree.specs.Summary.{summaryOf, judgedTold}
+use Rattle.files.specs.Room.{ZerosFor}
 use Rattle.tree.specs.Filled.{treeFilled}
-use Rattle.tree.specs.laws.FilledLaws.{tree-table}
+use Rattle.tree.specs.laws.FilledLaws.{tree-tabled}
 use Rattle.tree.specs.laws.Judged.{judged-told}
 use Rattle.tree_file.specs.File.{templateBits, templatesBits, fileBits, treeFile}
 use Rattle.tree_file.specs.laws.Written.{file-length, wrote-tree}
@@ -263,15 +264,17 @@ pub byte-size : (end gap past size : ℕ) → gap ≡ (8 - end % 8) % 8 → past
 byte-size end gap past size e f g = omega arith
 
 -- ---- a file that was judged
-pub judged-file : (s : List ℕ) {m : Summary} {table : List ℕ} → judgedTold (treeChecked s) ≡ Accepted m → table ≡ treeFilled s → FileIn s table (m .count)
+pub judged-file : (s : List ℕ) {m : Summary} {table table′ : List ℕ} → judgedTold (treeChecked s) ≡ Accepted m → ZerosFor s table → table′ ≡ treeFilled s table
+    → FileIn s table′ (m .count)
 unfolding summaryOf
-judged-file s told e =
+judged-file s told z e =
     let f = judged-told (treeChecked s) told in
     record {
       templates = f .templates;
       past = f .past;
       checked = f .is;
-      filled = e ∙ tree-table s (checked-read s (f .templates) (f .past) (f .is));
+      size = z .size;
+      filled = tree-tabled s (checked-read s (f .templates) (f .past) (f .is)) z e;
       count-is = sym (ap (λ (x : Summary). x .count) (f .summary));
     }
 

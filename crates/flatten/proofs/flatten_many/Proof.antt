@@ -1,0 +1,34 @@
+-- `flatten::flatten_many` meets its contract: 64 rows are enough for every file, its marks for its files. Assumes nothing.
+use Prim.Native.Nat.{_≤_}
+use native.Mathlib.Omega.{arith}
+use lib.ListN.{length}
+use Rattle.files.specs.laws.RoomLaws.{all-rows}
+use mathlib.Core.Path.{refl}
+use borrow.Author.Needs.{needs}
+use Rattle.flatten.proofs.flatten_many.Statement.{statement}
+use Rattle.flatten.proofs.flatten_many.Tie as tie
+
+slice-aggregate-flatten-marked : tie.Need-slice-aggregate-flatten-marked
+slice-aggregate-flatten-marked c = search needs
+
+slice-aggregate-flatten-marked-2 : tie.Need-slice-aggregate-flatten-marked-2
+slice-aggregate-flatten-marked-2 c = search needs
+
+flatten-marked-requires : tie.Need-flatten-marked-requires
+flatten-marked-requires c κs = (all-rows _ refl, λ (h : length (c .before .before .before .before .before .args .s .now) ≤ 65536). omega (arith, c .before .before .before .before .before .pre))
+
+same-length : tie.Need-same-length
+same-length c = search needs
+
+returns : tie.Need-returns
+returns c = search needs
+
+pub flatten-many-spec : {M : Type 1} → statement M
+flatten-many-spec =
+    tie.close
+    (tie.spec
+    slice-aggregate-flatten-marked
+    slice-aggregate-flatten-marked-2
+    flatten-marked-requires
+    same-length
+    returns)

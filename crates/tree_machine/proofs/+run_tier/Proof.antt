@@ -1,0 +1,162 @@
+-- `tree_machine::run_tier` meets its contract. It calls itself once, with the size that the file has. Assumes nothing.
+use borrow.Author.Needs.{needs}
+use Prim.Native.Nat.{ℕ, _-_, _<_}
+use native.Mathlib.Omega.{arith}
+use borrow.Fn.Kinds.{In}
+use borrow.Fn.PlainCycle.{Measures, is, falls, and}
+use Rattle.tree_machine.proofs.run_tier.Reads as run-tier
+use Rattle.tree_machine.proofs.run_tier.Kinds as run-tier-kinds
+use Rattle.tree_machine.proofs.+run_tier.Lts-run_tier as run-tier-lts
+use Rattle.tree.proofs.tier_of.Reads as tier-of-reads
+use Rattle.tree_machine.proofs.run_large.Reads as run-large-reads
+use Rattle.tree_machine.proofs.run_many.Reads as run-many-reads
+use Rattle.tree_machine.proofs.run_middle.Reads as run-middle-reads
+use Rattle.tree_machine.proofs.run_small.Reads as run-small-reads
+use Rattle.tree_machine.proofs.+run_tier.{statement}
+use Rattle.tree_machine.proofs.+run_tier.Tie.{close}
+
+abbrev μ-run-tier : Measures 5 run-tier-kinds.ps ℕ
+μ-run-tier κs a = 1 - a .1 .0
+
+abbrev run-tier-at : ℕ → In 5 run-tier-kinds.ps
+run-tier-at t = and 5 run-tier-kinds.ps (is 5 run-tier-kinds.ps μ-run-tier t) run-tier.Pre
+
+abbrev run-tier-below : ℕ → In 5 run-tier-kinds.ps
+run-tier-below t = and 5 run-tier-kinds.ps (falls 5 run-tier-kinds.ps _<_ μ-run-tier t) run-tier.Pre
+
+-- what it calls
+abbrev calls : ℕ → run-tier-lts.Claims
+calls t = (tier-of-reads.Asked, tier-of-reads.Learnt, run-tier-below t, run-tier.Post, run-small-reads.Asked, run-small-reads.Learnt, run-middle-reads.Asked, run-middle-reads.Learnt, run-many-reads.Asked, run-many-reads.Learnt, run-large-reads.Asked, run-large-reads.Learnt)
+
+run-tier-tier-of-requires : (t : ℕ) → run-tier-lts.Need-tier-of-requires (calls t) (run-tier-at t) run-tier.Post
+run-tier-tier-of-requires t c κs = search needs
+
+run-tier-run-tier-requires : (t : ℕ) → run-tier-lts.Need-run-tier-requires (calls t) (run-tier-at t) run-tier.Post
+run-tier-run-tier-requires t c κs =
+    let p = c .before .before .before .before .before .before .before .before .before .before .before .pre in
+    let r = c .before .before .before .before .tier-of .ensures in
+    (omega (arith, p .0, r .0, c .before .before .before .before .before .match .keys1), (p .1 .0, r .1))
+
+run-tier-run-small-requires : (t : ℕ) → run-tier-lts.Need-run-small-requires (calls t) (run-tier-at t) run-tier.Post
+run-tier-run-small-requires t c κs =
+    let p = c .before .before .before .before .before .before .before .before .before .before .pre in (p .1 .0, p .1 .1 .0 (c .before .before .before .before .match .keys2))
+
+run-tier-run-middle-requires : (t : ℕ) → run-tier-lts.Need-run-middle-requires (calls t) (run-tier-at t) run-tier.Post
+run-tier-run-middle-requires t c κs =
+    let p = c .before .before .before .before .before .before .before .before .before .before .pre in (p .1 .0, p .1 .1 .1 (c .before .before .before .before .match .keys3))
+
+run-tier-run-many-requires : (t : ℕ) → run-tier-lts.Need-run-many-requires (calls t) (run-tier-at t) run-tier.Post
+run-tier-run-many-requires t c κs =
+    let p = c .before .before .before .before .before .before .before .before .before .before .pre in (p .1 .0, p .1 .1 .2 (c .before .before .before .before .match .keys4))
+
+run-tier-run-large-requires : (t : ℕ) → run-tier-lts.Need-run-large-requires (calls t) (run-tier-at t) run-tier.Post
+run-tier-run-large-requires t c κs = c .before .before .before .before .before .before .before .before .before .before .pre .1 .0
+
+run-tier-same-length : (t : ℕ) → run-tier-lts.Need-same-length (calls t) (run-tier-at t) run-tier.Post
+run-tier-same-length t c = search needs
+
+run-tier-same-length-2 : (t : ℕ) → run-tier-lts.Need-same-length-2 (calls t) (run-tier-at t) run-tier.Post
+run-tier-same-length-2 t c = search needs
+
+run-tier-same-length-3 : (t : ℕ) → run-tier-lts.Need-same-length-3 (calls t) (run-tier-at t) run-tier.Post
+run-tier-same-length-3 t c = search needs
+
+run-tier-same-length-4 : (t : ℕ) → run-tier-lts.Need-same-length-4 (calls t) (run-tier-at t) run-tier.Post
+run-tier-same-length-4 t c = search needs
+
+run-tier-returns : (t : ℕ) → run-tier-lts.Need-returns (calls t) (run-tier-at t) run-tier.Post
+run-tier-returns t c = search needs
+
+run-tier-same-length-5 : (t : ℕ) → run-tier-lts.Need-same-length-5 (calls t) (run-tier-at t) run-tier.Post
+run-tier-same-length-5 t c = search needs
+
+run-tier-same-length-6 : (t : ℕ) → run-tier-lts.Need-same-length-6 (calls t) (run-tier-at t) run-tier.Post
+run-tier-same-length-6 t c = search needs
+
+run-tier-same-length-7 : (t : ℕ) → run-tier-lts.Need-same-length-7 (calls t) (run-tier-at t) run-tier.Post
+run-tier-same-length-7 t c = search needs
+
+run-tier-same-length-8 : (t : ℕ) → run-tier-lts.Need-same-length-8 (calls t) (run-tier-at t) run-tier.Post
+run-tier-same-length-8 t c = search needs
+
+run-tier-returns-2 : (t : ℕ) → run-tier-lts.Need-returns-2 (calls t) (run-tier-at t) run-tier.Post
+run-tier-returns-2 t c = search needs
+
+run-tier-same-length-9 : (t : ℕ) → run-tier-lts.Need-same-length-9 (calls t) (run-tier-at t) run-tier.Post
+run-tier-same-length-9 t c = search needs
+
+run-tier-same-length-10 : (t : ℕ) → run-tier-lts.Need-same-length-10 (calls t) (run-tier-at t) run-tier.Post
+run-tier-same-length-10 t c = search needs
+
+run-tier-same-length-11 : (t : ℕ) → run-tier-lts.Need-same-length-11 (calls t) (run-tier-at t) run-tier.Post
+run-tier-same-length-11 t c = search needs
+
+run-tier-same-length-12 : (t : ℕ) → run-tier-lts.Need-same-length-12 (calls t) (run-tier-at t) run-tier.Post
+run-tier-same-length-12 t c = search needs
+
+run-tier-returns-3 : (t : ℕ) → run-tier-lts.Need-returns-3 (calls t) (run-tier-at t) run-tier.Post
+run-tier-returns-3 t c = search needs
+
+run-tier-same-length-13 : (t : ℕ) → run-tier-lts.Need-same-length-13 (calls t) (run-tier-at t) run-tier.Post
+run-tier-same-length-13 t c = search needs
+
+run-tier-same-length-14 : (t : ℕ) → run-tier-lts.Need-same-length-14 (calls t) (run-tier-at t) run-tier.Post
+run-tier-same-length-14 t c = search needs
+
+run-tier-same-length-15 : (t : ℕ) → run-tier-lts.Need-same-length-15 (calls t) (run-tier-at t) run-tier.Post
+run-tier-same-length-15 t c = search needs
+
+run-tier-same-length-16 : (t : ℕ) → run-tier-lts.Need-same-length-16 (calls t) (run-tier-at t) run-tier.Post
+run-tier-same-length-16 t c = search needs
+
+run-tier-returns-4 : (t : ℕ) → run-tier-lts.Need-returns-4 (calls t) (run-tier-at t) run-tier.Post
+run-tier-returns-4 t c = search needs
+
+run-tier-same-length-17 : (t : ℕ) → run-tier-lts.Need-same-length-17 (calls t) (run-tier-at t) run-tier.Post
+run-tier-same-length-17 t c = search needs
+
+run-tier-same-length-18 : (t : ℕ) → run-tier-lts.Need-same-length-18 (calls t) (run-tier-at t) run-tier.Post
+run-tier-same-length-18 t c = search needs
+
+run-tier-same-length-19 : (t : ℕ) → run-tier-lts.Need-same-length-19 (calls t) (run-tier-at t) run-tier.Post
+run-tier-same-length-19 t c = search needs
+
+run-tier-same-length-20 : (t : ℕ) → run-tier-lts.Need-same-length-20 (calls t) (run-tier-at t) run-tier.Post
+run-tier-same-length-20 t c = search needs
+
+run-tier-returns-5 : (t : ℕ) → run-tier-lts.Need-returns-5 (calls t) (run-tier-at t) run-tier.Post
+run-tier-returns-5 t c = search needs
+
+pub +run-tier-spec : {M : Type 1} → statement M
++run-tier-spec = close μ-run-tier λ t. run-tier-lts.spec (calls t) (run-tier-at t) run-tier.Post
+    (run-tier-tier-of-requires t)
+    (run-tier-run-tier-requires t)
+    (run-tier-run-small-requires t)
+    (run-tier-run-middle-requires t)
+    (run-tier-run-many-requires t)
+    (run-tier-run-large-requires t)
+    (run-tier-same-length t)
+    (run-tier-same-length-2 t)
+    (run-tier-same-length-3 t)
+    (run-tier-same-length-4 t)
+    (run-tier-returns t)
+    (run-tier-same-length-5 t)
+    (run-tier-same-length-6 t)
+    (run-tier-same-length-7 t)
+    (run-tier-same-length-8 t)
+    (run-tier-returns-2 t)
+    (run-tier-same-length-9 t)
+    (run-tier-same-length-10 t)
+    (run-tier-same-length-11 t)
+    (run-tier-same-length-12 t)
+    (run-tier-returns-3 t)
+    (run-tier-same-length-13 t)
+    (run-tier-same-length-14 t)
+    (run-tier-same-length-15 t)
+    (run-tier-same-length-16 t)
+    (run-tier-returns-4 t)
+    (run-tier-same-length-17 t)
+    (run-tier-same-length-18 t)
+    (run-tier-same-length-19 t)
+    (run-tier-same-length-20 t)
+    (run-tier-returns-5 t)
