@@ -16,17 +16,26 @@ use Rattle.basic.specs.Basic.{Basic}
 use Rattle.basic.specs.Reading.{basicRead}
 use Rattle.basic.specs.Tabulated.{tabulated}
 
--- ---- 26: more than 64 templates, 255 entries or 65,536 tabulated bytes; place 0
+-- ---- 26: more templates, entries of a template or tabulated bytes than a tree file may have; place 0
 abbrev pub tooLarge : ℕ
 tooLarge = 26
 
+abbrev pub mostTemplates : ℕ
+mostTemplates = 64
+
+abbrev pub mostEntries : ℕ
+mostEntries = 255
+
+abbrev pub mostBytes : ℕ
+mostBytes = 65536
+
 unfoldable pub entriesFit : List Template → Bool
 entriesFit [] = true
-entriesFit (t ∷ ts) = leb (length (t .entries)) 255 && entriesFit ts
+entriesFit (t ∷ ts) = leb (length (t .entries)) mostEntries && entriesFit ts
 
 unfoldable pub withinLimits : List Template → Bool
 unfolding entriesFit
-withinLimits ts = leb (length ts) 64 && (entriesFit ts && leb (length (treeFile ts)) 65536)
+withinLimits ts = leb (length ts) mostTemplates && (entriesFit ts && leb (length (treeFile ts)) mostBytes)
 
 -- ---- 6 at the lowest template whose list is not closed, by the tabulator's numbers; then 26
 unfoldable pub limited : Basic → ℕ → Got Basic

@@ -1,5 +1,4 @@
 -- The laws of the crate basic_program.
-pub mod Entries
 pub mod Spots
 pub mod Bodies
 pub mod Known

@@ -1,7 +1,7 @@
 -- Collecting the entries of one template.
-use Prim.Native.Nat.{ℕ, suc, _+_, _*_, _/_, _≤_, _<_}
+use Prim.Native.Nat.{ℕ, _+_, _/_, _≤_, _<_}
 use mathlib.Core.Path.{_≡_}
-use mathlib.Core.Bool.{true, cond}
+use mathlib.Core.Bool.{cond}
 use mathlib.Core.List.{List, [], _∷_}
 use lib.ListN.{length, take}
 use lib.Dec.{eqb}
@@ -9,7 +9,7 @@ use Rattle.files.specs.Reading.{got}
 use Rattle.files.specs.Entries.{Entry}
 use Rattle.basic.specs.Basic.{Basic}
 use Rattle.basic.specs.Reading.{listAt}
-use Rattle.basic.specs.Tabulated.{inside, among, withAll, entriesOf}
+use Rattle.basic.specs.Tabulated.{inside, withAll, entriesOf}
 use Rattle.basic.specs.Forest.{Lists, insideAll, usesAll, ownBits, ownAll}
 use Rattle.tabulate.specs.declared.Collected.{Collected}
 use Rattle.tabulate.specs.declared.Collected.the-variants.{Many, Entries}
@@ -53,8 +53,3 @@ pub record SlotAt (slot : ℕ) : Type 0 where
   pub entry : Entry
   pub is : slot ≡ slotOf entry
   pub fits : Fits entry
-
--- entries that are all among es
-unfoldable pub AllIn : List Entry → List Entry → Type 0
-AllIn es [] = Unit
-AllIn es (e ∷ us) = (among e es ≡ true) × AllIn es us

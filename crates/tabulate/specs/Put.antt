@@ -12,8 +12,9 @@ use Rattle.basic.specs.Basic.{Basic}
 use Rattle.basic.specs.Tabulated.{inside, uses, entriesOf, indexed, templateOf, tabulated}
 use Rattle.basic.specs.Checked.{entriesFit}
 use Rattle.basic.specs.Forest.{Lists, insideAll, usesAll, codeAll, ownBits}
+use Rattle.basic.specs.laws.EntryLaws.{AllIn}
 use Rattle.tabulate.specs.Slots.{AllFit, slotsOf}
-use Rattle.tabulate.specs.Collect.{OwnList, AllIn}
+use Rattle.tabulate.specs.Collect.{OwnList}
 use Rattle.tabulate.specs.Judge.{FewIn, From, templatesFrom}
 
 -- the bits b put into o at a

@@ -4,3 +4,4 @@ pub mod Standing
 pub mod Canonical
 pub mod Back
 pub mod Written
+pub mod Placed

@@ -13,21 +13,17 @@ use Rattle.files.specs.Grammar.{lowest, closedTemplate, indexedTemplate}
 use Rattle.files.specs.Flat.{offsetTemplate}
 use Rattle.files.specs.Linear.{Linear, templateBytes, templatesBytes, linearFile, linearRead}
 use Rattle.files.specs.Valid.{Bytes}
-use Rattle.files.specs.laws.AllGot.{Each}
+use Rattle.files.specs.laws.AllGot.{Each, each-weaker}
 use Rattle.files.specs.Accepted.{orLowest, treeChecked, flatChecked}
 use Rattle.tree_file.specs.File.{templateBits, treeFile, startsAt, placed}
 use Rattle.tree_file.specs.laws.Back.{TreeWritable, TreeWritables, tree-back}
+use Rattle.tree_file.specs.laws.Placed.{placed-length, lowest-placed, lowest-all}
 use Rattle.back.specs.laws.Lists.{isOf, Accepted}
 use Rattle.back.specs.laws.Files.{AcceptedTemplate}
 use Rattle.back.specs.laws.Fixed.{EntriesFit, linear-fixed}
 use Rattle.back.specs.laws.Shelf.{Backs, no-more, one-more, back-flattens}
 
 -- ---- where lists begin is not seen by the checks, nor in the linear file
-placed-length : (p : ℕ) (ts : List Template) → length (placed p ts) ≡ length ts
-unfolding placed
-placed-length p [] = refl
-placed-length p (t ∷ ts) = ap suc (placed-length (p + length (templateBits t)) ts)
-
 placed-bytes : (p : ℕ) (ts : List Template) → templatesBytes (placed p ts) ≡ templatesBytes ts
 unfolding placed templatesBytes templateBytes
 placed-bytes p [] = refl
@@ -37,11 +33,9 @@ placed-file : (p : ℕ) (ts : List Template) → linearFile (placed p ts) ≡ li
 unfolding linearFile
 placed-file p ts = rw (placed-length p ts, placed-bytes p ts) refl
 
-lowest-placed : (ok : Template → Bool) → ((p : ℕ) (t : Template) → Accepted (t .entries) (t .code) → ok (startsAt p t) ≡ true)
-    → (n m p : ℕ) (ts : List Template) → Each AcceptedTemplate n ts → lowest ok m (placed p ts) ≡ none
-unfolding lowest placed
-lowest-placed ok h n m p [] a = refl
-lowest-placed ok h n m p (t ∷ ts) a = rw (h p t (a .0)) (lowest-placed ok h (n + 1) (m + 1) (p + length (templateBits t)) ts (a .1))
+none-placed : (ok : Template → Bool) → ((p : ℕ) (t : Template) → ok (startsAt p t) ≡ ok t)
+    → ((t : Template) → Accepted (t .entries) (t .code) → ok t ≡ true) → (ts : List Template) → Each AcceptedTemplate 0 ts → lowest ok 0 (placed 8 ts) ≡ none
+none-placed ok same h ts a = lowest-placed ok same 0 8 ts ∙ lowest-all ok 0 0 ts (each-weaker (λ n t b. h t b) 0 ts a)
 
 -- ---- they can be written
 backs-length : {ls : List Linear} {ts : List Template} → Backs ls ts → length ts ≡ length ls
@@ -69,9 +63,9 @@ back-file z ls q ts b e r fits =
     record { at-least-one = omega arith; at-most-64 = omega arith; each = rw l (backs-writable (length ls) 0 r (k .entries) (f .1)) } in (
       rw (
         tree-back ts w fits,
-        lowest-placed closedTemplate (λ p t a. a .fit .category) 0 0 8 ts (f .1),
-        lowest-placed indexedTemplate (λ p t a. a .indices) 0 0 8 ts (f .1),
-        lowest-placed offsetTemplate (λ p t a. a .fit .offsets) 0 0 8 ts (f .1),
+        none-placed closedTemplate (λ p t. refl) (λ t a. a .fit .category) ts (f .1),
+        none-placed indexedTemplate (λ p t. refl) (λ t a. a .indices) ts (f .1),
+        none-placed offsetTemplate (λ p t. refl) (λ t a. a .fit .offsets) ts (f .1),
       )
           refl,
       placed-file 8 ts ∙ f .0,

@@ -327,7 +327,8 @@ module _ (s : List ℕ) (e p z q : ℕ) (c : Basic) (cs : List Basic) (read : li
         left = x ∷ x₂ ∷ r ∷ cs;
         lists = next-list y (below-15 s z y x d) (next-list y₂ (below-15 s y y₂ x₂ d₂) (next-list u j (moved u (k .1))));
         closures = λ n. (let m : n + (inside x + (inside x₂ + inside r)) ≡ n + inside x + inside x₂ + inside r = omega arith in
-            rw m (three (closures n x) (closures (n + inside x) x₂) (closures (n + inside x + inside x₂) r) (closuresAll (n + inside x + inside x₂ + inside r) cs)));
+            rw m
+            (three (closures n x) (closures (n + inside x) x₂) (closures (n + inside x + inside x₂) r) (closuresAll (n + inside x + inside x₂ + inside r) cs)));
         uses = λ n. (let m : n + (inside x + (inside x₂ + inside r)) ≡ n + inside x + inside x₂ + inside r = omega arith in
             rw m (three (uses n x) (uses (n + inside x) x₂) (uses (n + inside x + inside x₂) r) (usesAll (n + inside x + inside x₂ + inside r) cs)));
         code = λ es n. (let m : n + (inside x + (inside x₂ + inside r)) ≡ n + inside x + inside x₂ + inside r = omega arith in

@@ -70,7 +70,9 @@ module _ (s : List ℕ) where
     where
       go : (b : Bool)
           → TokenPast p (valid (p + 5) b (then (field s (p + 5 + 2) 3) (λ t z. then (constantAt s (p + 5 + 2) t z) (λ e u. got (carries-t 6 e) u))))
-      go true = then-field (TokenPast p) s (p + 5 + 2) 3 _ tt (λ h. constant-past p (fieldAt s (p + 5 + 2) 3) (p + 5 + 2) (ltb (fieldAt s (p + 5 + 2) 3) 6) refl)
+      go true =
+          then-field (TokenPast p) s (p + 5 + 2) 3 _ tt
+          (λ h. constant-past p (fieldAt s (p + 5 + 2) 3) (p + 5 + 2) (ltb (fieldAt s (p + 5 + 2) 3) 6) refl)
       go false = tt
 
   global-past : (p v : ℕ) → ((g : ℕ) → g < 256 → CarriesOk v (global g)) → TokenPast p (globalAt s v (p + 5))
@@ -99,7 +101,8 @@ module _ (s : List ℕ) where
   code-past l p v h = go (eqb v 6) (eqb v 7) (eqb v 8) (eqb v 9) refl refl refl refl
     where
       go : (a b c d : Bool) → eqb v 6 ≡ a → eqb v 7 ≡ b → eqb v 8 ≡ c → eqb v 9 ≡ d
-          → TokenPast p (cond a (literalAt s (p + 5)) (cond b (holding l p (got closure-t (p + 5))) (cond (c || d) (globalAt s v (p + 5)) (shapedAt s l p v (p + 5) (shapeOf v)))))
+          → TokenPast p (cond a (literalAt s (p + 5)) (cond b (holding l p (got closure-t (p + 5)))
+          (cond (c || d) (globalAt s v (p + 5)) (shapedAt s l p v (p + 5) (shapeOf v)))))
       go true b c d e₆ e₇ e₈ e₉ = literal-past p
       go false true c d e₆ e₇ e₈ e₉ = holding-past l p p _ (refl, h, tt)
       go false false true d e₆ e₇ e₈ e₉ = global-past p v (λ g lt. rw (eqb-true v 8 e₈) (global-ok lt))
@@ -214,7 +217,8 @@ module _ (s : List ℕ) where
   items-fuel l deep d zero g p h i = absurd (omega arith)
   items-fuel l deep d (suc f) zero p h i = absurd (omega arith)
   items-fuel l deep d (suc f) (suc g) p h i =
-      token-same p deep (items s l deep f) (items s l deep g) d (λ q lt w. items-fuel l deep d f g q (omega arith) (omega arith)) (tokenAt s l p) (token-past l p)
+      token-same p deep (items s l deep f) (items s l deep g) d (λ q lt w. items-fuel l deep d f g q (omega arith) (omega arith)) (tokenAt s l p)
+      (token-past l p)
 
   pub below-past : (l p : ℕ) → ListPast p (below s l p)
   unfolding below ListPast

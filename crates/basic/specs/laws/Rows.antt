@@ -56,5 +56,6 @@ answers =
 
 pub rows : map (λ s. tabulatedFile s 65536) basicFiles ≡ answers
 unfolding bitAt fieldAt fieldRead pickField shapeOf put simple then field fieldGot tagWidth constantAt zeroBits nothingMore paddedEnd isEmpty isOpen isClosed
-    lowest bitsOf entryBits entriesBits byteOf bytesFrom bytesOf orLowest operandsBits listBits templateBits templatesBits fileBits treeFile inside tabulatedFile
+    lowest bitsOf entryBits entriesBits byteOf bytesFrom bytesOf orLowest operandsBits listBits templateBits templatesBits fileBits treeFile
+    inside tabulatedFile
 rows = refl

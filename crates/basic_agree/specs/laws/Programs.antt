@@ -1,16 +1,16 @@
 -- The programs of basic code and of its tabulated file are in step: the same stands at places that correspond. Assumes nothing.
 use Prim.Native.Nat.{ℕ, _*_, _≤_, _<_, _^_}
 use native.Mathlib.Omega.{arith}
-use mathlib.Core.Path.{_≡_, refl, sym, ap, _∙_}
+use mathlib.Core.Path.{_≡_, refl, ap}
 use mathlib.Core.List.{List}
 use lib.ListN.{getD}
-use Rattle.files.specs.Tree.{Template}
 use Rattle.tree_file.specs.File.{placed}
 use Rattle.basic.specs.Basic.{Basic, bits}
 use Rattle.basic.specs.Valid.{Ok}
-use Rattle.basic.specs.Tabulated.{entriesOf, indexed, tabulated}
+use Rattle.basic.specs.Tabulated.{entriesOf, tabulated}
+use Rattle.basic.specs.laws.EntryLaws.{entries-found}
 use Rattle.owners.specs.declared.Owner.{Owner}
-use Rattle.machines.specs.Fetched.{Fetched, bad, noTemplate, treeAt, look as treeLook}
+use Rattle.machines.specs.Fetched.{Fetched, bad, noTemplate, treeAt}
 use Rattle.machines.specs.Machine.{Program, treeProgram, noCounts, Ended}
 use Rattle.machines.specs.Runs.{reported, memoryOf, startState, programRun}
 use Rattle.lockstep.specs.laws.Frames.{Savable}
@@ -19,8 +19,7 @@ use Rattle.lockstep.specs.laws.Same.{Same, same-but-places, start-same}
 use Rattle.sound.specs.laws.Programs.{FetchedOk, ProgramOk}
 use Rattle.agree.specs.Demand3.{EndAlike}
 use Rattle.agree.specs.laws.Aside.{frames-alike}
-use Rattle.basic_program.specs.Program.{Body, allBodies, noBody, basicAt, basicProgram, look}
-use Rattle.basic_program.specs.laws.Entries.{entries-found}
+use Rattle.basic_program.specs.Program.{Body, allBodies, noBody, basicAt, basicProgram}
 use Rattle.basic_program.specs.laws.Spots.{Spot, spot-first, spot-within, Twin, plainT, returnT, callT, branchT, saveT, badT, look-like}
 use Rattle.basic_program.specs.laws.Bodies.{BodyOk, body-ok, entries-are, code-is}
 

@@ -1,14 +1,21 @@
--- Request 6, proved: BasicAlike of Statement.antt. Assumes nothing.
-use Prim.Native.Nat.{ℕ}
+-- Request 6, proved: TabulatedAccepted, BasicAlike and TabulatorAlike of Statement.antt. Assumes nothing.
+use Prim.Native.Nat.{ℕ, _*_}
 use native.Mathlib.Omega.{arith}
 use mathlib.Core.Path.{refl}
 use mathlib.Core.Bool.{Bool, true, false, cond}
 use mathlib.Core.Option.{Option, none, some}
 use lib.Dec.{leb}
-use Rattle.files.specs.laws.AllGot.{got-all}
+use lib.ListN.{length}
+use Rattle.files.specs.Outcome.{intoBytes}
+use Rattle.files.specs.Reading.{got}
+use Rattle.files.specs.laws.AllGot.{got-all, got-value, then-led}
+use Rattle.readback.specs.laws.Led.{cond-led}
 use Rattle.tree_file.specs.File.{treeFile}
 use Rattle.owners.specs.Owners.{isOwner, ownerOf}
 use Rattle.basic.specs.Tabulated.{tabulated}
+use Rattle.basic.specs.Checked.{basicChecked, tabulatedFile}
+use Rattle.basic.specs.laws.DepthLaws.{list-depth}
+use Rattle.basic.specs.laws.AcceptedLaws.{tabulated-passes}
 use Rattle.machines.specs.Machine.{treeProgram}
 use Rattle.machines.specs.Runs.{Memory, Ran, rightLengths, lowestUnfit, fitGlobals, byOwner, started, onTree, treeRun}
 use Rattle.sound.specs.laws.Programs.{ProgramOk}
@@ -16,7 +23,7 @@ use Rattle.sound.specs.laws.Files.{tree-accepted-ok}
 use Rattle.agree.specs.Demand3.{EndAlike}
 use Rattle.basic_program.specs.Run.{onBasic, basicRun}
 use Rattle.basic_program.specs.laws.Known.{Accepted, checked-known}
-use Rattle.basic_agree.specs.Statement.{BasicAlike}
+use Rattle.basic_agree.specs.Statement.{TabulatedAccepted, BasicAlike, TabulatorAlike}
 use Rattle.basic_agree.specs.laws.Programs.{programs-alike}
 
 -- ---- what is refused at the start is refused alike
@@ -50,12 +57,34 @@ started-alike most b o m x y h =
     by-test (rightLengths m) _ _ _
     (by-test (leb b most) _ _ _ (by-test (isOwner o) _ _ _ (fit-alike (lowestUnfit 0 (m .globals)) m x y h)))
 
--- THE LAW
+-- THE LAWS
+pub tabulated-accepted : TabulatedAccepted
+tabulated-accepted s c q e =
+    let k = got-all (Accepted s) (checked-known s) e in
+    let o = k .known in
+    tabulated-passes c (o .in-order) (list-depth s 15 0 (o .read)) (k .closed) (k .limits)
+
 pub basic-alike : BasicAlike
 unfolding basicRun treeRun onBasic onTree
-basic-alike s c q b o m e t =
+basic-alike s c q b o m e =
     let k = got-all (Accepted s) (checked-known s) e .known in
-    rw (e, t .1)
+    let t = tabulated-accepted s c q e in
+    rw (e, t)
     (started-alike 1000000 b o m _ _
     (programs-alike c (k .in-order) (omega (arith, k .short, k .small)) 8
-    (got-all (λ ts. ProgramOk (treeProgram ts)) (tree-accepted-ok (treeFile (tabulated c))) (t .1)) (ownerOf o) b (m .globals)))
+    (got-all (λ ts. ProgramOk (treeProgram ts)) (tree-accepted-ok (treeFile (tabulated c))) t) (ownerOf o) b (m .globals)))
+
+pub tabulator-alike : TabulatorAlike
+unfolding tabulatedFile intoBytes
+tabulator-alike s w n q e =
+    then-led (basicChecked s) _ e
+    (λ c z i on.
+    let f = treeFile (tabulated c) in
+    let v = got-value (cond-led (leb (length f) n) (got f (8 * length f)) 9 (length f) on .1) in
+    record {
+      list = c;
+      past = z;
+      checked = i;
+      accepted = rw (← v .0, ← v .1) (tabulated-accepted s c z i);
+      alike = λ b o m. rw (← v .0) (basic-alike s c z b o m i);
+    })

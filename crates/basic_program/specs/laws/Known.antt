@@ -42,15 +42,16 @@ read-known s =
     (λ d r k. nothing-all (Known s) s r d (got-all (Known s) (zero-all (Known s) s (toByte q) q c (list-known s (leb-true (length s) 65536 i) e)) k))))
     (λ i. tt)
 
--- it is read, and it is within the limits
+-- it is read, every template's list is closed, and it is within the limits
 pub record Accepted (s : List ℕ) (c : Basic) : Type 0 where
   pub known : Known s c
+  pub closed : lowest closedTemplate 0 (tabulated c) ≡ none
   pub limits : withinLimits (tabulated c) ≡ true
 
-lowest-all : (Q : Basic → Type 0) (n : ℕ) (o : Option ℕ) (g : Got Basic) → AllGot Q g → AllGot Q (orLowest n o g)
+lowest-all : (Q : Basic → Type 0) (n : ℕ) (o : Option ℕ) (g : Got Basic) → (o ≡ none → AllGot Q g) → AllGot Q (orLowest n o g)
 unfolding orLowest
 lowest-all Q n (some t) g h = tt
-lowest-all Q n none g h = h
+lowest-all Q n none g h = h refl
 
 -- THE LAW
 pub checked-known : (s : List ℕ) → AllGot (Accepted s) (basicChecked s)
@@ -58,5 +59,5 @@ unfolding basicChecked limited
 checked-known s =
     then-all (Accepted s) (basicRead s) _
     (λ c q e. lowest-all (Accepted s) 6 (lowest closedTemplate 0 (tabulated c)) _
-    (cond-all (Accepted s) (withinLimits (tabulated c)) (got c q) (refused 26 0)
-    (λ i. record { known = got-all (Known s) (read-known s) e; limits = i }) (λ i. tt)))
+    (λ i. cond-all (Accepted s) (withinLimits (tabulated c)) (got c q) (refused 26 0)
+    (λ j. record { known = got-all (Known s) (read-known s) e; closed = i; limits = j }) (λ j. tt)))

@@ -22,7 +22,7 @@ use Rattle.machines.specs.Fetched.{Fetched, plain, returns, calls, branches, sa
 use Rattle.machines.specs.Fetched.{first as treeFirst, beyond, look as treeLook}
 use Rattle.machines.specs.laws.FetchedLaws.{look-first, look-neutral, look-first-arm, look-second-arm, look-after-arms, look-saved, look-after-saved}
 use Rattle.basic_program.specs.Program.{plainAt, carried, first, look}
-use Rattle.basic_program.specs.laws.Entries.{Finds}
+use Rattle.basic.specs.laws.EntryLaws.{Finds}
 
 -- ---- the same instruction, and on at places that correspond
 pub data Twin (P : ℕ → ℕ → Type 0) : Fetched → Fetched → Type 0 where

@@ -1,19 +1,19 @@
 -- What is joined, read back: it passes 1 to 7 as an operand, its templates are the joined ones. Assumes nothing.
-use Prim.Native.Nat.{ℕ, zero, suc, _+_, _*_, _≤_, _<_}
+use Prim.Native.Nat.{ℕ, zero, suc, _+_, _*_, _≤_}
 use native.Mathlib.Omega.{arith}
-use mathlib.Core.Path.{_≡_, refl, sym, ap, _∙_}
+use mathlib.Core.Path.{_≡_, refl, ap, _∙_}
 use mathlib.Core.Bool.{Bool, true, false, cond, _&&_, _||_, and-eq-true-iff}
-use mathlib.Core.List.{List, [], _∷_, _++_, append-assoc}
-use mathlib.Core.Option.{Option, none, some}
+use mathlib.Core.List.{List, [], _∷_, _++_}
+use mathlib.Core.Option.{none}
 use borrow.Author.Tests.{leb-true}
 use lib.ListN.{length, getD, length-append}
 use lib.Dec.{leb}
 use Rattle.cells.specs.laws.Laws.{clash}
 use Rattle.files.specs.Code.{Code, done, neutral, return, call, unless-false, make-cont}
-use Rattle.files.specs.Reading.{Got, got, refused}
+use Rattle.files.specs.Reading.{got, refused}
 use Rattle.files.specs.Entries.{Entry, constant, global, template, then}
 use Rattle.files.specs.laws.EntriesLaws.{EntryOk, EntriesOk}
-use Rattle.files.specs.laws.AllGot.{Each, then-led, got-value, refused-got}
+use Rattle.files.specs.laws.AllGot.{then-led, got-value}
 use Rattle.files.specs.laws.AcceptedLaws.{lowest-none, or-led}
 use Rattle.files.specs.Accepted.{orLowest, treeChecked}
 use Rattle.files.specs.Flat.{flat}
@@ -23,12 +23,11 @@ use Rattle.files.specs.Grammar.{isEmpty, isOpen, isClosed, entryOf, suits, inde
 use Rattle.files.specs.Valid.{Valid}
 use Rattle.files.specs.laws.GrammarLaws.{never}
 use Rattle.readback.specs.laws.Led.{cond-led}
-use Rattle.tree_file.specs.File.{templateBits, templatesBits, fileBits, treeFile, startsAt, placed, levels}
+use Rattle.tree_file.specs.File.{templatesBits, fileBits, treeFile, placed, levels}
 use Rattle.tree_file.specs.laws.Back.{TreeWritable, TreeWritables, tree-back}
+use Rattle.tree_file.specs.laws.Placed.{placed-length, placed-bits, lowest-placed}
 use Rattle.tree_file.specs.laws.Written.{tree-writable}
-use Rattle.rewrite.specs.Reindex.{reindex}
 use Rattle.rewrite.specs.laws.ReindexLaws.{same-empty, same-open, same-closed, valid-reindex, indices-move}
-use Rattle.join.specs.Adjoin.{openAdjoin}
 use Rattle.join.specs.laws.AdjoinLaws.{adjoin-open, adjoin-closed, adjoin-valid, adjoin-each, adjoin-flat}
 use Rattle.join.specs.Join.{isPrologue, indicesChecked, prologueChecked, unclosed, secondChecked, moved, joinedFirst, joinedTemplates}
 use Rattle.join.specs.Join.{withinLimits, joined, joinedFile}
@@ -84,25 +83,9 @@ second-file s ts q o e =
     rw (first, c) (a .1))
 
 -- ---- where the lists start does not matter
-pub placed-length : (p : ℕ) (ts : List Template) → length (placed p ts) ≡ length ts
-unfolding placed
-placed-length p [] = refl
-placed-length p (t ∷ ts) = ap suc (placed-length (p + length (templateBits t)) ts)
-
-placed-bits : (p : ℕ) (ts : List Template) → templatesBits (placed p ts) ≡ templatesBits ts
-unfolding placed templatesBits templateBits
-placed-bits p [] = refl
-placed-bits p (t ∷ ts) = rw (placed-bits (p + length (templateBits t)) ts) refl
-
 pub file-placed : (t : Template) (p : ℕ) (ts : List Template) → treeFile (t ∷ placed p ts) ≡ treeFile (t ∷ ts)
 unfolding treeFile fileBits templatesBits
 file-placed t p ts = rw (placed-length p ts, placed-bits p ts) refl
-
-lowest-placed : (ok : Template → Bool) → ((p : ℕ) (t : Template) → ok (startsAt p t) ≡ ok t) → (n p : ℕ) (ts : List Template)
-    → lowest ok n (placed p ts) ≡ lowest ok n ts
-unfolding lowest placed
-lowest-placed ok same n p [] = refl
-lowest-placed ok same n p (t ∷ ts) = rw (same p t, lowest-placed ok same (n + 1) (p + length (templateBits t)) ts) refl
 
 prologue-placed : (p : ℕ) (ts : List Template) → isPrologue (placed p ts) ≡ isPrologue ts
 unfolding isPrologue placed

@@ -1,32 +1,33 @@
 -- The trimmed file (request 5): it passes 1 to 7 and request 4, and trimming it again changes nothing. Assumes nothing.
-use Prim.Native.Nat.{ℕ, zero, suc, _+_, _*_, _-_, _/_, _≤_, _<_}
+use Prim.Native.Nat.{ℕ, zero, suc, _+_, _*_, _/_, _≤_, _<_}
 use native.Mathlib.Nat.{zero-add}
 use native.Mathlib.Numerals.{add-one}
 use native.Mathlib.Omega.{arith}
-use mathlib.Core.Path.{_≡_, refl, sym, ap, ap₂, subst, _∙_}
+use mathlib.Core.Path.{_≡_, refl, sym, ap, subst, _∙_}
 use mathlib.Core.Bool.{Bool, true, false, cond, _&&_, _||_}
-use mathlib.Core.List.{List, [], _∷_, _++_, map}
-use mathlib.Core.Option.{Option, none, some}
-use borrow.Author.Tests.{le-leb, ne-eqb}
+use mathlib.Core.List.{List, [], _∷_, map}
+use mathlib.Core.Option.{none, some}
+use borrow.Author.Tests.{ne-eqb}
 use lib.Dec.{leb, eqb}
-use lib.ListN.{length, getD, length-append, length-map}
-use Rattle.files.specs.Code.{Code, done, neutral, return, call, unless-false, make-cont, bits}
+use lib.ListN.{length, length-append, length-map}
+use Rattle.files.specs.Code.{Code, done, neutral, return, call, unless-false, make-cont}
 use Rattle.files.specs.Entries.{Entry, constant, global, template, then}
 use Rattle.files.specs.Grammar.{isClosed, entryOf, indicesFit, lowest, closedTemplate, indexedTemplate}
 use Rattle.files.specs.Linear.{entriesBits}
-use Rattle.files.specs.Orphans.{closes, closureNames, lowestNumber, lowestOrphan}
+use Rattle.files.specs.Orphans.{closes, closureNames}
 use Rattle.files.specs.Reading.{got}
 use Rattle.files.specs.Tree.{Template, treeRead}
 use Rattle.files.specs.Accepted.{orLowest, treeChecked, treeAccepted}
 use Rattle.files.specs.Valid.{Valid}
 use Rattle.files.specs.laws.AcceptedLaws.{checked, checked-read, lowest-none}
-use Rattle.files.specs.laws.AllGot.{Each, each-at, each-weaker}
+use Rattle.files.specs.laws.AllGot.{Each, each-weaker}
 use Rattle.files.specs.laws.EntriesLaws.{EntryOk, EntriesOk}
 use Rattle.readback.specs.laws.Bits.{length-bits}
 use Rattle.tree_file.specs.File.{templateBits, templatesBits, fileBits, treeFile, placed, startsAt}
 use Rattle.tree_file.specs.laws.Back.{TreeWritable, TreeWritables, tree-back}
 use Rattle.tree_file.specs.laws.Canonical.{tree-known}
 use Rattle.tree_file.specs.laws.Lengths.{template-length}
+use Rattle.tree_file.specs.laws.Placed.{placed-length, placed-names, placed-bits, lowest-all, no-orphan}
 use Rattle.tree_file.specs.laws.Written.{tree-writable, file-length}
 use Rattle.tree.specs.laws.Parts.{tree-parts}
 use Rattle.rewrite.specs.Reindex.{reindexed, reindex}
@@ -40,7 +41,7 @@ use Rattle.trim.specs.laws.MarkLaws.{names-within}
 use Rattle.trim.specs.laws.EntryLaws.{renumber-length}
 use Rattle.trim.specs.laws.TemplateLaws.{reindex-same}
 use Rattle.trim.specs.laws.BothLaws.{closes-named}
-use Rattle.renamed.specs.laws.Ranks.{entry-at, rank-grows, Old, rank-old, rank-all, sift-all}
+use Rattle.renamed.specs.laws.Ranks.{entry-at, rank-grows, rank-old, rank-all, sift-all}
 use Rattle.renamed.specs.laws.Reindexed.{same-bits, same-closed}
 use Rattle.renamed.specs.laws.Found.{same-levels, same-valid, same-names, Found, renumbered, same-fits, same-closes}
 
@@ -61,11 +62,6 @@ module _ (keep : ℕ → Bool) (P Q : ℕ → Template → Type 0) (g : Template
       go true e next = (each n x e (q .0), subst (λ (m : ℕ). Each P m (map g (sift keep (suc n) ts))) (rank-next n true e) next)
       go false e next = subst (λ (m : ℕ). Each P m (map g (sift keep (suc n) ts))) (rank-next n false e ∙ omega arith) next
 
-lowest-all : (ok : Template → Bool) (n m : ℕ) (ts : List Template) → Each (λ n x. ok x ≡ true) n ts → lowest ok m ts ≡ none
-unfolding lowest
-lowest-all ok n m [] h = refl
-lowest-all ok n m (t ∷ ts) h = rw (h .0) (lowest-all ok (n + 1) (m + 1) ts (h .1))
-
 all-lowest : (ok : Template → Bool) (n : ℕ) (ts : List Template) → lowest ok n ts ≡ none → Each (λ n x. ok x ≡ true) n ts
 all-lowest ok n [] e = tt
 all-lowest ok n (t ∷ ts) e = let l = lowest-none ok n t ts e in (l .0, all-lowest ok (n + 1) ts (l .1))
@@ -76,21 +72,6 @@ placed-each : (P : ℕ → Template → Type 0) → ((n p : ℕ) (x : Template) 
 unfolding placed
 placed-each P f n p [] h = tt
 placed-each P f n p (t ∷ ts) h = (f n p t (h .0), placed-each P f (n + 1) (p + length (templateBits t)) ts (h .1))
-
-placed-length : (p : ℕ) (ts : List Template) → length (placed p ts) ≡ length ts
-unfolding placed
-placed-length p [] = refl
-placed-length p (t ∷ ts) = ap suc (placed-length (p + length (templateBits t)) ts)
-
-placed-names : (p : ℕ) (ts : List Template) (u : ℕ) → closureNames (placed p ts) u ≡ closureNames ts u
-unfolding placed closureNames
-placed-names p [] u = refl
-placed-names p (t ∷ ts) u = ap (λ (b : Bool). closes (t .entries) u (t .code) || b) (placed-names (p + length (templateBits t)) ts u)
-
-pub placed-bits : (p : ℕ) (ts : List Template) → templatesBits (placed p ts) ≡ templatesBits ts
-unfolding placed templatesBits templateBits
-placed-bits p [] = refl
-placed-bits p (t ∷ ts) = ap (λ (l : List ℕ). templateBits t ++ l) (placed-bits (p + length (templateBits t)) ts)
 
 -- ---- entries
 entries-kept : (own T : ℕ) (k keep : ℕ → Bool) (j : ℕ) (es : List Entry) → EntriesOk own T es → keep own ≡ true
@@ -208,11 +189,6 @@ all-short g keep n (x ∷ ts) = go (keep n) (all-short g keep (suc n) ts)
     go false h = simp length-append (omega arith)
 
 -- ---- no orphans
-number-none : (ok : ℕ → Bool) (u n : ℕ) → ((v : ℕ) → u ≤ v → v < u + n → ok v ≡ true) → lowestNumber ok u n ≡ none
-unfolding lowestNumber
-number-none ok u zero h = refl
-number-none ok u (suc n) h = rw (h u (omega arith) (omega arith)) (number-none ok (u + 1) n (λ v a b. h v (omega arith) (omega arith)))
-
 named-kept : (keep : ℕ → Bool) (g : ℕ → ℕ) (n : ℕ) (ts : List Template) (u : ℕ) → Each (λ n x. Valid (x .code)) n ts → namedFrom keep n ts u ≡ true
     → closureNames (map (trimTemplate g) (sift keep n ts)) (g u) ≡ true
 unfolding namedFrom closureNames sift
@@ -404,9 +380,8 @@ module _ (s : List ℕ) (ts : List Template) (q : ℕ) (e : treeChecked s ≡ go
 
   -- and request 4
   pub trimmed-accepted : treeAccepted (treeFile ts′) ≡ got again (8 * length (treeFile ts′))
-  unfolding treeAccepted then orLowest lowestOrphan
-  trimmed-accepted =
-      rw (trimmed-checked, number-none (closureNames again) 1 (length again - 1) (λ v a b. again-names v a (omega arith))) refl
+  unfolding treeAccepted then orLowest
+  trimmed-accepted = rw (trimmed-checked, no-orphan again again-names) refl
 
   -- trimming it again changes nothing: nothing of it goes, and it is the same
   pub again-stays : (u : ℕ) → u < length again → stays again u ≡ true

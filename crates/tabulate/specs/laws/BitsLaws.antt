@@ -35,7 +35,8 @@ bits-on table i b r e h f = rw (e, f) (sym (take-on table i h))
 
 pub bits-bound : (slot r : ℕ) → r ≡ slotBits slot → r ≤ 53
 unfolding slotBits
-bits-bound slot r e = rw e (go (eqb (slot / 0x1000000000000) 4) (eqb (slot / 0x1000000000000) 5) (eqb (slot / 0x1000000000000) 6) (eqb (slot / 0x1000000000000) 7))
+bits-bound slot r e =
+    rw e (go (eqb (slot / 0x1000000000000) 4) (eqb (slot / 0x1000000000000) 5) (eqb (slot / 0x1000000000000) 6) (eqb (slot / 0x1000000000000) 7))
   where
     go : (a b c d : Bool) → cond a 37 (cond b 53 (cond c 10 (cond d 10 5))) ≤ 53
     go true b c d = omega arith

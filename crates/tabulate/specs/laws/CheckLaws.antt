@@ -1,17 +1,15 @@
 -- Checking a basic file: each test leads to its refusal. Assumes nothing.
-use Prim.Native.Nat.{ℕ, suc, _+_, _*_, _/_, _≤_, _<_}
+use Prim.Native.Nat.{ℕ, _+_, _≤_, _<_}
 use native.Mathlib.Omega.{arith}
 use mathlib.Core.Path.{_≡_, refl, sym, ap, _∙_}
-use mathlib.Core.Bool.{Bool, true, false, cond, _&&_}
-use mathlib.Core.List.{List, [], _∷_, _++_}
-use mathlib.Core.Option.{none, some}
+use mathlib.Core.Bool.{true, cond}
+use mathlib.Core.List.{List}
 use borrow.Author.Tests.{le-leb, lt-leb}
 use lib.ListN.{length, length-append}
 use lib.Dec.{leb}
 use Rattle.cells.specs.declared.BitPlace.{BitPlace}
-use Rattle.files.specs.Reading.{Got, got, refused}
+use Rattle.files.specs.Reading.{got, refused}
 use Rattle.files.specs.Entries.{then}
-use Rattle.files.specs.Grammar.{lowest, closedTemplate}
 use Rattle.files.specs.Accepted.{orLowest}
 use Rattle.files.specs.Linear.{bitsOf}
 use Rattle.tree_file.specs.File.{templatesBits, fileBits, treeFile}
@@ -20,7 +18,7 @@ use Rattle.basic.specs.declared.BasicFile.{BasicFile}
 use Rattle.basic.specs.declared.BasicFile.the-variants.{Read, Refused as RefusedFile}
 use Rattle.basic.specs.Basic.{Basic}
 use Rattle.basic.specs.Reading.{listAt, basicRead}
-use Rattle.basic.specs.Tabulated.{inside, tabulated}
+use Rattle.basic.specs.Tabulated.{tabulated}
 use Rattle.basic.specs.Checked.{entriesFit, withinLimits, limited, basicChecked}
 use Rattle.basic.specs.Told.{FileRead, file-read, file-refused}
 use Rattle.tabulate.specs.declared.Closed.{Closed}
@@ -30,7 +28,7 @@ use Rattle.tabulate.specs.declared.Measured.the-variants.{Large, Bits}
 use Rattle.tabulate.specs.declared.CheckedFile.the-variants.{Accepted, Refused}
 use Rattle.tabulate.specs.Judge.{ListIn, FewIn, ClosedIs, all-closed, but-one, MeasuredIs, too-large, measured, JudgedIn, CheckedIs, accepted}
 use Rattle.tabulate.specs.Judge.{refused-file}
-use Rattle.tabulate.specs.laws.JudgeLaws.{tabulated-length}
+use Rattle.basic.specs.laws.WrittenLaws.{tabulated-length}
 
 pub file-bits : (c : Basic) → length (fileBits (tabulated c)) ≡ 8 + length (templatesBits (tabulated c))
 unfolding fileBits templatesBits bitsOf

@@ -1,13 +1,12 @@
 -- Writing a template's own list, code by code. Assumes nothing.
-use Prim.Native.Nat.{ℕ, zero, suc, _+_, _*_, _-_, _≤_, _<_}
+use Prim.Native.Nat.{ℕ, suc, _+_, _*_, _-_, _≤_, _<_}
 use native.Mathlib.Omega.{arith}
-use mathlib.Core.Path.{_≡_, refl, sym, ap, _∙_}
-use mathlib.Core.Bool.{Bool, true, false}
+use mathlib.Core.Path.{_≡_, sym, ap, _∙_}
+use mathlib.Core.Bool.{true}
 use mathlib.Core.List.{List, [], _∷_, _++_, append-nil}
 use borrow.Author.Tests.{ltb-true}
 use lib.ListN.{length, take, length-append}
 use Rattle.cells.specs.declared.BitPlace.{BitPlace}
-use Rattle.files.specs.Reading.{got}
 use Rattle.files.specs.Entries.{Entry, template}
 use Rattle.files.specs.Linear.{bitsOf}
 use Rattle.files.specs.laws.AllGot.{got-value}
@@ -19,17 +18,16 @@ use Rattle.tree_file.specs.File.{listBits}
 use Rattle.tree_file.specs.laws.Lengths.{list-length}
 use Rattle.basic.specs.declared.Facts.{Facts}
 use Rattle.basic.specs.Basic.{Basic}
-use Rattle.basic.specs.Reading.{listAt}
 use Rattle.basic.specs.Valid.{TokenOk, CarriesOk, literal-ok, global-ok, set-global-ok}
 use Rattle.basic.specs.Tabulated.{inside, uses, indexOf, among, indexed}
 use Rattle.basic.specs.Forest.{Lists, no-lists, next-list, insideAll, usesAll, codeAll, ownBits}
 use Rattle.basic.specs.laws.ReadLaws.{list-facts}
 use Rattle.basic.specs.laws.StepLaws.{ListIs}
-use Rattle.basic.specs.laws.ForestLaws.{Passing, Carrying, Closing, none-left, lists-end}
+use Rattle.basic.specs.laws.ForestLaws.{none-left, lists-end}
 use Rattle.tabulate.specs.declared.Step.the-variants.{Copy, Entry as EntryStep, Closure}
-use Rattle.tabulate.specs.Slots.{slotOf, Fits, AllFit, slotsOf, position}
+use Rattle.tabulate.specs.Slots.{slotOf, Fits, slotsOf, position}
 use Rattle.tabulate.specs.Walk.{StepIs, is-copy, is-entry, is-closure}
-use Rattle.tabulate.specs.Collect.{OwnList, AllIn}
+use Rattle.basic.specs.laws.EntryLaws.{AllIn}
 use Rattle.tabulate.specs.Put.{PutAt, Putting, Held, CodeIn, Coding}
 use Rattle.tabulate.specs.laws.SlotLaws.{position-index, position-among}
 use Rattle.tabulate.specs.laws.CollectLaws.{carried-fits}

@@ -126,7 +126,8 @@ module _ {s : List ℕ} {e : ℕ} {c : Basic} {n : ℕ} where
 
       pub entry-many : StepIs s e p (k .left) (EntryStep v slot q) → 255 < count′ → 255 < length (entriesOf n c)
       unfolding TokenOk
-      entry-many (is-entry q′ v′ x slot′ i y) h = too-many x (carried-fits v x (y .good)) count′ table′ slot i (d .put) (d .many) next (y .left) (y .uses next) h
+      entry-many (is-entry q′ v′ x slot′ i y) h =
+          too-many x (carried-fits v x (y .good)) count′ table′ slot i (d .put) (d .many) next (y .left) (y .uses next) h
 
     -- a closure whose list was told of
     module _ (q z : BitPlace) (x : Facts) (few : n + inside c ≤ 256) (st : StepIs s e p (k .left) (Closure q)) (told : ListIs s 15 (q .0) z x) where
@@ -154,7 +155,8 @@ module _ {s : List ℕ} {e : ℕ} {c : Basic} {n : ℕ} where
         closure-many h = go st
           where
             go : StepIs s e p (k .left) (Closure q) → 255 < length (entriesOf n c)
-            go (is-closure q′ y) = too-many (template next) closure-number count′ table′ slot is (d .put) (d .many) (suc next + inside (y .list)) (y .left) (y .uses next) h
+            go (is-closure q′ y) =
+                too-many (template next) closure-number count′ table′ slot is (d .put) (d .many) (suc next + inside (y .list)) (y .left) (y .uses next) h
 
         pub collect-closure : (next′ size′ : ℕ) → next′ ≡ next + 1 + x .inside → size′ ≡ size + 13 → Collecting s e c n (z .0) next′ count′ size′ table′
         unfolding slotOf Fits

@@ -1,11 +1,10 @@
 -- Judging and measuring all templates. Assumes nothing.
-use Prim.Native.Nat.{ℕ, zero, suc, _+_, _*_, _≤_, _<_}
-use native.Mathlib.Nat.{add-zero, zero-add}
+use Prim.Native.Nat.{ℕ, suc, _+_, _*_, _≤_, _<_}
+use native.Mathlib.Nat.{zero-add}
 use native.Mathlib.Omega.{arith}
 use mathlib.Core.Path.{_≡_, refl, sym, ap, _∙_}
-use mathlib.Core.Bool.{Bool, true, false, cond, _&&_, _||_}
-use mathlib.Core.List.{List, [], _∷_, _++_, append-nil}
-use mathlib.Core.Option.{Option, none, some}
+use mathlib.Core.Bool.{Bool, true, false}
+use mathlib.Core.List.{List, [], _∷_, append-nil}
 use lib.ListN.{length, take, length-append}
 use lib.Dec.{eqb, leb}
 use borrow.Author.Tests.{le-leb, lt-leb}
@@ -27,7 +26,7 @@ use Rattle.cells.specs.declared.BitPlace.{BitPlace}
 use Rattle.files.specs.Reading.{got}
 use Rattle.files.specs.Tree.{Template}
 use Rattle.files.specs.Grammar.{lowest, closedTemplate}
-use Rattle.basic.specs.Basic.{Basic, ended, plain, carries, closure, branch, save, bits}
+use Rattle.basic.specs.Basic.{Basic, ended, plain, carries, closure, branch, save}
 use Rattle.basic.specs.Reading.{listAt}
 use Rattle.basic.specs.Tabulated.{inside, indexed, templateOf, closures, tabulated, entriesOf}
 use Rattle.basic.specs.Forest.{Lists, no-lists, next-list, insideAll, closuresAll}
@@ -41,6 +40,7 @@ use Rattle.basic.specs.declared.Listed.{Listed}
 use Rattle.basic.specs.declared.Listed.the-variants.{Refused as RefusedList}
 use Rattle.basic.specs.Told.{listTold}
 use Rattle.basic.specs.laws.StepLaws.{ListIs, list-refused}
+use Rattle.basic.specs.laws.WrittenLaws.{closures-length}
 use Rattle.files.specs.laws.AllGot.{got-value, refused-got}
 use Rattle.tabulate.specs.declared.Collected.{Collected}
 use Rattle.tabulate.specs.declared.Next.{Next}
@@ -51,25 +51,10 @@ use Rattle.tabulate.specs.Walk.{Walk, NextIs, no-next, next-is}
 use Rattle.tabulate.specs.Judge.{ListIn, ClosedIs, all-closed, but-one, From, templatesFrom}
 
 -- ---- closures are as many as are inside
-closures-length : (c : Basic) (n : ℕ) → length (closures n c) ≡ inside c
-unfolding closures inside
-closures-length ended n = refl
-closures-length (plain v ns r) n = closures-length r n
-closures-length (carries v e r) n = closures-length r n
-closures-length (closure x r) n =
-    ap suc (length-append (closures (suc n) x) _ ∙ rw (closures-length x (suc n), closures-length r (suc n + inside x)) refl)
-closures-length (branch x y r) n =
-    simp (length-append, closures-length x n, closures-length y (n + inside x), closures-length r (n + inside x + inside y))
-closures-length (save m x r) n = simp (length-append, closures-length x n, closures-length r (n + inside x))
-
 pub all-length : (cs : List Basic) (n : ℕ) → length (closuresAll n cs) ≡ insideAll cs
 unfolding closuresAll insideAll
 all-length [] n = refl
 all-length (c ∷ cs) n = simp (length-append, closures-length c n, all-length cs (n + inside c))
-
-pub tabulated-length : (c : Basic) → length (tabulated c) ≡ suc (inside c)
-unfolding tabulated
-tabulated-length c = ap suc (closures-length c 1)
 
 -- ---- the templates one after the other
 pub from-first : {s : List ℕ} {e : ℕ} (w : ListIn s e) → From s e 0 0 (inside (w .list))
@@ -193,7 +178,8 @@ module _ {s : List ℕ} {e own p b : ℕ} {c : Basic} (k : Measuring s e own p b
         first-sum = go is
           where
             go : CollectedIs (entriesOf (own + 1) (k .from .first)) (ownBits (k .from .first)) table (Entries count size)
-                → (8 + d + size ≡ length (templateBits (templateOf (own + 1) (k .from .first)))) × (leb (length (entriesOf (own + 1) (k .from .first))) 255 ≡ true)
+                → (8 + d + size ≡ length (templateBits (templateOf (own + 1) (k .from .first))))
+                × (leb (length (entriesOf (own + 1) (k .from .first))) 255 ≡ true)
             go (few-entries count′ size′ h i j t a) =
                 let es : List Entry = entriesOf (own + 1) (k .from .first) in
                 let x : d ≡ length (entriesBits es) = told ∙ ap slotsBits t ∙ slots-bits es a in

@@ -128,7 +128,12 @@ pub record Listing (table : List ℕ) (count i : ℕ) (o₀ : List ℕ) (a₀ : 
 pub listing-begin : {table : List ℕ} {count : ℕ} {o : List ℕ} {a : ℕ} (w : EntriesIn table count o a) → Listing table count 0 o a (w .entries) o a
 listing-begin {table} {count} w =
     let z : count - 0 ≡ count = omega arith in
-    record { left = w .entries; held = ap (λ (n : ℕ). take n table) z ∙ w .held; fit = w .fit; put = put-begin (entriesBits (w .entries)) (w .room) (w .settled) }
+    record {
+      left = w .entries;
+      held = ap (λ (n : ℕ). take n table) z ∙ w .held;
+      fit = w .fit;
+      put = put-begin (entriesBits (w .entries)) (w .room) (w .settled);
+    }
 
 no-slots : (l : List Entry) → [] ≡ slotsOf l → l ≡ []
 unfolding slotsOf

@@ -100,12 +100,20 @@ ltb-suc a b = go (ltb a b) refl
 pub slot-same : (d e : Entry) → Fits d → Fits e → eqb (slotOf d) (slotOf e) ≡ sameEntry d e
 unfolding slotOf Fits sameEntry
 slot-same (constant t x) (constant u y) h k = tagged-same t x u y (width-48 t x (h .1)) (width-48 u y (k .1))
-slot-same (constant t x) (global g) h k = let w = width-48 t x (h .1) in ne-eqb (t * 0x1000000000000 + x) (0x6000000000000 + g) (λ (z : t * 0x1000000000000 + x ≡ 0x6000000000000 + g). omega arith)
-slot-same (constant t x) (template m) h k = let w = width-48 t x (h .1) in ne-eqb (t * 0x1000000000000 + x) (0x7000000000000 + m) (λ (z : t * 0x1000000000000 + x ≡ 0x7000000000000 + m). omega arith)
-slot-same (global g) (constant u y) h k = let w = width-48 u y (k .1) in ne-eqb (0x6000000000000 + g) (u * 0x1000000000000 + y) (λ (z : 0x6000000000000 + g ≡ u * 0x1000000000000 + y). omega arith)
+slot-same (constant t x) (global g) h k =
+    let w = width-48 t x (h .1) in
+    ne-eqb (t * 0x1000000000000 + x) (0x6000000000000 + g) (λ (z : t * 0x1000000000000 + x ≡ 0x6000000000000 + g). omega arith)
+slot-same (constant t x) (template m) h k =
+    let w = width-48 t x (h .1) in
+    ne-eqb (t * 0x1000000000000 + x) (0x7000000000000 + m) (λ (z : t * 0x1000000000000 + x ≡ 0x7000000000000 + m). omega arith)
+slot-same (global g) (constant u y) h k =
+    let w = width-48 u y (k .1) in
+    ne-eqb (0x6000000000000 + g) (u * 0x1000000000000 + y) (λ (z : 0x6000000000000 + g ≡ u * 0x1000000000000 + y). omega arith)
 slot-same (global g) (global j) h k = offset-same 0x6000000000000 g j
 slot-same (global g) (template m) h k = ne-eqb (0x6000000000000 + g) (0x7000000000000 + m) (λ (z : 0x6000000000000 + g ≡ 0x7000000000000 + m). omega arith)
-slot-same (template m) (constant u y) h k = let w = width-48 u y (k .1) in ne-eqb (0x7000000000000 + m) (u * 0x1000000000000 + y) (λ (z : 0x7000000000000 + m ≡ u * 0x1000000000000 + y). omega arith)
+slot-same (template m) (constant u y) h k =
+    let w = width-48 u y (k .1) in
+    ne-eqb (0x7000000000000 + m) (u * 0x1000000000000 + y) (λ (z : 0x7000000000000 + m ≡ u * 0x1000000000000 + y). omega arith)
 slot-same (template m) (global g) h k = ne-eqb (0x7000000000000 + m) (0x6000000000000 + g) (λ (z : 0x7000000000000 + m ≡ 0x6000000000000 + g). omega arith)
 slot-same (template m) (template j) h k = offset-same 0x7000000000000 m j
 

@@ -1,12 +1,12 @@
 -- The tabulator: 9, the file, and what the output holds. Assumes nothing.
-use Prim.Native.Nat.{ℕ, zero, suc, _+_, _*_, _-_, _/_, _≤_, _<_}
+use Prim.Native.Nat.{ℕ, _+_, _*_, _/_, _≤_, _<_}
 use native.Mathlib.Omega.{arith}
 use mathlib.Core.Path.{_≡_, refl, sym, ap, _∙_}
-use mathlib.Core.Bool.{Bool, true, false, cond, _&&_, and-eq-true-iff}
-use mathlib.Core.List.{List, [], _∷_, _++_, append-nil}
+use mathlib.Core.Bool.{Bool, true, false, cond, _&&_}
+use mathlib.Core.List.{List, [], _++_, append-nil}
 use mathlib.Core.Option.{Option, none, some}
 use borrow.Author.Tests.{le-leb, lt-leb}
-use lib.ListN.{length, take, drop, length-append, drop-of-length-le}
+use lib.ListN.{length, take, drop, drop-of-length-le}
 use lib.Seq.{length-take-le}
 use lib.Dec.{leb}
 use Rattle.cells.specs.declared.BitPlace.{BitPlace}
@@ -25,16 +25,16 @@ use Rattle.tree_file.specs.File.{templatesBits, fileBits, treeFile}
 use Rattle.tree_file.specs.laws.Written.{file-length, put-tree}
 use Rattle.basic.specs.Basic.{Basic}
 use Rattle.basic.specs.Reading.{listAt, basicRead}
-use Rattle.basic.specs.Tabulated.{inside, tabulated}
+use Rattle.basic.specs.Tabulated.{tabulated}
 use Rattle.basic.specs.Checked.{entriesFit, withinLimits, limited, basicChecked, tabulatedFile}
 use Rattle.files.specs.Outcome.{intoBytes, answered, written}
 use Rattle.tabulate.specs.declared.CheckedFile.{CheckedFile}
 use Rattle.tabulate.specs.declared.CheckedFile.the-variants.{Accepted, Refused as RefusedChecked}
 use Rattle.files.specs.declared.Outcome.the-variants.{Written, Refused}
-use Rattle.tabulate.specs.Judge.{ListIn, FewIn, CheckedIs, accepted, refused-file}
+use Rattle.tabulate.specs.Judge.{CheckedIs, accepted, refused-file}
 use Rattle.tabulate.specs.Put.{PutAt, TemplatesIn, WholeIn}
 use Rattle.tabulate.specs.laws.CheckLaws.{file-bits}
-use Rattle.tabulate.specs.laws.JudgeLaws.{tabulated-length}
+use Rattle.basic.specs.laws.WrittenLaws.{tabulated-length}
 
 -- ---- what was checked fits
 limits-led : (b c d : Bool) → (b && (c && d)) ≡ true → c ≡ true
@@ -134,7 +134,8 @@ module _ {s : List ℕ} {q : BitPlace} {count size : ℕ} (k : CheckedIs s (Acce
     pub short-output : length old < (size + 7) / 8
         → (Refused 9 ((size + 7) / 8) ≡ answered (tabulatedFile s (length old))) × (old ≡ written old (tabulatedFile s (length old)))
     unfolding intoBytes answered written
-    short-output h = rw (file-is (length old), lt-leb (length (treeFile (tabulated (checked-is k .list)))) (length old) (omega (arith, size-is)), size-is) (refl, refl)
+    short-output h =
+        rw (file-is (length old), lt-leb (length (treeFile (tabulated (checked-is k .list)))) (length old) (omega (arith, size-is)), size-is) (refl, refl)
 
     pub file-written : (size + 7) / 8 ≤ length old → (o o′ : List ℕ)
         → ((w : WholeIn s (q .0) count (take ((size + 7) / 8) old)) → o ≡ treeFile (tabulated (w .few .whole .list))) → o′ ≡ o ++ drop ((size + 7) / 8) old

@@ -1,16 +1,15 @@
 -- Writing a template, and all of them. Assumes nothing.
-use Prim.Native.Nat.{ℕ, zero, suc, _+_, _*_, _-_, _≤_, _<_}
+use Prim.Native.Nat.{ℕ, _+_, _*_, _≤_}
 use native.Mathlib.Omega.{arith}
 use mathlib.Core.Path.{_≡_, refl, sym, ap, _∙_}
-use mathlib.Core.Bool.{Bool, true, false, cond, _&&_, _||_, and-eq-true-iff}
+use mathlib.Core.Bool.{true, and-eq-true-iff}
 use mathlib.Core.List.{List, [], _∷_, _++_, append-nil}
-use borrow.Author.Tests.{eq-eqb, leb-true}
-use lib.ListN.{length, take, length-append}
+use borrow.Author.Tests.{leb-true}
+use lib.ListN.{length, length-append}
 use lib.Dec.{leb}
 use Rattle.cells.specs.declared.BitPlace.{BitPlace}
-use Rattle.files.specs.Entries.{Entry, constant, global, template}
 use Rattle.files.specs.Linear.{bitsOf, entriesBits}
-use Rattle.readback.specs.laws.Bits.{AreBits, length-bits}
+use Rattle.readback.specs.laws.Bits.{length-bits}
 use Rattle.readback.specs.laws.Entries.{entries-are}
 use Rattle.readback.specs.laws.Lists.{bits-are}
 use Rattle.bit_writer.specs.Put.{putBits}
@@ -18,80 +17,25 @@ use Rattle.bit_writer.specs.laws.Laws.{put-length, put-next}
 use Rattle.tree_file.specs.File.{listBits, templateBits, templatesBits}
 use Rattle.tree_file.specs.laws.Lengths.{template-are, list-length}
 use Rattle.basic.specs.Basic.{Basic}
-use Rattle.basic.specs.Tabulated.{inside, uses, sameEntry, among, withEntry, withAll, entriesOf, indexed, templateOf, tabulated}
+use Rattle.basic.specs.Tabulated.{entriesOf, indexed, templateOf, tabulated}
 use Rattle.basic.specs.Checked.{entriesFit}
 use Rattle.basic.specs.Forest.{closuresAll, ownBits}
 use Rattle.basic.specs.laws.ReadLaws.{list-facts}
-use Rattle.tabulate.specs.declared.Collected.{Collected}
+use Rattle.basic.specs.laws.EntryLaws.{uses-in}
 use Rattle.tabulate.specs.declared.Collected.the-variants.{Many, Entries}
 use Rattle.tabulate.specs.declared.Next.the-variants.{Nothing as NoNext, List as ListNext}
-use Rattle.tabulate.specs.Slots.{AllFit, slotsOf}
 use Rattle.tabulate.specs.Walk.{NextIs}
-use Rattle.tabulate.specs.Collect.{OwnList, AllIn, CollectedIs, many-entries, few-entries}
-use Rattle.tabulate.specs.Judge.{FewIn, From, templatesFrom}
+use Rattle.tabulate.specs.Collect.{OwnList, CollectedIs, many-entries, few-entries}
+use Rattle.tabulate.specs.Judge.{templatesFrom}
 use Rattle.tabulate.specs.Put.{PutAt, Putting, EntriesIn, Held, CodeIn, TemplateIn, TemplatesIn, Writing}
 use Rattle.tabulate.specs.laws.JudgeLaws.{own-length, from-first, from-first-all, from-end, from-next}
 use Rattle.tabulate.specs.laws.PutLaws.{put-begin, put-on, put-done}
 
--- ---- what a template uses is among its entries
-same-self : (e : Entry) → sameEntry e e ≡ true
-unfolding sameEntry
-same-self (constant t x) = rw (eq-eqb t t refl, eq-eqb x x refl) refl
-same-self (global g) = eq-eqb g g refl
-same-self (template t) = eq-eqb t t refl
-
-among-front : (e : Entry) (es ds : List Entry) → among e es ≡ true → among e (es ++ ds) ≡ true
-unfolding among
-among-front e [] ds h = absurd (let z : _≡_ {A = Bool} false true = h in let y : _≡_ {A = ℕ} 0 1 = cc in omega arith)
-among-front e (d ∷ es) ds h = go (sameEntry d e) (among-front e es ds) h
-  where
-    go : (b : Bool) → (among e es ≡ true → among e (es ++ ds) ≡ true) → (b || among e es) ≡ true → (b || among e (es ++ ds)) ≡ true
-    go true r k = refl
-    go false r k = r k
-
-among-last : (e : Entry) (es : List Entry) → among e (es ++ (e ∷ [])) ≡ true
-unfolding among
-among-last e [] = rw (same-self e) refl
-among-last e (d ∷ es) = go (sameEntry d e) (among-last e es)
-  where
-    go : (b : Bool) → among e (es ++ (e ∷ [])) ≡ true → (b || among e (es ++ (e ∷ []))) ≡ true
-    go true r = refl
-    go false r = r
-
-with-self : (e : Entry) (es : List Entry) → among e (withEntry es e) ≡ true
-unfolding withEntry
-with-self e es = go (among e es) refl
-  where
-    go : (b : Bool) → among e es ≡ b → among e (cond b es (es ++ (e ∷ []))) ≡ true
-    go true h = h
-    go false h = among-last e es
-
-with-kept : (e d : Entry) (es : List Entry) → among e es ≡ true → among e (withEntry es d) ≡ true
-unfolding withEntry
-with-kept e d es h = go (among d es)
-  where
-    go : (b : Bool) → among e (cond b es (es ++ (d ∷ []))) ≡ true
-    go true = h
-    go false = among-front e es (d ∷ []) h
-
-all-kept : (us : List Entry) (e : Entry) (es : List Entry) → among e es ≡ true → among e (withAll es us) ≡ true
-unfolding withAll
-all-kept [] e es h = h
-all-kept (d ∷ us) e es h = all-kept us e (withEntry es d) (with-kept e d es h)
-
-all-in : (us es : List Entry) → AllIn (withAll es us) us
-unfolding AllIn withAll
-all-in [] es = tt
-all-in (e ∷ us) es = (all-kept us e (withEntry es e) (with-self e es), all-in us (withEntry es e))
-
-pub uses-in : (n : ℕ) (c : Basic) → AllIn (entriesOf n c) (uses n c)
-unfolding entriesOf
-uses-in n c = all-in (uses n c) []
-
 -- ---- one template
 module _ {s : List ℕ} {p e n : ℕ} {o : List ℕ} {a : ℕ} (w : TemplateIn s p e n o a) where
   template-parts : templateBits (templateOf n (w .own .list))
-      ≡ bitsOf 8 (length (entriesOf n (w .own .list))) ++ (entriesBits (entriesOf n (w .own .list)) ++ listBits (indexed (entriesOf n (w .own .list)) n (w .own .list)))
+      ≡ bitsOf 8 (length (entriesOf n (w .own .list)))
+      ++ (entriesBits (entriesOf n (w .own .list)) ++ listBits (indexed (entriesOf n (w .own .list)) n (w .own .list)))
   unfolding templateBits templateOf
   template-parts = refl
 
@@ -101,7 +45,8 @@ module _ {s : List ℕ} {p e n : ℕ} {o : List ℕ} {a : ℕ} (w : TemplateIn s
       let es = entriesOf n c in
       let b = listBits (indexed es n c) in
       let l : length b ≡ ownBits c = list-length (indexed es n c) ∙ own-length c (list-facts s 15 p (w .own .read) .2) es n in
-      ap length template-parts ∙ omega (arith, length-append (bitsOf 8 (length es)) (entriesBits es ++ b), length-append (entriesBits es) b, length-bits 8 (length es), l)
+      ap length template-parts
+      ∙ omega (arith, length-append (bitsOf 8 (length es)) (entriesBits es ++ b), length-append (entriesBits es) b, length-bits 8 (length es), l)
 
   pub no-many : {A : Type 0} {table : List ℕ} → CollectedIs (entriesOf n (w .own .list)) (ownBits (w .own .list)) table Many → A
   no-many (many-entries h) = absurd (omega (arith, w .few))
@@ -166,8 +111,9 @@ module _ {s : List ℕ} {p e n : ℕ} {o : List ℕ} {a : ℕ} (w : TemplateIn s
             let es = entriesOf n (w .own .list) in
             let b = listBits (indexed es n (w .own .list)) in
             let l = length-append (entriesBits es) b in
+            let l₈ = length-append (bitsOf 8 (length es)) (entriesBits es ++ b) in
             record {
-              past = omega (arith, p₃ .past, p₂ .past, ap length template-parts, length-append (bitsOf 8 (length es)) (entriesBits es ++ b), l, length-bits 8 (length es));
+              past = omega (arith, p₃ .past, p₂ .past, ap length template-parts, l₈, l, length-bits 8 (length es));
               is = p₃ .is ∙ after-second b ∙ after-first (entriesBits es ++ b)
                   ∙ ap (λ (k : ℕ). putBits o a (bitsOf 8 k ++ (entriesBits es ++ b))) (held .counted) ∙ ap (putBits o a) (sym template-parts);
             }
@@ -202,7 +148,9 @@ module _ {s : List ℕ} {e own p : ℕ} {c : Basic} {o₀ : List ℕ} {a₀ : �
 
   first-fits : (leb (length (entriesOf (own + 1) (k .from .first))) 255 ≡ true) × (entriesFit (closuresAll (own + 1) (k .from .first ∷ k .from .others)) ≡ true)
   unfolding entriesFit templateOf
-  first-fits = and-eq-true-iff (leb (length (entriesOf (own + 1) (k .from .first))) 255) (entriesFit (closuresAll (own + 1) (k .from .first ∷ k .from .others))) .0 (k .fit)
+  first-fits =
+      and-eq-true-iff (leb (length (entriesOf (own + 1) (k .from .first))) 255)
+      (entriesFit (closuresAll (own + 1) (k .from .first ∷ k .from .others))) .0 (k .fit)
 
   pub template-in : (q : ℕ) (l : OwnList s p q (own + 1)) → l .list ≡ k .from .first → TemplateIn s p q (own + 1) o a
   template-in q l h =
@@ -210,7 +158,8 @@ module _ {s : List ℕ} {e own p : ℕ} {c : Basic} {o₀ : List ℕ} {a₀ : �
       record {
         own = l;
         few = rw h (leb-true (length (entriesOf (own + 1) (k .from .first))) 255 (first-fits .0));
-        room = rw h (omega (arith, k .put .room, ap length templates-cons, length-append t (templatesBits (closuresAll (own + 1) (k .from .first ∷ k .from .others)))));
+        room = rw h
+            (omega (arith, k .put .room, ap length templates-cons, length-append t (templatesBits (closuresAll (own + 1) (k .from .first ∷ k .from .others)))));
       }
 
   pub one-put : (q : ℕ) (l : OwnList s p q (own + 1)) (h : l .list ≡ k .from .first) {a′ : ℕ} {o′ : List ℕ}

@@ -1,6 +1,6 @@
 -- Each entry that a template's list uses is found among the template's entries. Assumes nothing.
 use Prim.Native.Nat.{ℕ, suc, _+_}
-use mathlib.Core.Path.{_≡_, refl, sym, ap, _∙_}
+use mathlib.Core.Path.{_≡_, refl, ap, _∙_}
 use mathlib.Core.Bool.{Bool, true, false, cond, _||_, and-eq-true-iff}
 use mathlib.Core.List.{List, [], _∷_, _++_}
 use mathlib.Core.Option.{some}
@@ -94,19 +94,24 @@ module _ (e : Entry) where
   all-kept (u ∷ us) es h = all-kept us (withEntry es u) (with-kept es u h)
 
 -- ---- all entries that are used
-unfoldable pub Each : (Entry → Type 0) → List Entry → Type 0
-Each P [] = Unit
-Each P (e ∷ es) = P e × Each P es
+-- entries that are all among es
+unfoldable pub AllIn : List Entry → List Entry → Type 0
+AllIn es [] = Unit
+AllIn es (e ∷ us) = (among e es ≡ true) × AllIn es us
 
-each-of : (us es : List Entry) → Each (λ e. among e (withAll es us) ≡ true) us
-unfolding Each withAll
-each-of [] es = tt
-each-of (u ∷ us) es = (all-kept u us (withEntry es u) (with-it u es), each-of us (withEntry es u))
+all-in : (us es : List Entry) → AllIn (withAll es us) us
+unfolding AllIn withAll
+all-in [] es = tt
+all-in (u ∷ us) es = (all-kept u us (withEntry es u) (with-it u es), all-in us (withEntry es u))
 
-each-split : (P : Entry → Type 0) (us vs : List Entry) → Each P (us ++ vs) → Each P us × Each P vs
-unfolding Each
-each-split P [] vs h = (tt, h)
-each-split P (u ∷ us) vs h = let k = each-split P us vs (h .1) in ((h .0, k .0), k .1)
+pub uses-in : (n : ℕ) (c : Basic) → AllIn (entriesOf n c) (uses n c)
+unfolding entriesOf
+uses-in n c = all-in (uses n c) []
+
+in-split : (es us vs : List Entry) → AllIn es (us ++ vs) → AllIn es us × AllIn es vs
+unfolding AllIn
+in-split es [] vs h = (tt, h)
+in-split es (u ∷ us) vs h = let k = in-split es us vs (h .1) in ((h .0, k .0), k .1)
 
 -- the entries of the list c, where n is the number of the first template in it, are found in es
 unfoldable pub Finds : List Entry → ℕ → Basic → Type 0
@@ -117,21 +122,20 @@ Finds es n (closure x r) = (entryOf es (indexOf (template n) es) ≡ some (templ
 Finds es n (branch x y r) = Finds es n x × Finds es (n + inside x) y × Finds es (n + inside x + inside y) r
 Finds es n (save m x r) = Finds es n x × Finds es (n + inside x) r
 
-uses-found : (es : List Entry) (n : ℕ) (c : Basic) → Each (λ e. among e es ≡ true) (uses n c) → Finds es n c
-unfolding Finds uses Each
+uses-found : (es : List Entry) (n : ℕ) (c : Basic) → AllIn es (uses n c) → Finds es n c
+unfolding Finds uses AllIn
 uses-found es n ended h = tt
 uses-found es n (plain v ns r) h = uses-found es n r h
 uses-found es n (carries v e r) h = (found e es (h .0), uses-found es n r (h .1))
 uses-found es n (closure x r) h = (found (template n) es (h .0), uses-found es (suc n + inside x) r (h .1))
 uses-found es n (branch x y r) h =
-    let k = each-split (λ e. among e es ≡ true) (uses n x) (uses (n + inside x) y ++ uses (n + inside x + inside y) r) h in
-    let l = each-split (λ e. among e es ≡ true) (uses (n + inside x) y) (uses (n + inside x + inside y) r) (k .1) in
+    let k = in-split es (uses n x) (uses (n + inside x) y ++ uses (n + inside x + inside y) r) h in
+    let l = in-split es (uses (n + inside x) y) (uses (n + inside x + inside y) r) (k .1) in
     (uses-found es n x (k .0), uses-found es (n + inside x) y (l .0), uses-found es (n + inside x + inside y) r (l .1))
 uses-found es n (save m x r) h =
-    let k = each-split (λ e. among e es ≡ true) (uses n x) (uses (n + inside x) r) h in
+    let k = in-split es (uses n x) (uses (n + inside x) r) h in
     (uses-found es n x (k .0), uses-found es (n + inside x) r (k .1))
 
 -- THE LAW
 pub entries-found : (n : ℕ) (c : Basic) → Finds (entriesOf n c) n c
-unfolding entriesOf
-entries-found n c = uses-found (entriesOf n c) n c (each-of (uses n c) [])
+entries-found n c = uses-found (entriesOf n c) n c (uses-in n c)
