@@ -414,7 +414,7 @@ typedef struct {
     double side[SIDES]; /* 0: not linked */
 } Times;
 
-static Flatten *const flatteners[SIDES] = { exporter_flatten, fast_flatten, plain_flatten };
+static Convert *const flatteners[SIDES] = { exporter_flatten, fast_flatten, plain_flatten };
 static Run *const linear_machines[SIDES] = { exporter_run_linear, fast_run_linear, plain_run_linear };
 static Run *const tree_machines[SIDES] = { exporter_run_tree, fast_run_tree, plain_run_tree };
 

@@ -590,7 +590,7 @@ INLINE bool read_tree(const bool flatten, const uint8_t *file, size_t file_len, 
     return true;
 }
 
-void fast_flatten(const uint8_t *file, size_t file_len, uint8_t *out, size_t out_len, uint64_t *result, size_t result_len)
+void fast_flatten(FILE_LENT)
 {
     Refusal refusal = { 0, 0 };
     uint32_t length;
@@ -999,6 +999,17 @@ INLINE Machine started(Cell *globals, Cell *stack, Cell *store, Cell *frames, ui
     LABEL(LOCAL), LABEL(SET_LOCAL), LABEL(PUSH), LABEL(MAKE_ENV), LABEL(UNSPECIFIED), LABEL(CHECKARGS), LABEL(CONS), LABEL(CAR), LABEL(CDR), LABEL(EQV), \
     LABEL(ADD), LABEL(SUB), LABEL(LESS), LABEL(FLOOR_DIV)
 
+/* Primitives have no operands, so both machines have these rules. */
+#define PRIMITIVES \
+    do_CONS: TRY(cons(&m)); NEXT(1); \
+    do_CAR: TRY(part_of_pair(&m, 44)); NEXT(1); \
+    do_CDR: TRY(part_of_pair(&m, 28)); NEXT(1); \
+    do_EQV: TRY(eqv(&m)); NEXT(1); \
+    do_ADD: TRY(add(&m)); NEXT(1); \
+    do_SUB: TRY(sub(&m)); NEXT(1); \
+    do_LESS: TRY(less(&m)); NEXT(1); \
+    do_FLOOR_DIV: TRY(floor_div(&m)); NEXT(1);
+
 /* An instruction is at most four bytes: where as many are left it is whole. */
 #define NEXT(size) \
     do { \
@@ -1073,14 +1084,7 @@ do_PUSH: TRY(push(&m)); NEXT(1);
 do_MAKE_ENV: TRY(make_env(&m, code[at + 1])); NEXT(2);
 do_UNSPECIFIED: m.v = TAGGED(NOT_SPECIFIED_TAG); NEXT(1);
 do_CHECKARGS: TRY(check_count(&m, code[at + 1])); NEXT(2);
-do_CONS: TRY(cons(&m)); NEXT(1);
-do_CAR: TRY(part_of_pair(&m, 44)); NEXT(1);
-do_CDR: TRY(part_of_pair(&m, 28)); NEXT(1);
-do_EQV: TRY(eqv(&m)); NEXT(1);
-do_ADD: TRY(add(&m)); NEXT(1);
-do_SUB: TRY(sub(&m)); NEXT(1);
-do_LESS: TRY(less(&m)); NEXT(1);
-do_FLOOR_DIV: TRY(floor_div(&m)); NEXT(1);
+PRIMITIVES
 near_end:
     if (at < length && linear_size[code[at]] <= length - at)
         GO_TO(code[at]);
@@ -1141,14 +1145,7 @@ do_PUSH: TRY(push(&m)); NEXT(1);
 do_MAKE_ENV: TRY(make_env(&m, at->n1)); NEXT(1);
 do_UNSPECIFIED: m.v = TAGGED(NOT_SPECIFIED_TAG); NEXT(1);
 do_CHECKARGS: TRY(check_count(&m, at->n1)); NEXT(1);
-do_CONS: TRY(cons(&m)); NEXT(1);
-do_CAR: TRY(part_of_pair(&m, 44)); NEXT(1);
-do_CDR: TRY(part_of_pair(&m, 28)); NEXT(1);
-do_EQV: TRY(eqv(&m)); NEXT(1);
-do_ADD: TRY(add(&m)); NEXT(1);
-do_SUB: TRY(sub(&m)); NEXT(1);
-do_LESS: TRY(less(&m)); NEXT(1);
-do_FLOOR_DIV: TRY(floor_div(&m)); NEXT(1);
+PRIMITIVES
 wrong_end:
     tell_ended(&m, WRONG, wrong, budget - left - 1, result);
     return;
@@ -1162,32 +1159,25 @@ APART bool read_nodes(const uint8_t *file, size_t file_len, Refusal *refusal)
     return read_tree(false, file, file_len, &length, refusal);
 }
 
-void fast_run_linear(const uint8_t *file, size_t file_len, uint64_t budget, uint64_t owner, uint64_t *globals, size_t globals_len,
-                     uint64_t *stack, size_t stack_len, uint64_t *store, size_t store_len,
-                     uint64_t *frames, size_t frames_len, uint64_t *result, size_t result_len)
+INLINE void run_file(bool (*read)(const uint8_t *, size_t, Refusal *), void (*machine)(Machine, uint64_t, uint64_t *), uint64_t largest, RUN_LENT)
 {
     Refusal refusal = { 0, 0 };
     bool lengths_fit = globals_len == GLOBALS && stack_len == STACK && store_len == STORE && frames_len == FRAMES;
     if (result_len < 8)
         return;
-    if (!may_start(lengths_fit, budget, LINEAR_BUDGET, owner, globals, &refusal) || !read_linear(file, file_len, &refusal)) {
+    if (!may_start(lengths_fit, budget, largest, owner, globals, &refusal) || !read(file, file_len, &refusal)) {
         tell_refused(&refusal, result);
         return;
     }
-    run_linear(started(globals, stack, store, frames, owner), budget, result);
+    machine(started(globals, stack, store, frames, owner), budget, result);
 }
 
-void fast_run_tree(const uint8_t *file, size_t file_len, uint64_t budget, uint64_t owner, uint64_t *globals, size_t globals_len,
-                   uint64_t *stack, size_t stack_len, uint64_t *store, size_t store_len,
-                   uint64_t *frames, size_t frames_len, uint64_t *result, size_t result_len)
+void fast_run_linear(RUN_LENT)
 {
-    Refusal refusal = { 0, 0 };
-    bool lengths_fit = globals_len == GLOBALS && stack_len == STACK && store_len == STORE && frames_len == FRAMES;
-    if (result_len < 8)
-        return;
-    if (!may_start(lengths_fit, budget, TREE_BUDGET, owner, globals, &refusal) || !read_nodes(file, file_len, &refusal)) {
-        tell_refused(&refusal, result);
-        return;
-    }
-    run_tree(started(globals, stack, store, frames, owner), budget, result);
+    run_file(read_linear, run_linear, LINEAR_BUDGET, RUN_GIVEN);
+}
+
+void fast_run_tree(RUN_LENT)
+{
+    run_file(read_nodes, run_tree, TREE_BUDGET, RUN_GIVEN);
 }

@@ -1,22 +1,19 @@
 /* back hostile: a linear file of 262,144 bytes whose offsets nest to level 16 all over, so that each byte is passed on each level; how long it takes.
-   back ROOM < LINEAR: writes the tree file that a linear file goes back to, into an output of ROOM bytes, or the number and place of a refusal. An output
-   that a refusal changed, or bytes after the file that changed, end it with status 2. */
-#include "../plain/library.h"
+   back [ROOM] < LINEAR: writes the tree file that a linear file goes back to, or its refusal (tests/plain/convert.h). */
+#include "../../include/exporter.h"
+#include "../plain/convert.h"
 #include "nest.h"
 
 #include <inttypes.h>
 #include <stdio.h>
-#include <stdlib.h>
 #include <string.h>
 #include <time.h>
-
-enum { FILL = 0xA5, AMPLE = EXPORTER_TREE_FILE + 16 };
 
 /* Least of five times, in milliseconds; the answer has to be 32, place 0, since only the tree's length stands in the way. */
 static int hostile(void)
 {
     enum { SIZE = EXPORTER_LINEAR_FILE, CHAIN = 65538 };
-    static uint8_t linear[SIZE], out[AMPLE];
+    static uint8_t linear[SIZE], out[EXPORTER_TREE_FILE];
     uint64_t result[EXPORTER_FLATTEN_SLOTS];
     double least = 1e9;
     linear[0] = 1;
@@ -27,7 +24,7 @@ static int hostile(void)
     linear[SIZE - 1] = 1;
     for (unsigned i = 0; i < 5; i++) {
         clock_t start = clock();
-        exporter_back(linear, SIZE, out, AMPLE, result, EXPORTER_FLATTEN_SLOTS);
+        exporter_back(linear, SIZE, out, sizeof out, result, EXPORTER_FLATTEN_SLOTS);
         double took = (double)(clock() - start) * 1000 / CLOCKS_PER_SEC;
         least = took < least ? took : least;
     }
@@ -39,20 +36,5 @@ int main(int count, char **words)
 {
     if (count > 1 && strcmp(words[1], "hostile") == 0)
         return hostile();
-    static uint8_t linear[EXPORTER_LINEAR_FILE + 2], out[AMPLE];
-    size_t length = fread(linear, 1, sizeof linear, stdin), room = count > 1 ? strtoul(words[1], NULL, 10) : AMPLE;
-    uint64_t result[EXPORTER_FLATTEN_SLOTS];
-    if (room > AMPLE)
-        return 2;
-    memset(out, FILL, sizeof out);
-    exporter_back(linear, length, out, room, result, EXPORTER_FLATTEN_SLOTS);
-    size_t written = result[EXPORTER_REFUSAL] == 0 ? result[EXPORTER_LENGTH_OR_PLACE] : 0;
-    for (size_t i = written; i < sizeof out; i++)
-        if (out[i] != FILL)
-            return 2;
-    if (result[EXPORTER_REFUSAL] != 0)
-        printf("%" PRIu64 " %" PRIu64 "\n", result[EXPORTER_REFUSAL], result[EXPORTER_LENGTH_OR_PLACE]);
-    else
-        fwrite(out, 1, written, stdout);
-    return 0;
+    return convert(exporter_back, EXPORTER_LINEAR_FILE, count > 1 ? words[1] : NULL);
 }

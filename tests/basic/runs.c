@@ -1,6 +1,6 @@
-/* runs FILE: runs a basic file on plain C, owner house, all globals undefined, budget 1,000,000, and tells how the run ended, as the vectors of document 02's
+/* runs FILE: runs a basic file, owner house, all globals undefined, budget 1,000,000, and tells how the run ended, as the vectors of document 02's
    request 6 do: end and answer, the answer's cell, steps, used cells, and every global that is not undefined. */
-#include "../plain/plain.h"
+#include "../plain/library.h"
 
 #include <inttypes.h>
 #include <stdio.h>
@@ -31,7 +31,7 @@ int main(int argc, char **argv)
     size_t length = fread(file, 1, sizeof file, from);
     for (unsigned g = 0; g < GLOBALS; g++)
         globals[g] = (uint64_t)UNDEFINED_TAG << 60;
-    plain_run_basic(file, length, 1000000, 0, globals, GLOBALS, stack, 256, store, 2048, frames, 2048, result, 8);
+    exporter_run_basic(file, length, 1000000, 0, globals, GLOBALS, stack, 256, store, 2048, frames, 2048, result, 8);
     tell_end();
     printf("answer %016" PRIx64 "\nsteps %" PRIu64 "\nused %" PRIu64 " %" PRIu64 " %" PRIu64 "\n", result[3], result[4], result[5], result[6], result[7]);
     for (unsigned g = 0; g < GLOBALS; g++)

@@ -1,15 +1,13 @@
-/* differential COUNT SEED [tally]: runs generated files through the library and the plain implementation, each with buffers
-   of its own, and compares results and all that the buffers hold; then checks demand 3 on each accepted sheet. The library's
-   buffers have exactly the lent lengths and stand at guarded pages. File i has the seed SEED + i, so that `differential 1 SEED`
-   does a single file again. From 5,000 files on, every number and every kind of lent length must have come up. */
+/* differential COUNT SEED [tally]: runs generated files through the library and the plain implementation, each with buffers of its own, and compares results and
+   all that the buffers hold; then checks demand 3 on each accepted sheet, and request 6's theorem on each basic file. The library's buffers have exactly the lent
+   lengths and stand at guarded pages. File i has the seed SEED + i, so that `differential 1 SEED` does a single file again. From 5,000 files on, every number and
+   every kind of lent length must have come up. */
 #include "../plain/library.h"
-#include "generate.h"
 #include "guarded.h"
+#include "seeds.h"
 
 #include <inttypes.h>
-#include <signal.h>
 #include <stdio.h>
-#include <stdlib.h>
 #include <string.h>
 
 enum { GLOBALS = 256, STACK = 256, STORE = 2048, FRAMES = 2048, MARGIN = 8, RESULT = 8 };
@@ -29,8 +27,8 @@ typedef struct {
 
 static const Lengths right_lengths = { GLOBALS, STACK, STORE, FRAMES, RESULT };
 
-static uint64_t seed, differences;
-static uint64_t flatten_tally[33], back_tally[33], join_tally[33], trim_tally[33], trimmed_away[2], grouped[2], tree_tally[4][32], linear_tally[4][32];
+static uint64_t flatten_tally[33], back_tally[33], tabulate_tally[33], join_tally[33], trim_tally[33], trimmed_away[2], grouped[2];
+static uint64_t tree_tally[4][32], basic_tally[4][32], linear_tally[4][32];
 static uint64_t came_back, changed_back; /* sheets that came back from their linear file, and files with a byte changed that still go back */
 static uint64_t ends_of[2], barred[2]; /* by owner: ends that are no refusals, and those that are 25 */
 
@@ -45,15 +43,6 @@ static void dump(const char *name, const uint8_t *bytes, size_t len)
     for (size_t i = 0; i < len && i < 2000; i++)
         printf("%s%02X", i % 32 == 0 ? "\n  " : " ", bytes[i]);
     printf("%s\n", len > 2000 ? " .." : "");
-}
-
-/* Answers whether to tell more about it. */
-static bool differs(const char *what)
-{
-    if (++differences > 10)
-        return false;
-    printf("DIFFERENCE in %s: seed %" PRIu64 " (again: tests/differential/run 1 %" PRIu64 ")\n", what, seed, seed);
-    return true;
 }
 
 static void tell_results(const char *name, const uint64_t *result, size_t count)
@@ -90,8 +79,7 @@ static struct {
     Guarded file, second, out, globals, stack, store, frames, result;
 } lent;
 
-static const char *calling; /* for the report of a fault */
-static uint64_t calls;      /* of this file */
+static uint64_t calls; /* so far */
 
 static void make_buffers(void)
 {
@@ -105,19 +93,10 @@ static void make_buffers(void)
     make_guarded(&lent.result, sizeof(uint64_t) * (RESULT + MARGIN));
 }
 
-static void tell_fault(int signal_number)
-{
-    (void)signal_number;
-    printf("DIFFERENCE in %s: it read or wrote outside of what was lent, seed %" PRIu64 " (again: tests/differential/run 1 %" PRIu64 ")\n",
-           calling, seed, seed);
-    fflush(stdout);
-    _Exit(1);
-}
-
 /* Buffers stand at the guarded end and at the guarded start by turns. */
 static bool next_end(void)
 {
-    return (seed + calls++) % 2 == 0;
+    return calls++ % 2 == 0;
 }
 
 static const uint8_t *lend_file(const File *file, bool at_end)
@@ -137,15 +116,16 @@ static void check_file(const File *file)
 
 static uint8_t library_out[4 * FILE_ROOM], plain_out[4 * FILE_ROOM];
 
-/* From one file to another: flattening, and the way back */
+/* From one file to another */
 typedef struct {
     const char *name;
-    Flatten *library, *plain;
+    Convert *library, *plain;
     uint64_t *tally;
 } Way;
 
 static const Way flattening = { "flatten", exporter_flatten, plain_flatten, flatten_tally };
 static const Way way_back = { "back", exporter_back, plain_back, back_tally };
+static const Way tabulating = { "tabulate", exporter_tabulate, plain_tabulate, tabulate_tally };
 
 /* Both outputs and both results hold the same before a call. */
 static void fill_alike(Random *random, size_t out_len, uint64_t library_result[4], uint64_t plain_result[4])
@@ -154,6 +134,17 @@ static void fill_alike(Random *random, size_t out_len, uint64_t library_result[4
     memcpy(plain_out, library_out, out_len);
     for (unsigned i = 0; i < 4; i++)
         library_result[i] = plain_result[i] = draw(random);
+}
+
+/* Of a call that writes a file; alike: what was written is, and nothing beside what was lent. False where there is more to tell. */
+static bool answers_agree(const char *what, bool alike, size_t out_len, size_t result_len, const uint64_t library[4], const uint64_t plain[4])
+{
+    if ((alike && memcmp(library, plain, 4 * sizeof plain[0]) == 0) || !differs(what))
+        return true;
+    printf("  out_len %zu, result_len %zu%s\n", out_len, result_len, alike ? "" : ", other bytes, or some beside what was lent");
+    tell_results("library", library, 4);
+    tell_results("plain  ", plain, 4);
+    return false;
 }
 
 /* Answers the length of the file that is written, or 0 where it was refused. It is then at the front of library_out. */
@@ -173,13 +164,9 @@ static size_t convert_both(const Way *way, Random *random, const File *file, siz
     inside = take_back(&lent.out, library_out);
     inside = take_back(&lent.result, library_result) && inside;
     way->plain(file->bytes, file->len, plain_out, out_len, plain_result, result_len);
-    if ((!inside || memcmp(library_result, plain_result, sizeof library_result) != 0 || memcmp(library_out, plain_out, out_len) != 0)
-        && differs(way->name)) {
-        printf("  out_len %zu, result_len %zu%s\n", out_len, result_len, inside ? "" : ", written beside what was lent");
-        tell_results("library", library_result, 4);
-        tell_results("plain  ", plain_result, 4);
+    bool alike = memcmp(library_out, plain_out, out_len) == 0;
+    if (!answers_agree(way->name, inside && alike, out_len, result_len, library_result, plain_result))
         dump("file", file->bytes, file->len);
-    }
     if (result_len < 2)
         return 0;
     way->tally[plain_result[0]]++;
@@ -187,27 +174,28 @@ static size_t convert_both(const Way *way, Random *random, const File *file, siz
     return plain_result[0] == 0 ? plain_result[1] : 0;
 }
 
-/* Every linear file is shorter than 4 bytes for one of its sheet and some. */
+/* Every linear file is shorter than 4 bytes for one of its sheet and some, and so is a tabulated file. */
 static size_t ample(const File *file)
 {
     return file->len > 65536 ? 64 : 4 * file->len + 64;
 }
 
-static void compare_flattening(Random *random, const File *file, File *linear)
+/* With outputs ample, exact, too short and empty; result has the answer for the ample one. The file that comes of it, or none, is then in to. */
+static void compare_converting(const Way *way, Random *random, const File *file, File *to, uint64_t result[4])
 {
-    uint64_t result[4];
-    size_t needed = convert_both(&flattening, random, file, ample(file), 2, result);
-    linear->len = needed;
-    memcpy(linear->bytes, library_out, needed);
+    uint64_t other[4];
+    size_t needed = convert_both(way, random, file, ample(file), 2, result);
+    to->len = needed;
+    memcpy(to->bytes, library_out, needed);
     if (needed > 0) {
-        convert_both(&flattening, random, file, needed, 4, result);
-        convert_both(&flattening, random, file, needed - 1, 2, result);
-        convert_both(&flattening, random, file, draw(random) % needed, 2, result);
+        convert_both(way, random, file, needed, 4, other);
+        convert_both(way, random, file, needed - 1, 2, other);
+        convert_both(way, random, file, draw(random) % needed, 2, other);
     }
-    if (result[0] == 8 || chance(random, 5))
-        convert_both(&flattening, random, file, 0, 2 + below(random, 3), result);
+    if (result[0] == 8 || result[0] == 26 || chance(random, 5))
+        convert_both(way, random, file, 0, 2 + below(random, 3), other);
     if (chance(random, 5))
-        convert_both(&flattening, random, file, ample(file), below(random, 2), result);
+        convert_both(way, random, file, ample(file), below(random, 2), other);
 }
 
 /* The way back from a linear file. Where it gives a tree file, flattening that gives the linear file again, unless the tree file has an orphan. sheet: what
@@ -255,11 +243,8 @@ static bool join_both(Random *random, const File *prologue, const File *file, si
     inside = take_back(&lent.out, library_out) && inside;
     inside = take_back(&lent.result, library_result) && inside;
     plain_join(prologue->bytes, prologue->len, file->bytes, file->len, plain_out, out_len, plain_result, result_len);
-    if ((!inside || memcmp(library_result, plain_result, sizeof library_result) != 0 || memcmp(library_out, plain_out, out_len) != 0)
-        && differs("join")) {
-        printf("  out_len %zu, result_len %zu%s\n", out_len, result_len, inside ? "" : ", written beside what was lent");
-        tell_results("library", library_result, 4);
-        tell_results("plain  ", plain_result, 4);
+    bool alike = memcmp(library_out, plain_out, out_len) == 0;
+    if (!answers_agree("join", inside && alike, out_len, result_len, library_result, plain_result)) {
         dump("prologue", prologue->bytes, prologue->len);
         dump("file", file->bytes, file->len);
     }
@@ -317,12 +302,9 @@ static bool trim_both(Random *random, const File *file, size_t out_len, size_t l
     static uint8_t library_list[FILE_ROOM], plain_list[FILE_ROOM];
     uint64_t library_result[4];
     bool at_end = next_end(), inside;
-    memset(library_out, (int)below(random, 256), out_len);
-    memcpy(plain_out, library_out, out_len);
+    fill_alike(random, out_len, library_result, plain_result);
     memset(library_list, (int)below(random, 256), list_len);
     memcpy(plain_list, library_list, list_len);
-    for (unsigned i = 0; i < 4; i++)
-        library_result[i] = plain_result[i] = draw(random);
     calling = "trim";
     exporter_trim(lend_file(file, at_end), file->len, lend(&lent.out, library_out, out_len, at_end), out_len,
                   lend(&lent.second, library_list, list_len, at_end), list_len,
@@ -332,11 +314,9 @@ static bool trim_both(Random *random, const File *file, size_t out_len, size_t l
     inside = take_back(&lent.second, library_list) && inside;
     inside = take_back(&lent.result, library_result) && inside;
     plain_trim(file->bytes, file->len, plain_out, out_len, plain_list, list_len, plain_result, result_len);
-    if ((!inside || memcmp(library_result, plain_result, sizeof library_result) != 0 || memcmp(library_out, plain_out, out_len) != 0
-         || memcmp(library_list, plain_list, list_len) != 0) && differs("trim")) {
-        printf("  out_len %zu, list_len %zu, result_len %zu%s\n", out_len, list_len, result_len, inside ? "" : ", written beside what was lent");
-        tell_results("library", library_result, 4);
-        tell_results("plain  ", plain_result, 4);
+    bool alike = memcmp(library_out, plain_out, out_len) == 0 && memcmp(library_list, plain_list, list_len) == 0;
+    if (!answers_agree("trim", inside && alike, out_len, result_len, library_result, plain_result)) {
+        printf("  list_len %zu\n", list_len);
         dump("file", file->bytes, file->len);
     }
     if (result_len < 3)
@@ -426,24 +406,35 @@ static void count_lengths(const Lengths *lengths)
     longer_results += lengths->result > RESULT;
 }
 
+typedef struct {
+    const char *name;
+    Run *library, *plain;
+    uint64_t (*tally)[32];
+    uint64_t largest_budget;
+} Machine;
+
+static const Machine tree_machine = { "tree", exporter_run_tree, plain_run_tree, tree_tally, TREE_BUDGET };
+static const Machine basic_machine = { "basic", exporter_run_basic, plain_run_basic, basic_tally, TREE_BUDGET };
+static const Machine linear_machine = { "linear", exporter_run_linear, plain_run_linear, linear_tally, LINEAR_BUDGET };
+
 /* Leaves what the library made of it in memory. */
-static void run_both(const char *what, const File *file, Given given, Memory *memory, const Lengths *lengths, bool tree)
+static void run_both(const Machine *machine, const File *file, Given given, Memory *memory, const Lengths *lengths)
 {
     static Memory plain;
     plain = *memory;
-    calling = what;
+    calling = machine->name;
     count_lengths(lengths);
-    bool inside = run_library(tree ? exporter_run_tree : exporter_run_linear, file, given, memory, lengths);
-    run(tree ? plain_run_tree : plain_run_linear, file, given, &plain, lengths);
-    if ((!inside || memcmp(memory, &plain, sizeof plain) != 0) && differs(what)) {
+    bool inside = run_library(machine->library, file, given, memory, lengths);
+    run(machine->plain, file, given, &plain, lengths);
+    if ((!inside || memcmp(memory, &plain, sizeof plain) != 0) && differs(machine->name)) {
         printf("  budget %" PRIu64 ", owner %" PRIu64 ", lengths %zu %zu %zu %zu %zu%s\n", given.budget, given.owner, lengths->globals, lengths->stack, lengths->store,
                lengths->frames, lengths->result, inside ? "" : ", written beside what was lent");
         tell_memories(memory, &plain);
-        dump(tree ? "sheet" : "linear file", file->bytes, file->len);
+        dump("file", file->bytes, file->len);
     }
     if (lengths->result < RESULT)
         return;
-    (tree ? tree_tally : linear_tally)[plain.result[0]][plain.result[1]]++;
+    machine->tally[plain.result[0]][plain.result[1]]++;
     if (plain.result[0] != REFUSED) {
         ends_of[given.owner]++;
         barred[given.owner] += plain.result[1] == 25;
@@ -457,7 +448,7 @@ static void spoil_length(Random *random, size_t *length)
 }
 
 /* Starts that are refused, by one reason or by several at once. */
-static void compare_bad_start(Random *random, const File *file, const uint64_t *globals, bool tree)
+static void compare_bad_start(const Machine *machine, Random *random, const File *file, const uint64_t *globals)
 {
     static Memory memory;
     Lengths lengths = right_lengths;
@@ -469,7 +460,7 @@ static void compare_bad_start(Random *random, const File *file, const uint64_t *
         spoil_length(random, which[below(random, 4)]);
     }
     if (reasons & 2)
-        given.budget = chance(random, 50) ? (tree ? TREE_BUDGET : LINEAR_BUDGET) + UINT64_C(1) : draw(random) | UINT64_C(1) << 63;
+        given.budget = chance(random, 50) ? machine->largest_budget + 1 : draw(random) | UINT64_C(1) << 63;
     if (reasons & 4)
         for (unsigned n = 1 + below(random, 3); n > 0; n--)
             memory.globals[chance(random, 20) ? GLOBALS - 1 : below(random, GLOBALS)] = bad_global(random);
@@ -477,7 +468,7 @@ static void compare_bad_start(Random *random, const File *file, const uint64_t *
         lengths.result = below(random, RESULT);
     if (reasons & 16)
         given.owner = bad_owner(random);
-    run_both(tree ? "tree, bad start" : "linear, bad start", file, given, &memory, &lengths, tree);
+    run_both(machine, file, given, &memory, &lengths);
 }
 
 /* Demand 3 */
@@ -549,27 +540,27 @@ static void check_kept(const Memory *start, const Memory *end, const File *file,
 }
 
 /* The house's run again, with other globals from 64 on: it ends the same. */
-static void check_house_alike(Random *random, const Memory *start, const Memory *end, const File *file, Given given, bool tree)
+static void check_house_alike(const Machine *machine, Random *random, const Memory *start, const Memory *end, const File *file, Given given)
 {
     static Memory again;
     uint64_t other[GLOBALS];
     again = *start;
     generate_globals(random, other);
     memcpy(again.globals + HOUSE_GLOBALS, other + HOUSE_GLOBALS, (GLOBALS - HOUSE_GLOBALS) * sizeof other[0]);
-    run_both(tree ? "tree" : "linear", file, given, &again, &right_lengths, tree);
+    run_both(machine, file, given, &again, &right_lengths);
     bool rest_kept = memcmp(again.globals + HOUSE_GLOBALS, other + HOUSE_GLOBALS, (GLOBALS - HOUSE_GLOBALS) * sizeof other[0]) == 0;
     memcpy(again.globals + HOUSE_GLOBALS, end->globals + HOUSE_GLOBALS, (GLOBALS - HOUSE_GLOBALS) * sizeof other[0]);
     if (!rest_kept || memcmp(&again, end, sizeof again) != 0)
         tell_owners("request 12: the house's run saw what is a vendor's", &again, end, file, given);
 }
 
-static void check_owner(Random *random, const Memory *start, const Memory *end, const File *file, Given given, bool tree)
+static void check_owner(const Machine *machine, Random *random, const Memory *start, const Memory *end, const File *file, Given given)
 {
     if (end->result[0] == REFUSED)
         return;
     check_kept(start, end, file, given);
     if (given.owner == HOUSE && chance(random, 20))
-        check_house_alike(random, start, end, file, given, tree);
+        check_house_alike(machine, random, start, end, file, given);
 }
 
 static void compare_machines(Random *random, const File *sheet, const File *flat, const uint64_t *globals, Given given)
@@ -578,14 +569,14 @@ static void compare_machines(Random *random, const File *sheet, const File *flat
     static Memory start, tree, linear;
     fill(random, &start, globals);
     tree = linear = start;
-    run_both("tree", sheet, given, &tree, &right_lengths, true);
+    run_both(&tree_machine, sheet, given, &tree, &right_lengths);
     uint64_t firsts = plain_firsts;
-    check_owner(random, &start, &tree, sheet, given, true);
+    check_owner(&tree_machine, random, &start, &tree, sheet, given);
     if (flat->len == 0)
         return;
-    run_both("linear", flat, (Given){ 2 * budget, owner }, &linear, &right_lengths, false);
+    run_both(&linear_machine, flat, (Given){ 2 * budget, owner }, &linear, &right_lengths);
     uint64_t jumps = plain_jumps;
-    check_owner(random, &start, &linear, flat, (Given){ 2 * budget, owner }, false);
+    check_owner(&linear_machine, random, &start, &linear, flat, (Given){ 2 * budget, owner });
     if (tree.result[0] == REFUSED || linear.result[0] == REFUSED)
         tell_demand("demand 3: a flattened sheet is refused", &tree, &linear, 0, 0, sheet, budget);
     else if (ended(&tree) && !(ended(&linear) && ends_agree(&tree, &linear, firsts, jumps)))
@@ -598,10 +589,42 @@ static void compare_machines(Random *random, const File *sheet, const File *flat
     /* The other way round: what the linear machine ended, the tree machine ends with the same budget. */
     uint64_t larger = 2 * budget < TREE_BUDGET ? 2 * budget : TREE_BUDGET;
     tree = start;
-    run_both("tree", sheet, (Given){ larger, owner }, &tree, &right_lengths, true);
+    run_both(&tree_machine, sheet, (Given){ larger, owner }, &tree, &right_lengths);
     firsts = plain_firsts;
     if (within(&linear, jumps, larger) && !(ended(&tree) && ends_agree(&tree, &linear, firsts, jumps)))
         tell_demand("demand 3: the linear machine ended", &tree, &linear, firsts, jumps, sheet, larger);
+}
+
+/* Request 6 */
+
+static void tell_basic(const char *what, const Memory *basic, const Memory *tree, const File *file, Given given)
+{
+    if (!differs(what))
+        return;
+    printf("  budget %" PRIu64 ", owner %" PRIu64 " (below, library stands for the basic machine and plain for the tree machine)\n", given.budget, given.owner);
+    tell_memories(basic, tree);
+    dump("basic file", file->bytes, file->len);
+}
+
+/* The basic machine refuses what the tabulator does, at the same place, unless it is only for the output's length. Else it ends as the tree machine does on the
+   tabulated file: the same result, and the same memories but for code places. */
+static void compare_basic_machine(Random *random, const File *file, const File *tabulated, const uint64_t answer[4], const uint64_t *globals, Given given)
+{
+    static Memory start, basic, tree;
+    fill(random, &start, globals);
+    basic = tree = start;
+    run_both(&basic_machine, file, given, &basic, &right_lengths);
+    check_owner(&basic_machine, random, &start, &basic, file, given);
+    if (tabulated->len == 0) {
+        if (basic.result[0] != REFUSED || basic.result[1] != answer[0] || basic.result[2] != answer[1])
+            tell_basic("request 6: the tabulator alone refuses", &basic, &tree, file, given);
+        return;
+    }
+    run_both(&tree_machine, tabulated, given, &tree, &right_lengths);
+    if (tree.result[0] == REFUSED)
+        tell_basic("request 6: the tabulated file is refused", &basic, &tree, file, given);
+    else if (memcmp(basic.result, tree.result, sizeof tree.result) != 0 || !memories_agree(&basic, &tree))
+        tell_basic("request 6: the machines end otherwise", &basic, &tree, file, given);
 }
 
 /* Files */
@@ -621,20 +644,20 @@ static void compare_linear(Random *random, const File *file, const uint64_t *glo
     Given given = { generate_budget(random, LINEAR_BUDGET), owner };
     fill(random, &start, globals);
     memory = start;
-    run_both("linear", file, given, &memory, &lengths, false);
+    run_both(&linear_machine, file, given, &memory, &lengths);
     if (lengths.result == RESULT)
-        check_owner(random, &start, &memory, file, given, false);
+        check_owner(&linear_machine, random, &start, &memory, file, given);
     if (chance(random, 10))
-        compare_bad_start(random, file, globals, false);
+        compare_bad_start(&linear_machine, random, file, globals);
 }
 
 static void compare_sheet(Random *random)
 {
     static File sheet, flat;
-    uint64_t globals[GLOBALS], owner = generate_owner(random);
+    uint64_t globals[GLOBALS], result[4], owner = generate_owner(random);
     generate_tree(random, &sheet);
     generate_globals(random, globals);
-    compare_flattening(random, &sheet, &flat);
+    compare_converting(&flattening, random, &sheet, &flat, result);
     compare_machines(random, &sheet, &flat, globals, (Given){ generate_budget(random, TREE_BUDGET), owner });
     if (flat.len > 0) {
         came_back += compare_back(random, &flat, &sheet) > 0;
@@ -645,7 +668,7 @@ static void compare_sheet(Random *random)
         flat.bytes[place] = byte;
     }
     if (chance(random, 20))
-        compare_bad_start(random, &sheet, globals, true);
+        compare_bad_start(&tree_machine, random, &sheet, globals);
     if (chance(random, 20))
         compare_joining(random, &sheet);
     if (chance(random, 40))
@@ -654,6 +677,24 @@ static void compare_sheet(Random *random)
         damage(random, &flat);
         compare_linear(random, &flat, globals, owner);
         compare_back(random, &flat, NULL);
+    }
+}
+
+/* A tabulated file has no orphans and no entry that nothing names: trimming leaves it as it is. */
+static void compare_basic(Random *random)
+{
+    static File basic, tabulated, trimmed;
+    uint64_t globals[GLOBALS], result[4], owner = generate_owner(random);
+    generate_basic(random, &basic);
+    generate_globals(random, globals);
+    compare_converting(&tabulating, random, &basic, &tabulated, result);
+    compare_basic_machine(random, &basic, &tabulated, result, globals, (Given){ generate_budget(random, TREE_BUDGET), owner });
+    if (chance(random, 40))
+        compare_bad_start(&basic_machine, random, &basic, globals);
+    if (tabulated.len > 0 && chance(random, 20) && trim_both(random, &tabulated, tabulated.len, 196608, 3, &trimmed, result)
+        && (trimmed.len != tabulated.len || memcmp(trimmed.bytes, tabulated.bytes, trimmed.len) != 0) && differs("request 6: a tabulated file is trimmed")) {
+        dump("basic", basic.bytes, basic.len);
+        dump("tabulated", tabulated.bytes, tabulated.len);
     }
 }
 
@@ -681,32 +722,26 @@ static void print_tally(const char *machine, uint64_t tally[4][32])
     }
 }
 
-static void print_way(const Way *way)
+static void print_answers(const char *name, const uint64_t tally[33])
 {
-    printf("%s:", way->name);
+    printf("%s:", name);
     for (unsigned n = 0; n < 33; n++)
-        if (way->tally[n] > 0)
-            printf(" %u x%" PRIu64, n, way->tally[n]);
-    printf("\n");
+        if (tally[n] > 0)
+            printf(" %u x%" PRIu64, n, tally[n]);
 }
 
 static void print_tallies(void)
 {
-    print_way(&flattening);
-    print_way(&way_back);
-    printf("back: sheets x%" PRIu64 ", with a byte changed x%" PRIu64 "\n", came_back, changed_back);
-    printf("join:");
-    for (unsigned n = 0; n < 33; n++)
-        if (join_tally[n] > 0)
-            printf(" %u x%" PRIu64, n, join_tally[n]);
-    printf("; groupings refused x%" PRIu64 ", accepted x%" PRIu64 "\n", grouped[0], grouped[1]);
-    printf("trim:");
-    for (unsigned n = 0; n < 33; n++)
-        if (trim_tally[n] > 0)
-            printf(" %u x%" PRIu64, n, trim_tally[n]);
-    printf("; shorter x%" PRIu64 ", as long x%" PRIu64, trimmed_away[1], trimmed_away[0]);
-    printf("\n");
+    print_answers("flatten", flatten_tally);
+    print_answers("\ntabulate", tabulate_tally);
+    print_answers("\nback", back_tally);
+    printf("; sheets x%" PRIu64 ", with a byte changed x%" PRIu64, came_back, changed_back);
+    print_answers("\njoin", join_tally);
+    printf("; groupings refused x%" PRIu64 ", accepted x%" PRIu64, grouped[0], grouped[1]);
+    print_answers("\ntrim", trim_tally);
+    printf("; shorter x%" PRIu64 ", as long x%" PRIu64 "\n", trimmed_away[1], trimmed_away[0]);
     print_tally("tree", tree_tally);
+    print_tally("basic", basic_tally);
     print_tally("linear", linear_tally);
     printf("house: ended x%" PRIu64 ", 25 x%" PRIu64 "; vendor: ended x%" PRIu64 ", 25 x%" PRIu64 "\n", ends_of[HOUSE], barred[HOUSE], ends_of[VENDOR],
            barred[VENDOR]);
@@ -715,59 +750,49 @@ static void print_tallies(void)
            empty_memories, shorter_memories, longer_memories, empty_results, short_results, longer_results);
 }
 
-/* The numbers that a machine can give, by end. */
-static bool all_ends_came_up(uint64_t tally[4][32], bool tree)
+static bool came_up(const uint64_t *tally, const uint8_t *numbers, size_t count)
 {
-    static const uint8_t refusals[] = { 1, 2, 3, 5, 20, 21, 22, 31, 4, 6, 7, 24 }; /* the last four by the tree machine alone */
-    bool all = tally[HALTED][0] > 0 && tally[OUT_OF_BUDGET][19] > 0;
-    for (unsigned n = 10; n <= 18; n++)
-        all = all && (tally[WRONG][n] > 0 || (tree && n == 16));
-    all = all && tally[WRONG][23] > 0 && tally[WRONG][25] > 0;
-    for (unsigned i = 0; i < (tree ? 12 : 8); i++)
-        all = all && tally[REFUSED][refusals[i]] > 0;
+    bool all = true;
+    for (size_t i = 0; i < count; i++)
+        all = all && tally[numbers[i]] > 0;
     return all;
+}
+
+#define CAME_UP(tally, ...) came_up(tally, (const uint8_t[]){ __VA_ARGS__ }, sizeof (const uint8_t[]){ __VA_ARGS__ })
+
+/* What every machine can give; basic files are too few for all wrong ends. */
+static bool ends_came_up(uint64_t tally[4][32])
+{
+    return tally[HALTED][0] > 0 && tally[OUT_OF_BUDGET][19] > 0 && CAME_UP(tally[REFUSED], 1, 2, 3, 5, 20, 21, 22, 31);
 }
 
 static bool all_came_up(void)
 {
     bool all = empty_files && empty_outputs && longer_outputs && empty_memories && shorter_memories && longer_memories && empty_results
         && short_results && longer_results && barred[HOUSE] && barred[VENDOR] && ends_of[VENDOR] > 4 * barred[VENDOR];
-    for (unsigned n = 0; n < 10; n++)
-        all = all && flatten_tally[n] > 0;
-    all = all && flatten_tally[24] > 0 && came_back && changed_back;
-    static const uint8_t backs[] = { 0, 1, 2, 3, 5, 9, 32 };
-    for (unsigned i = 0; i < sizeof backs; i++)
-        all = all && back_tally[backs[i]] > 0;
-    for (unsigned n = 0; n < 10; n++)
-        all = all && (join_tally[n] > 0 || n == 8);
-    for (unsigned n = 0; n <= 9; n++)
-        all = all && (trim_tally[n] > 0 || n == 8);
-    all = all && trimmed_away[0] > 0 && trimmed_away[1] > 0;
-    all = all && join_tally[30] > 0 && grouped[0] > 0 && grouped[1] > 0;
-    return all && all_ends_came_up(tree_tally, true) && all_ends_came_up(linear_tally, false);
+    all = all && CAME_UP(flatten_tally, 0, 1, 2, 3, 4, 5, 6, 7, 8, 9, 24) && CAME_UP(tabulate_tally, 0, 1, 2, 3, 4, 5, 6, 9, 26)
+        && CAME_UP(back_tally, 0, 1, 2, 3, 5, 9, 32) && CAME_UP(join_tally, 0, 1, 2, 3, 4, 5, 6, 7, 9, 30) && CAME_UP(trim_tally, 0, 1, 2, 3, 4, 5, 6, 7, 9);
+    all = all && came_back && changed_back && trimmed_away[0] && trimmed_away[1] && grouped[0] && grouped[1];
+    all = all && ends_came_up(tree_tally) && ends_came_up(linear_tally) && ends_came_up(basic_tally);
+    return all && CAME_UP(tree_tally[REFUSED], 4, 6, 7, 24) && CAME_UP(basic_tally[REFUSED], 4, 6, 26)
+        && CAME_UP(tree_tally[WRONG], 10, 11, 12, 13, 14, 15, 17, 18, 23, 25) && CAME_UP(linear_tally[WRONG], 10, 11, 12, 13, 14, 15, 16, 17, 18, 23, 25);
+}
+
+static void compare_file(Random *random)
+{
+    unsigned what = below(random, 100);
+    calls = seed;
+    if (what < 67)
+        compare_sheet(random);
+    else if (what < 90)
+        compare_own_linear(random);
+    else
+        compare_basic(random);
 }
 
 int main(int argc, char **argv)
 {
-    uint64_t count = argc > 1 ? strtoull(argv[1], NULL, 10) : 20000;
-    uint64_t first = argc > 2 ? strtoull(argv[2], NULL, 10) : 1;
+    static const Seeds seeds = { "differential", "files", "tests/differential/run", 20000, 5000, compare_file, all_came_up, print_tallies };
     make_buffers();
-    signal(SIGSEGV, tell_fault);
-    signal(SIGBUS, tell_fault);
-    for (uint64_t i = 0; i < count; i++) {
-        seed = first + i;
-        calls = 0;
-        Random random = { .state = seed * UINT64_C(0x2545f4914f6cdd1d) };
-        if (chance(&random, 75))
-            compare_sheet(&random);
-        else
-            compare_own_linear(&random);
-    }
-    bool wanting = count >= 5000 && !all_came_up();
-    if (argc > 3 || wanting)
-        print_tallies();
-    if (wanting)
-        printf("differential: some number or kind of length never came up (above): the generator is too narrow\n");
-    printf("differential: %" PRIu64 " files from seed %" PRIu64 ", %" PRIu64 " differences\n", count, first, differences);
-    return differences == 0 && !wanting ? 0 : 1;
+    return try_seeds(&seeds, argc, argv);
 }

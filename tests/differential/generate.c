@@ -1005,45 +1005,36 @@ static void write_noise(Random *random, Sheet *s)
         put_field(s, 8, below(random, 256));
 }
 
-static void write_sheet(Random *random, Sheet *s)
+static void write_sensible(Random *random, Sheet *s)
 {
     static Writer writer;
-    unsigned choice = below(random, 1000);
-    if (choice < 14)
-        write_large_offset(random, s);
-    else if (choice < 24)
-        write_longest(random, s);
-    else if (choice < 80)
-        write_loop(random, s);
-    else if (choice < 130)
-        write_deep(random, s);
-    else if (choice < 160)
-        write_chain(random, s);
-    else if (choice < 230)
-        write_full_stack(random, s);
-    else if (choice < 280)
-        write_sum(random, s);
-    else if (choice < 320)
-        write_layers(random, s);
-    else if (choice < 370)
-        write_values(random, s);
-    else if (choice < 385)
-        write_retime(random, s);
-    else if (choice < 400)
-        write_any(random, s);
-    else if (choice < 410)
-        write_noise(random, s);
-    else if (choice < 440)
-        write_to_trim(random, s);
-    else {
-        memset(&writer, 0, sizeof writer);
-        writer.random = random;
-        write_sensible_sheet(&writer);
-        *s = writer.sheet;
-    }
+    memset(&writer, 0, sizeof writer);
+    writer.random = random;
+    write_sensible_sheet(&writer);
+    *s = writer.sheet;
 }
 
-static void take_sheet(const Sheet *sheet, File *file)
+void write_one_of(Random *random, Sheet *sheet, const Kind *kinds, size_t count)
+{
+    unsigned all = 0, choice;
+    for (size_t i = 0; i < count; i++)
+        all += kinds[i].share;
+    for (choice = below(random, all); choice >= kinds->share; kinds++)
+        choice -= kinds->share;
+    kinds->write(random, sheet);
+}
+
+static void write_sheet(Random *random, Sheet *s)
+{
+    static const Kind kinds[] = {
+        { 14, write_large_offset }, { 22, write_longest }, { 54, write_loop }, { 40, write_deep }, { 30, write_chain }, { 70, write_full_stack },
+        { 50, write_sum }, { 40, write_layers }, { 50, write_values }, { 15, write_retime }, { 15, write_any }, { 10, write_noise }, { 30, write_to_trim },
+        { 560, write_sensible }
+    };
+    write_one_of(random, s, kinds, sizeof kinds / sizeof kinds[0]);
+}
+
+void take_sheet(const Sheet *sheet, File *file)
 {
     file->len = sheet_length(sheet);
     memcpy(file->bytes, sheet->bytes, file->len);
@@ -1062,17 +1053,21 @@ void generate_tree(Random *random, File *file)
 
 /* Prologues (request 10): one template and an open list */
 
-static void write_sensible_prologue(Writer *w)
+static void write_sensible_prologue(Random *random, Sheet *s)
 {
-    Path p = { 0 };
+    static Writer writer;
+    Writer *w = &writer;
+    Path p = { .level = 1 };
+    memset(w, 0, sizeof *w);
+    w->random = random;
     w->templates = 1;
-    w->careless = chance(w->random, 80) ? 0 : 1 + below(w->random, 8);
-    w->confused = chance(w->random, 95) ? 0 : 4;
-    w->size = 4 + below(w->random, 40);
-    p.level = 1;
+    w->careless = chance(random, 80) ? 0 : 1 + below(random, 8);
+    w->confused = chance(random, 95) ? 0 : 4;
+    w->size = 4 + below(random, 40);
     sheet_begin(&w->sheet, 1);
     write_entries(w, 0);
     write_open_list(w, &p);
+    *s = w->sheet;
 }
 
 /* Saved lists in saved lists down to a level: neutrals there, or nothing. */
@@ -1107,21 +1102,9 @@ static void write_large_prologue(Random *random, Sheet *s)
 
 void generate_prologue(Random *random, File *file)
 {
-    static Writer writer;
+    static const Kind kinds[] = { { 25, write_deep_prologue }, { 7, write_large_prologue }, { 4, write_sheet }, { 64, write_sensible_prologue } };
     static Sheet sheet;
-    unsigned choice = below(random, 100);
-    if (choice < 25) {
-        write_deep_prologue(random, &sheet);
-    } else if (choice < 32) {
-        write_large_prologue(random, &sheet);
-    } else if (choice < 36) {
-        write_sheet(random, &sheet);
-    } else {
-        memset(&writer, 0, sizeof writer);
-        writer.random = random;
-        write_sensible_prologue(&writer);
-        sheet = writer.sheet;
-    }
+    write_one_of(random, &sheet, kinds, sizeof kinds / sizeof kinds[0]);
     take_sheet(&sheet, file);
     if (chance(random, 10))
         damage(random, file);

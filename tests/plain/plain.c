@@ -343,34 +343,34 @@ static uint32_t flat_length(const Node *node)
 
 static bool read_list(unsigned t, unsigned level, List *list);
 
-/* Basic byte code (request 6): literal carries its constant, global and set-global! a number, closure a list. */
+/* Basic byte code (request 6): literal carries its constant, global and set-global! a number, closure a list. Each gets the index that it has in a table. */
 
 typedef struct {
-    unsigned width; /* of the entry's bits in a table */
+    unsigned width; /* in bits, the kind included */
     uint64_t bits;
-} Carried;
+} Entry;
 
 static bool reading_basic;
-static Carried carried[TEMPLATES][INDICES]; /* the entries of a template, by first use */
-static unsigned carried_count[TEMPLATES];
+static Entry used_entries[TEMPLATES][INDICES]; /* by first use: the entry of index n stands at n - 1 */
+static unsigned used_count[TEMPLATES];
 static bool too_many_entries;
-static uint64_t tabulated_bits;
 static Category basic_lists[TREE_LIMIT * 8 / 5 + 1]; /* of each template's list */
 
-/* An entry of template t, unless it has it. Of a 65th template none is kept: there may be no more than 64. */
-static void use_entry(unsigned t, unsigned width, uint64_t bits)
+/* The entry's index in template t: an equal one's, else the next. Templates beyond the 64th keep none, since the file is refused for them. */
+static uint8_t use_entry(unsigned t, unsigned width, uint64_t bits)
 {
+    unsigned n = 0;
     if (t >= TEMPLATES)
-        return;
-    for (unsigned n = 0; n < carried_count[t]; n++)
-        if (carried[t][n].width == width && carried[t][n].bits == bits)
-            return;
-    if (carried_count[t] == INDICES - 1) {
+        return 0;
+    while (n < used_count[t] && (used_entries[t][n].width != width || used_entries[t][n].bits != bits))
+        n++;
+    if (n == INDICES - 1) {
         too_many_entries = true;
-        return;
+        return 0;
     }
-    carried[t][carried_count[t]++] = (Carried){ width, bits };
-    tabulated_bits += width;
+    if (n == used_count[t])
+        used_entries[t][used_count[t]++] = (Entry){ width, bits };
+    return (uint8_t)(n + 1);
 }
 
 static bool read_literal(Node *node, unsigned t)
@@ -383,18 +383,29 @@ static bool read_literal(Node *node, unsigned t)
         return refuse(3, at - 2);
     if (!read_constant(&node->held))
         return false;
-    use_entry(t, (unsigned)(at - from), bits_at(from, (unsigned)(at - from)));
+    node->n1 = use_entry(t, (unsigned)(at - from), bits_at(from, (unsigned)(at - from)));
     return true;
 }
 
+static bool read_global(Node *node, unsigned t)
+{
+    uint32_t number;
+    if (!field(8, &number))
+        return false;
+    node->held = number;
+    node->n1 = use_entry(t, 10, (GLOBAL_NUMBER << 8) + number);
+    return true;
+}
+
+/* No other entry has its number. */
 static bool read_closure(Node *node, unsigned t, unsigned level)
 {
     List list = { 0 };
     unsigned number = templates++;
     node->held = number;
-    use_entry(t, 10, (uint64_t)number << 10 | TEMPLATE_NUMBER << 8);
+    node->n1 = use_entry(t, 10, (TEMPLATE_NUMBER << 8) + number);
     if (number < TEMPLATES)
-        carried_count[number] = 0;
+        used_count[number] = 0;
     if (!read_list(number, level + 1, &list))
         return false;
     basic_lists[number] = list.category;
@@ -403,22 +414,14 @@ static bool read_closure(Node *node, unsigned t, unsigned level)
     return true;
 }
 
-/* What a code of basic code carries; in a table it would have an index of eight bits. */
 static bool read_carried(Node *node, unsigned t, unsigned level)
 {
-    uint32_t number;
-    tabulated_bits += 5 + 8 * (node->code >= LITERAL && node->code <= SET_GLOBAL ? 1 : tree_operands(node->code));
-    if (node->code == LITERAL)
-        return read_literal(node, t);
-    if (node->code == CLOSURE)
-        return read_closure(node, t, level);
-    if (node->code != GLOBAL && node->code != SET_GLOBAL)
-        return read_operands(node, t);
-    if (!field(8, &number))
-        return false;
-    node->held = number;
-    use_entry(t, 10, (uint64_t)GLOBAL_NUMBER << 8 | number);
-    return true;
+    switch (node->code) {
+    case LITERAL: return read_literal(node, t);
+    case CLOSURE: return read_closure(node, t, level);
+    case GLOBAL: case SET_GLOBAL: return read_global(node, t);
+    default: return read_operands(node, t);
+    }
 }
 
 static bool read_inner_lists(Node *node, unsigned t, unsigned level, Progress *p)
@@ -465,7 +468,6 @@ static bool read_list(unsigned t, unsigned level, List *list)
         list->length += flat_length(node);
     }
     *link = NULL;
-    tabulated_bits += 5;
     list->category = category_of(&progress);
     return true;
 }
@@ -527,14 +529,66 @@ static bool read_tree(const uint8_t *file, size_t len)
     return read_templates(file, len) && all_closed() && all_indices_fit() && no_orphan();
 }
 
-/* A basic file: one list. 1 to 6, and 26: more than 255 entries, 64 templates or 65,536 tabulated bytes (T and each E have eight bits, code 0 five). */
-static bool read_basic(const uint8_t *file, size_t len)
+/* A tree file is written into a buffer of our own, since a refusal must leave the caller's as it was. Behind what is written it holds zeros. */
+
+static uint8_t tree_file[LINEAR_LIMIT]; /* what is refused for its length may be longer than a tree file */
+static uint64_t tree_bits;
+
+static size_t tree_length(void)
+{
+    return (size_t)((tree_bits + 7) / 8);
+}
+
+static void put_bits(uint64_t value, unsigned width)
+{
+    for (; width > 0; width--, tree_bits++)
+        if (value >> (width - 1) & 1)
+            tree_file[tree_bits / 8] |= (uint8_t)(0x80 >> tree_bits % 8);
+}
+
+static void begin_tree_file(unsigned count_of_templates)
+{
+    memset(tree_file, 0, tree_length());
+    tree_bits = 0;
+    put_bits(count_of_templates, 8);
+}
+
+static void put_list(const Node *node)
+{
+    for (; node != NULL; node = node->next) {
+        unsigned operands = tree_operands(node->code);
+        put_bits(node->code, 5);
+        if (operands > 0)
+            put_bits(node->n1, 8);
+        if (operands > 1)
+            put_bits(node->n2, 8);
+        if (node->code == CONDITIONAL || node->code == MAKE_CONT)
+            put_list(node->first);
+        if (node->code == CONDITIONAL)
+            put_list(node->second);
+    }
+    put_bits(END, 5);
+}
+
+/* Ends a call that writes a file: it is in bytes if it was made. */
+static void tell_written(bool made, const uint8_t *bytes, size_t length, uint8_t *out, size_t out_len, uint64_t *result)
+{
+    bool written = made && (length <= out_len || refuse(9, length));
+    if (written)
+        memcpy(out, bytes, length);
+    result[0] = written ? 0 : refusal;
+    result[1] = written ? length : refusal_place;
+}
+
+/* Tabulating (request 6) */
+
+/* A basic file is one list. 1 to 6. */
+static bool read_basic_list(const uint8_t *file, size_t len)
 {
     node_count = 0;
     templates = 1;
-    carried_count[0] = 0;
+    used_count[0] = 0;
     too_many_entries = false;
-    tabulated_bits = 8;
     if (!open_file(file, len, TREE_LIMIT))
         return false;
     reading_basic = true;
@@ -546,10 +600,32 @@ static bool read_basic(const uint8_t *file, size_t len)
     for (unsigned t = 0; t < templates; t++)
         if (basic_lists[t] != CLOSED_LIST)
             return refuse(6, t);
-    tabulated_bits += 8 * (uint64_t)templates;
-    if (templates > TEMPLATES || too_many_entries || (tabulated_bits + 7) / 8 > TREE_LIMIT)
-        return refuse(26, 0);
     return true;
+}
+
+/* Leaves the tabulated file in tree_file: 26 asks for its length. */
+static bool read_basic(const uint8_t *file, size_t len)
+{
+    if (!read_basic_list(file, len))
+        return false;
+    if (templates > TEMPLATES || too_many_entries)
+        return refuse(26, 0);
+    begin_tree_file(templates);
+    for (unsigned t = 0; t < templates; t++) {
+        put_bits(used_count[t], 8);
+        for (unsigned n = 0; n < used_count[t]; n++)
+            put_bits(used_entries[t][n].bits, used_entries[t][n].width);
+        put_list(trees[t].code.head);
+    }
+    return tree_length() <= TREE_LIMIT || refuse(26, 0);
+}
+
+void plain_tabulate(FILE_LENT)
+{
+    if (result_len < 2)
+        return;
+    bool made = read_basic(file, file_len);
+    tell_written(made, tree_file, tree_length(), out, out_len, result);
 }
 
 /* Flattening, into a buffer of our own: a refusal must leave the caller's as it was. */
@@ -646,32 +722,16 @@ static bool write_linear_file(size_t *length)
     return true;
 }
 
-void plain_flatten(const uint8_t *file, size_t file_len, uint8_t *out, size_t out_len, uint64_t *result, size_t result_len)
+void plain_flatten(FILE_LENT)
 {
     size_t length = 0;
     if (result_len < 2)
         return;
-    if (!read_tree(file, file_len) || !write_linear_file(&length) || !(length <= out_len || refuse(9, length))) {
-        result[0] = refusal;
-        result[1] = refusal_place;
-        return;
-    }
-    memcpy(out, linear_file, length);
-    result[0] = 0;
-    result[1] = length;
+    bool made = read_tree(file, file_len) && write_linear_file(&length);
+    tell_written(made, linear_file, length, out, out_len, result);
 }
 
 /* Joining (request 10): the templates of both operands are read, the prologue's list gets the file's as document 000 says, and the whole is written. */
-
-static uint8_t joined_file[2 * TREE_LIMIT + 1];
-static uint64_t joined_bits;
-
-static void put_bits(uint64_t value, unsigned width)
-{
-    for (; width > 0; width--, joined_bits++)
-        if (value >> (width - 1) & 1)
-            joined_file[joined_bits / 8] |= (uint8_t)(128 >> joined_bits % 8);
-}
 
 static void copy_file_bits(const uint8_t *file, uint64_t from, uint64_t to)
 {
@@ -713,23 +773,6 @@ static unsigned levels_of(const Node *node)
     return most + 1;
 }
 
-static void put_list(const Node *node)
-{
-    for (; node != NULL; node = node->next) {
-        unsigned operands = tree_operands(node->code);
-        put_bits(node->code, 5);
-        if (operands > 0)
-            put_bits(node->n1, 8);
-        if (operands > 1)
-            put_bits(node->n2, 8);
-        if (node->code == CONDITIONAL || node->code == MAKE_CONT)
-            put_list(node->first);
-        if (node->code == CONDITIONAL)
-            put_list(node->second);
-    }
-    put_bits(END, 5);
-}
-
 static bool is_prologue(void)
 {
     return templates == 1 && trees[0].code.category == OPEN_LIST;
@@ -744,7 +787,7 @@ static bool read_operands_of_join(const uint8_t *prologue, size_t prologue_len, 
     return read_templates(file, file_len) && (is_prologue() || all_closed()) && all_indices_fit();
 }
 
-static bool join_files(const uint8_t *prologue, size_t prologue_len, const uint8_t *file, size_t file_len, size_t *length)
+static bool join_files(const uint8_t *prologue, size_t prologue_len, const uint8_t *file, size_t file_len)
 {
     Tree house;
     if (!read_operands_of_join(prologue, prologue_len, file, file_len, &house))
@@ -756,9 +799,7 @@ static bool join_files(const uint8_t *prologue, size_t prologue_len, const uint8
     open_adjoin(&house.code.head, trees[0].code.head);
     if (levels_of(house.code.head) > LAST_LEVEL)
         return refuse(4, 0);
-    memset(joined_file, 0, sizeof joined_file);
-    joined_bits = 0;
-    put_bits(templates, 8);
+    begin_tree_file(templates);
     put_bits(ours + theirs, 8);
     copy_file_bits(prologue, house.entries_from, house.entries_to);
     copy_file_bits(file, trees[0].entries_from, trees[0].entries_to);
@@ -767,24 +808,15 @@ static bool join_files(const uint8_t *prologue, size_t prologue_len, const uint8
         copy_file_bits(file, trees[t].entries_from - 8, trees[t].entries_to);
         put_list(trees[t].code.head);
     }
-    *length = (size_t)((joined_bits + 7) / 8);
-    return *length <= TREE_LIMIT || refuse(1, 0);
+    return tree_length() <= TREE_LIMIT || refuse(1, 0);
 }
 
-void plain_join(const uint8_t *prologue, size_t prologue_len, const uint8_t *file, size_t file_len, uint8_t *out, size_t out_len,
-                uint64_t *result, size_t result_len)
+void plain_join(JOIN_LENT)
 {
-    size_t length = 0;
     if (result_len < 2)
         return;
-    if (!join_files(prologue, prologue_len, file, file_len, &length) || !(length <= out_len || refuse(9, length))) {
-        result[0] = refusal;
-        result[1] = refusal_place;
-        return;
-    }
-    memcpy(out, joined_file, length);
-    result[0] = 0;
-    result[1] = length;
+    bool made = join_files(prologue, prologue_len, file, file_len);
+    tell_written(made, tree_file, tree_length(), out, out_len, result);
 }
 
 /* Trimming (request 5): round after round the templates other than 0 that no closure of a template still there names are taken out, until a round takes none;
@@ -851,9 +883,7 @@ static size_t write_trimmed(const uint8_t *file, const bool there[], bool named[
     uint8_t *line = trim_list;
     for (unsigned t = 0; t < templates; t++)
         new_number[t] = there[t] ? count++ : 0;
-    memset(joined_file, 0, sizeof joined_file);
-    joined_bits = 0;
-    put_bits(count, 8);
+    begin_tree_file(count);
     for (unsigned t = 0; t < templates; t++) {
         unsigned entries = (unsigned)bits_at(trees[t].entries_from - 8, 8), left = 0, new_index[INDICES] = { 0 };
         for (unsigned n = 1; n <= entries; n++)
@@ -882,8 +912,7 @@ static size_t write_trimmed(const uint8_t *file, const bool there[], bool named[
     return (size_t)(line - trim_list);
 }
 
-void plain_trim(const uint8_t *file, size_t file_len, uint8_t *out, size_t out_len, uint8_t *list, size_t list_len,
-                uint64_t *result, size_t result_len)
+void plain_trim(TRIM_LENT)
 {
     if (result_len < 3)
         return;
@@ -899,14 +928,14 @@ void plain_trim(const uint8_t *file, size_t file_len, uint8_t *out, size_t out_l
         while (take_orphans_out(there, named))
             ;
         bytes = write_trimmed(file, there, named);
-        length = (size_t)((joined_bits + 7) / 8);
+        length = tree_length();
         fits = (length <= out_len || refuse(9, length)) && (bytes <= list_len || refuse(9, bytes));
     }
     result[0] = fits ? 0 : refusal;
     result[1] = fits ? length : refusal_place;
     result[2] = fits ? bytes : 0;
     if (fits) {
-        memcpy(out, joined_file, length);
+        memcpy(out, tree_file, length);
         memcpy(list, trim_list, bytes);
     }
 }
@@ -1239,6 +1268,8 @@ static void run_tree(Machine *machine, uint64_t budget)
     Machine m = *machine;
     const Node *node = trees[0].code.head;
     uint64_t firsts = 0, steps = 0;
+    for (unsigned t = 0; t < templates; t++)
+        link_list(trees[t].code.head, NULL);
     while (steps < budget) {
         const Node *next = node->next;
         unsigned wrong = 0;
@@ -1441,55 +1472,36 @@ static void tell_ended(const Machine *m, uint64_t *result)
     result[7] = m->in_frames;
 }
 
-/* Of a tree file or of a basic file: the machine's nodes are the same, and a saved place is a bit number in the file that is run. */
-static void run_nodes(bool (*read)(const uint8_t *, size_t), const uint8_t *file, size_t file_len, uint64_t budget, uint64_t owner, uint64_t *globals,
-                      size_t globals_len, uint64_t *stack, size_t stack_len, uint64_t *store, size_t store_len,
-                      uint64_t *frames, size_t frames_len, uint64_t *result, size_t result_len)
+/* Reads the file and runs it; largest is the largest budget. */
+static void run_file(bool (*read)(const uint8_t *, size_t), void (*machine)(Machine *, uint64_t), uint64_t largest, RUN_LENT)
 {
     bool lengths_fit = globals_len == GLOBALS && stack_len == STACK && store_len == STORE && frames_len == FRAMES;
     Machine m = { .globals = globals, .stack = stack, .store = store, .frames = frames, .vendor = owner == VENDOR };
     if (result_len < 8)
         return;
-    if (!may_start(lengths_fit, budget, TREE_BUDGET, owner, globals) || !read(file, file_len)) {
-        tell_refused(result);
-        return;
-    }
-    for (unsigned t = 0; t < templates; t++)
-        link_list(trees[t].code.head, NULL);
-    start(&m);
-    run_tree(&m, budget);
-    tell_ended(&m, result);
-}
-
-void plain_run_tree(const uint8_t *file, size_t file_len, uint64_t budget, uint64_t owner, uint64_t *globals, size_t globals_len,
-                    uint64_t *stack, size_t stack_len, uint64_t *store, size_t store_len,
-                    uint64_t *frames, size_t frames_len, uint64_t *result, size_t result_len)
-{
-    run_nodes(read_tree, file, file_len, budget, owner, globals, globals_len, stack, stack_len, store, store_len, frames, frames_len, result, result_len);
-}
-
-void plain_run_basic(const uint8_t *file, size_t file_len, uint64_t budget, uint64_t owner, uint64_t *globals, size_t globals_len,
-                     uint64_t *stack, size_t stack_len, uint64_t *store, size_t store_len,
-                     uint64_t *frames, size_t frames_len, uint64_t *result, size_t result_len)
-{
-    run_nodes(read_basic, file, file_len, budget, owner, globals, globals_len, stack, stack_len, store, store_len, frames, frames_len, result, result_len);
-}
-
-void plain_run_linear(const uint8_t *file, size_t file_len, uint64_t budget, uint64_t owner, uint64_t *globals, size_t globals_len,
-                      uint64_t *stack, size_t stack_len, uint64_t *store, size_t store_len,
-                      uint64_t *frames, size_t frames_len, uint64_t *result, size_t result_len)
-{
-    bool lengths_fit = globals_len == GLOBALS && stack_len == STACK && store_len == STORE && frames_len == FRAMES;
-    Machine m = { .globals = globals, .stack = stack, .store = store, .frames = frames, .vendor = owner == VENDOR };
-    if (result_len < 8)
-        return;
-    if (!may_start(lengths_fit, budget, LINEAR_BUDGET, owner, globals) || !read_linear(file, file_len)) {
+    if (!may_start(lengths_fit, budget, largest, owner, globals) || !read(file, file_len)) {
         tell_refused(result);
         return;
     }
     start(&m);
-    run_linear(&m, budget);
+    machine(&m, budget);
     tell_ended(&m, result);
+}
+
+void plain_run_tree(RUN_LENT)
+{
+    run_file(read_tree, run_tree, TREE_BUDGET, RUN_GIVEN);
+}
+
+/* The nodes of a basic file are a tree's; a saved place is a bit number in the basic file. */
+void plain_run_basic(RUN_LENT)
+{
+    run_file(read_basic, run_tree, TREE_BUDGET, RUN_GIVEN);
+}
+
+void plain_run_linear(RUN_LENT)
+{
+    run_file(read_linear, run_linear, LINEAR_BUDGET, RUN_GIVEN);
 }
 
 /* The pull list (document 02, Ask 9) */
@@ -1576,8 +1588,7 @@ static char *pull_clip(char *to, size_t k, const int32_t *clip, uint64_t budget)
     return put_text(to, "\n");
 }
 
-void plain_pull_list(const int32_t *clips, size_t clips_len, const uint8_t *file, size_t file_len, uint64_t budget,
-                     uint8_t *list, size_t list_len, uint64_t *result, size_t result_len)
+void plain_pull_list(PULL_LENT)
 {
     char *to = (char *)list;
     if (result_len < 2)
@@ -1595,16 +1606,6 @@ void plain_pull_list(const int32_t *clips, size_t clips_len, const uint8_t *file
 
 /* The way back (request 13). The offsets cut the code into regions from outside in. A list is closed, or it is open or empty. Its tree is written while it is
    read, and thrown away where there is none. */
-
-static uint8_t tree_back[LINEAR_LIMIT];
-static uint64_t tree_bits;
-
-static void put_back_bits(uint64_t value, unsigned width)
-{
-    for (; width > 0; width--, tree_bits++)
-        if (value >> (width - 1) & 1)
-            tree_back[tree_bits / 8] |= (uint8_t)(0x80 >> tree_bits % 8);
-}
 
 static uint32_t offset_at(const uint8_t *code, uint32_t place)
 {
@@ -1656,7 +1657,7 @@ static bool back_list(const Linear *in, uint32_t from, uint32_t to, bool closed,
         const uint8_t *code = in->code + from;
         if (!whole_instruction(in->code, from, to) || *code == JUMP)
             return false;
-        put_back_bits(*code, 5);
+        put_bits(*code, 5);
         if (*code == CONDITIONAL) {
             bool shut;
             if (!back_arms(in, from, to, closed, level, &from, &shut))
@@ -1664,7 +1665,7 @@ static bool back_list(const Linear *in, uint32_t from, uint32_t to, bool closed,
             closed = closed && !shut;
         } else if (*code == MAKE_CONT) {
             uint32_t rest = from + 4, length = offset_at(in->code, from + 1);
-            put_back_bits(code[3], 8);
+            put_bits(code[3], 8);
             if (length > to - rest || !back_list(in, rest + length, to, closed, level + 1))
                 return false;
             from = rest;
@@ -1678,38 +1679,30 @@ static bool back_list(const Linear *in, uint32_t from, uint32_t to, bool closed,
                 return false;
             closed = closed && *code >= LITERAL;
             for (unsigned n = 1; n < size; n++)
-                put_back_bits(code[n], 8);
+                put_bits(code[n], 8);
             from += size;
         }
     }
-    put_back_bits(END, 5);
+    put_bits(END, 5);
     return !closed;
 }
 
 static bool back_templates(void)
 {
-    memset(tree_back, 0, sizeof tree_back);
-    tree_bits = 0;
-    put_back_bits(templates, 8);
+    begin_tree_file(templates);
     for (unsigned t = 0; t < templates; t++) {
         for (uint64_t place = linears[t].entries; place < linears[t].entries_end; place++)
-            put_back_bits(bits_at(place, 1), 1);
+            put_bits(bits_at(place, 1), 1);
         if (!back_list(&linears[t], 0, linears[t].length, true, 1))
             return refuse(32, t);
     }
     return tree_bits <= 8 * TREE_LIMIT || refuse(32, 0);
 }
 
-void plain_back(const uint8_t *file, size_t file_len, uint8_t *out, size_t out_len, uint64_t *result, size_t result_len)
+void plain_back(FILE_LENT)
 {
     if (result_len < 2)
         return;
-    if (!read_linear(file, file_len) || !back_templates() || !((tree_bits + 7) / 8 <= out_len || refuse(9, (tree_bits + 7) / 8))) {
-        result[0] = refusal;
-        result[1] = refusal_place;
-        return;
-    }
-    memcpy(out, tree_back, (tree_bits + 7) / 8);
-    result[0] = 0;
-    result[1] = (tree_bits + 7) / 8;
+    bool made = read_linear(file, file_len) && back_templates();
+    tell_written(made, tree_file, tree_length(), out, out_len, result);
 }

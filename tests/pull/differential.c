@@ -1,12 +1,11 @@
 /* differential COUNT SEED [tally]: pulls generated lists with the library and with the plain implementation and compares results and all bytes of both
    lists. Rules, clips, budgets and rooms are sound or damaged. The library's buffers have exactly the lent lengths and stand at guarded pages. List i
    has the seed SEED + i. From 2,000 lists on, every word of a line and every refusal must have come up. */
-#include "../differential/generate.h"
 #include "../differential/guarded.h"
+#include "../differential/seeds.h"
 #include "../plain/library.h"
 
 #include <inttypes.h>
-#include <signal.h>
 #include <stdio.h>
 #include <stdlib.h>
 #include <string.h>
@@ -19,7 +18,7 @@ typedef struct {
     size_t count;
 } Clips;
 
-static uint64_t seed, differences, refusals[32], words[6], longest;
+static uint64_t refusals[32], words[6], longest;
 static const char *const word_names[] = { "wrong", "none", "order", "low", "high", "ok" };
 
 static struct {
@@ -116,14 +115,6 @@ static void generate_clips(Random *random, Clips *clips)
 
 /* Comparing */
 
-static void tell_fault(int signal_number)
-{
-    (void)signal_number;
-    printf("DIFFERENCE: it read or wrote outside of what was lent, seed %" PRIu64 "\n", seed);
-    fflush(stdout);
-    _Exit(1);
-}
-
 static void count_lines(const uint8_t *list, size_t len)
 {
     size_t from = 0;
@@ -155,12 +146,11 @@ static void compare(Random *random, const Clips *clips, const File *file, uint64
     inside = take_back(&lent.file, after) && memcmp(after, file->bytes, file->len) == 0 && inside;
     inside = take_back(&lent.clips, after) && memcmp(after, clips->words, clips->count * sizeof clips->words[0]) == 0 && inside;
     plain_pull_list(clips->words, clips->count, file->bytes, file->len, budget, plain_list, room, plain_result, slots);
-    if (!inside || memcmp(library_result, plain_result, sizeof plain_result) != 0 || memcmp(library_list, plain_list, sizeof plain_list) != 0) {
-        differences++;
-        printf("DIFFERENCE%s: seed %" PRIu64 ", %zu words, %zu bytes of file, budget %" PRIu64 ", room %zu, slots %zu; library %" PRIu64 " %" PRIu64
-               ", plain %" PRIu64 " %" PRIu64 "\n", inside ? "" : ", written beside what was lent", seed, clips->count, file->len, budget, room, slots,
-               library_result[0], library_result[1], plain_result[0], plain_result[1]);
-    }
+    bool alike = memcmp(library_result, plain_result, sizeof plain_result) == 0 && memcmp(library_list, plain_list, sizeof plain_list) == 0;
+    if (!(inside && alike) && differs("a list"))
+        printf("  %zu words, %zu bytes of file, budget %" PRIu64 ", room %zu, slots %zu%s; library %" PRIu64 " %" PRIu64 ", plain %" PRIu64 " %" PRIu64 "\n",
+               clips->count, file->len, budget, room, slots, inside ? "" : ", written beside what was lent", library_result[0], library_result[1],
+               plain_result[0], plain_result[1]);
     if (slots >= 2 && plain_result[0] < 32)
         refusals[plain_result[0]]++;
     if (slots >= 2 && plain_result[0] == 0)
@@ -207,24 +197,10 @@ static void print_tally(void)
 
 int main(int argc, char **argv)
 {
-    uint64_t count = argc > 1 ? strtoull(argv[1], NULL, 10) : 2000;
-    uint64_t first = argc > 2 ? strtoull(argv[2], NULL, 10) : 1;
+    static const Seeds seeds = { "pull differential", "lists", "tests/pull/differential", 2000, 2000, compare_list, all_came_up, print_tally };
     make_guarded(&lent.clips, WORDS * sizeof(int32_t));
     make_guarded(&lent.file, FILE_ROOM);
     make_guarded(&lent.list, LIST);
     make_guarded(&lent.result, RESULT * sizeof(uint64_t));
-    signal(SIGSEGV, tell_fault);
-    signal(SIGBUS, tell_fault);
-    for (uint64_t i = 0; i < count; i++) {
-        seed = first + i;
-        Random random = { .state = seed * UINT64_C(0x2545f4914f6cdd1d) };
-        compare_list(&random);
-    }
-    bool wanting = count >= 2000 && !all_came_up();
-    if (argc > 3 || wanting)
-        print_tally();
-    if (wanting)
-        printf("pull differential: some word or refusal never came up (above): the generator is too narrow\n");
-    printf("pull differential: %" PRIu64 " lists from seed %" PRIu64 ", %" PRIu64 " differences\n", count, first, differences);
-    return differences == 0 && !wanting ? 0 : 1;
+    return try_seeds(&seeds, argc, argv);
 }
