@@ -137,6 +137,15 @@ void exporter_run_linear(const uint8_t *file, size_t file_len, uint64_t budget, 
                          uint64_t *frames, size_t frames_len,
                          uint64_t *result, size_t result_len);
 
+/* Runs a basic file as it is, in the same way; refused is 1 to 6 or 26 as exporter_tabulate gives them, 20 to 22 or 31. Templates have the tabulator's
+   numbers; a frame's code place is a bit number in the basic file. */
+void exporter_run_basic(const uint8_t *file, size_t file_len, uint64_t budget, uint64_t owner,
+                        uint64_t *globals, size_t globals_len,
+                        uint64_t *stack, size_t stack_len,
+                        uint64_t *store, size_t store_len,
+                        uint64_t *frames, size_t frames_len,
+                        uint64_t *result, size_t result_len);
+
 /* Pulls a list (document 02, Ask 9): runs one rule, a linear file, for each clip, and writes a line for each.
    clips: EXPORTER_CLIP_WORDS words for each clip: record in, record out, speed numerator, speed denominator, head handle,
    tail handle, first and last frame of its media. The rule finds the first six in globals 0 to 5, the others undefined, and

@@ -13,6 +13,7 @@ ghost use Rattle.pull.specs.Pull.{pulled, pulledList};
 ghost use Rattle.unflatten.specs.Back.{backed};
 ghost use Rattle.exporter.specs.Exporter.{outcomeSlots, outcomeResult, outcomeOutput, endSlots, runSlots, exported, runExported};
 ghost use Rattle.basic.specs.Checked.{tabulatedFile};
+ghost use Rattle.basic_program.specs.Run.{basicRun};
 ghost use Rattle.trim.specs.Function.{trimmedInto};
 ghost use Rattle.exporter.specs.Trims.{trimSlots, trimResult, trimOutput, trimLines};
 ghost use Rattle.exporter.specs.Answers.{FieldsFit, AnswerFits};
@@ -172,6 +173,28 @@ pub extern "C" fn exporter_run_tree(
         return;
     }
     let run = tree_machine::run_tree(file, budget, owner, globals, stack, store, frames);
+    put_run(result, run);
+}
+
+#[no_mangle]
+pub extern "C" fn exporter_run_basic(
+    file: &[u8],
+    budget: u64,
+    owner: u64,
+    globals: &mut [u64],
+    stack: &mut [u64],
+    store: &mut [u64],
+    frames: &mut [u64],
+    result: &mut [u64],
+)
+    ensures { λ _. ⌜ exported (lent (globals .exit) (stack .exit) (store .exit) (frames .exit)) (now (result .exit))
+        ≡ runExported (basicRun (now (file .entry)) budget owner) (lent (globals .entry) (stack .entry) (store .entry) (frames .entry))
+        (now (result .entry)) ⌝ }
+{
+    if result.len() < 8 {
+        return;
+    }
+    let run = basic_machine::run_basic(file, budget, owner, globals, stack, store, frames);
     put_run(result, run);
 }
 

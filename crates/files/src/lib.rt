@@ -94,7 +94,7 @@ fn read_kind(s: &[u8], own: usize, count: usize, kind: BitPlace, at: BitPlace, k
 }
 
 // The entry at a place, of template `own` of `count`.
-fn read_entry(s: &[u8], own: usize, count: usize, at: BitPlace) -> EntryRead
+pub fn read_entry(s: &[u8], own: usize, count: usize, at: BitPlace) -> EntryRead
     requires { ⌜ length (now s) ≤ 262144 ⌝ }
     ensures { λ r. ⌜ r ≡ entryTold (entryAt (now (s .entry)) own count (at .0)) ⌝ }
 {

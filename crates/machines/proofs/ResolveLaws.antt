@@ -9,7 +9,7 @@ use borrow.Author.Tests.{ne-eqb, eqb-true, lt-leb}
 use Rattle.cells.specs.laws.Laws.{clash}
 use Rattle.cells.specs.Cells.{tagOf}
 use Rattle.rules.specs.declared.Plain.{Plain}
-use Rattle.rules.specs.declared.Plain.the-variants.{Closure}
+use Rattle.rules.specs.declared.Plain.the-variants.{Closure, Global, SetGlobal}
 use Rattle.machines.specs.Fetched.{constant-named, global-named, template-named, none-named, asLiteral, asClosure, asGlobal, ruleOf}
 use Rattle.machines.specs.Slots.{slotNames, markedAs, slotResolve, resolvedAs}
 use Rattle.machines.specs.declared.Marked.{Marked}
@@ -21,34 +21,48 @@ use Rattle.machines.specs.declared.Resolved.the-variants.{Fit, Unfit}
 abbrev pub Answers : (ℕ → ℕ) → ℕ → ℕ → ℕ → Resolved → Type 0
 Answers slot k a b x = x ≡ resolvedAs (slotResolve slot k a b)
 
+-- the slots of a template without entries
+abbrev pub no-entry : ℕ → ℕ
+no-entry n = 0
+
 pub coded : (slot : ℕ → ℕ) (op k a b : ℕ) (x : Resolved) → op ≡ k → Answers slot k a b x → Answers slot op a b x
 coded slot op k a b x e h = rw e h
 
-pub no-code : (slot : ℕ → ℕ) (op a b : ℕ) → (op ≡ 6 → ⊥) → (op ≡ 7 → ⊥) → (op ≡ 8 → ⊥) → (op ≡ 9 → ⊥) → (op ≡ 10 → ⊥) → (op ≡ 11 → ⊥) → (op ≡ 12 → ⊥)
-    → (op ≡ 13 → ⊥) → (op ≡ 15 → ⊥) → (op ≡ 16 → ⊥) → (op ≡ 18 → ⊥) → (op ≡ 19 → ⊥) → (op ≡ 20 → ⊥) → (op ≡ 21 → ⊥) → (op ≡ 22 → ⊥)
-    → (op ≡ 23 → ⊥) → (op ≡ 24 → ⊥) → (op ≡ 25 → ⊥) → Answers slot op a b Unfit
-unfolding slotResolve ruleOf resolvedAs
-no-code slot op a b h₁ h₂ h₃ h₄ h₅ h₆ h₇ h₈ h₉ i₁ i₂ i₃ i₄ i₅ i₆ i₇ i₈ i₉ =
+-- codes from 10 on, and all that are no codes, look at no slot
+pub other-code : (slot : ℕ → ℕ) (op a b : ℕ) → (op ≡ 6 → ⊥) → (op ≡ 7 → ⊥) → (op ≡ 8 → ⊥) → (op ≡ 9 → ⊥)
+    → resolvedAs (slotResolve no-entry op a b) ≡ resolvedAs (slotResolve slot op a b)
+unfolding slotResolve ruleOf
+other-code slot op a b h₁ h₂ h₃ h₄ = rw (ne-eqb op 6 h₁, ne-eqb op 7 h₂, ne-eqb op 8 h₃, ne-eqb op 9 h₄) refl
+
+-- 6 to 9 name no entry where there is none
+pub no-code : (op a b : ℕ) → (op ≡ 10 → ⊥) → (op ≡ 11 → ⊥) → (op ≡ 12 → ⊥) → (op ≡ 13 → ⊥) → (op ≡ 15 → ⊥) → (op ≡ 16 → ⊥) → (op ≡ 18 → ⊥) → (op ≡ 19 → ⊥)
+    → (op ≡ 20 → ⊥) → (op ≡ 21 → ⊥) → (op ≡ 22 → ⊥) → (op ≡ 23 → ⊥) → (op ≡ 24 → ⊥) → (op ≡ 25 → ⊥) → Answers no-entry op a b Unfit
+unfolding slotResolve ruleOf resolvedAs slotNames asLiteral asClosure asGlobal
+no-code op a b h₁ h₂ h₃ h₄ h₅ h₆ h₇ h₈ h₉ i₁ i₂ i₃ i₄ i₅ =
     rw (
-      ne-eqb op 6 h₁,
-      ne-eqb op 7 h₂,
-      ne-eqb op 8 h₃,
-      ne-eqb op 9 h₄,
-      ne-eqb op 10 h₅,
-      ne-eqb op 11 h₆,
-      ne-eqb op 12 h₇,
-      ne-eqb op 13 h₈,
-      ne-eqb op 15 h₉,
-      ne-eqb op 16 i₁,
-      ne-eqb op 18 i₂,
-      ne-eqb op 19 i₃,
-      ne-eqb op 20 i₄,
-      ne-eqb op 21 i₅,
-      ne-eqb op 22 i₆,
-      ne-eqb op 23 i₇,
-      ne-eqb op 24 i₈,
-      ne-eqb op 25 i₉,
-    )
+      ne-eqb op 10 h₁,
+      ne-eqb op 11 h₂,
+      ne-eqb op 12 h₃,
+      ne-eqb op 13 h₄,
+      ne-eqb op 15 h₅,
+      ne-eqb op 16 h₆,
+      ne-eqb op 18 h₇,
+      ne-eqb op 19 h₈,
+      ne-eqb op 20 h₉,
+      ne-eqb op 21 i₁,
+      ne-eqb op 22 i₂,
+      ne-eqb op 23 i₃,
+      ne-eqb op 24 i₄,
+      ne-eqb op 25 i₅,
+    ) (by (eqb op 6) (eqb op 7) (eqb op 8) (eqb op 9))
+  where
+    by : (c d e f : Bool)
+        → Unfit ≡ resolvedAs (cond c (asLiteral none-named) (cond d (asClosure none-named) (cond e (asGlobal Global none-named) (cond f (asGlobal SetGlobal none-named) none))))
+    by true d e f = refl
+    by false true e f = refl
+    by false false true f = refl
+    by false false false true = refl
+    by false false false false = refl
 
 -- ---- what a slot x names, under the tag that it was looked at for
 module _ (x : ℕ) where

@@ -166,6 +166,29 @@ fn literal(slot: u64) -> Resolved
     }
 }
 
+// A code that names no entry, with operands a and b, of which it may have fewer.
+pub fn unnamed(op: u8, a: u8, b: u8) -> Resolved
+    ensures { λ r. ⌜ r ≡ resolvedAs (slotResolve (λ _. 0) op a b) ⌝ }
+{
+    match op {
+        10 => Resolved::Fit(Plain::Local(a, b)),
+        11 => Resolved::Fit(Plain::SetLocal(a, b)),
+        12 => Resolved::Fit(Plain::Push),
+        13 => Resolved::Fit(Plain::MakeEnv(a)),
+        15 => Resolved::Fit(Plain::Unspecified),
+        16 => Resolved::Fit(Plain::CheckArgs(a)),
+        18 => Resolved::Fit(Plain::Cons),
+        19 => Resolved::Fit(Plain::Car),
+        20 => Resolved::Fit(Plain::Cdr),
+        21 => Resolved::Fit(Plain::Eqv),
+        22 => Resolved::Fit(Plain::Add),
+        23 => Resolved::Fit(Plain::Sub),
+        24 => Resolved::Fit(Plain::Less),
+        25 => Resolved::Fit(Plain::FloorDiv),
+        _ => Resolved::Unfit,
+    }
+}
+
 // A code with operands a and b, of which it may have fewer, in a template.
 pub fn resolve(table: &[u64], template: u8, op: u8, a: u8, b: u8) -> Resolved
     ensures { λ r. ⌜ r ≡ resolvedAs (slotResolve (slotAt (now (table .entry)) template) op a b) ⌝ }
@@ -184,20 +207,6 @@ pub fn resolve(table: &[u64], template: u8, op: u8, a: u8, b: u8) -> Resolved
             Marked::Number(g) => Resolved::Fit(Plain::SetGlobal(g)),
             Marked::Other => Resolved::Unfit,
         },
-        10 => Resolved::Fit(Plain::Local(a, b)),
-        11 => Resolved::Fit(Plain::SetLocal(a, b)),
-        12 => Resolved::Fit(Plain::Push),
-        13 => Resolved::Fit(Plain::MakeEnv(a)),
-        15 => Resolved::Fit(Plain::Unspecified),
-        16 => Resolved::Fit(Plain::CheckArgs(a)),
-        18 => Resolved::Fit(Plain::Cons),
-        19 => Resolved::Fit(Plain::Car),
-        20 => Resolved::Fit(Plain::Cdr),
-        21 => Resolved::Fit(Plain::Eqv),
-        22 => Resolved::Fit(Plain::Add),
-        23 => Resolved::Fit(Plain::Sub),
-        24 => Resolved::Fit(Plain::Less),
-        25 => Resolved::Fit(Plain::FloorDiv),
-        _ => Resolved::Unfit,
+        _ => unnamed(op, a, b),
     }
 }

@@ -489,6 +489,43 @@ pub fn plain_rule(
     }
 }
 
+// The same, for the basic machine's loop. The compiler puts a function in line that is called from one place; with its rules behind a call a step takes more
+// than twice as many instructions.
+pub fn basic_rule(
+    owner: Owner,
+    i: Plain,
+    globals: &mut [u64],
+    stack: &mut [u64],
+    store: &mut [u64],
+    r: Regs,
+) -> Stepped
+    requires { ⌜ (length (now globals) ≡ 256) × (length (now stack) ≡ 256) × (length (now store) ≡ 2048) × Fit r ⌝ }
+    ensures { λ x. ⌜ out x (mem (now (globals .exit)) (now (stack .exit)) (now (store .exit)))
+        ≡ ends (ownedRule owner i) (mem (now (globals .entry)) (now (stack .entry)) (now (store .entry))) r ⌝ }
+    ensures fits { λ x. ⌜ EndFit x ⌝ }
+{
+    match i {
+        Plain::Literal(c) => literal(c, r),
+        Plain::Closure(t) => closure(store, t, r),
+        Plain::Global(g) => global(owner, globals, g, r),
+        Plain::SetGlobal(g) => set_global(owner, globals, g, r),
+        Plain::Local(a, b) => local(store, a, b, r),
+        Plain::SetLocal(a, b) => set_local(store, a, b, r),
+        Plain::Push => push(stack, r),
+        Plain::Unspecified => literal(cells::UNSPECIFIED, r),
+        Plain::MakeEnv(n) => make_env(stack, store, n, r),
+        Plain::CheckArgs(n) => check_args(n, r),
+        Plain::Cons => cons(stack, store, r),
+        Plain::Car => car(stack, store, r),
+        Plain::Cdr => cdr(stack, store, r),
+        Plain::Eqv => eqv(stack, r),
+        Plain::Add => add(stack, r),
+        Plain::Sub => sub(stack, r),
+        Plain::Less => less(stack, r),
+        Plain::FloorDiv => floor_div(stack, r),
+    }
+}
+
 // ---- call
 
 // The closure's template, and its environment.

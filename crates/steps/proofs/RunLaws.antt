@@ -29,43 +29,42 @@ use Rattle.steps.specs.declared.OneStep.the-variants.{Next, Halted, Wron
 pub at-first : (own : Owner) (P : Program) (b : ℕ) (s : State) → ranFrom own P b (b - b) s ≡ ranFrom own P b 0 s
 at-first own P b s = rw (sub-self b)
 
--- ---- a turn in code of a form, which the place c .place is in
-module _ {goal : Ran} (own : Owner) (form : Form) (s L table : List ℕ) (left b : ℕ) (m m′ : Memory) (r : Regs) (c : Control) (x : OneStep) (some : 0 < left) (most : left ≤ b)
-    (o : Of form (c .place)) (t : Taken (formOf (c .place)) x m m′ (step own (codeProgram (formOf (c .place)) s L table) (stateOf r c m)))
-    (h : ranFrom own (codeProgram form s L table) left (b - left) (stateOf r c m) ≡ goal) where
-  abbrev P : Program
-  P = codeProgram form s L table
+-- a step in the form of code that its run is in
+pub in-form : (own : Owner) (form : Form) (s L table : List ℕ) (m m′ : Memory) (r : Regs) (c : Control) (x : OneStep) → Of form (c .place)
+    → Taken (formOf (c .place)) x m m′ (step own (codeProgram (formOf (c .place)) s L table) (stateOf r c m))
+    → Taken form x m m′ (step own (codeProgram form s L table) (stateOf r c m))
+in-form own form s L table m m′ r c x o t = rw o at t
 
-  step-is : meant x m′ ≡ step own P (stateOf r c m)
-  step-is = t .meant-is ∙ ap (λ (l : Form). step own (codeProgram l s L table) (stateOf r c m)) o
-
+-- ---- a turn of a program whose places are of a form
+module _ {goal : Ran} (own : Owner) (form : Form) (P : Program) (left b : ℕ) (m m′ : Memory) (r : Regs) (c : Control) (x : OneStep) (some : 0 < left) (most : left ≤ b)
+    (t : Taken form x m m′ (step own P (stateOf r c m))) (h : ranFrom own P left (b - left) (stateOf r c m) ≡ goal) where
   pub next-turn : (q : Regs) (k : Control) → x ≡ Next q k → ranFrom own P (left - 1) (b - (left - 1)) (stateOf q k m′) ≡ goal
   unfolding meant
-  next-turn q k e = turn-goes own P left b (stateOf r c m) (meant x m′) some most step-is h (stateOf q k m′) (rw e)
+  next-turn q k e = turn-goes own P left b (stateOf r c m) (meant x m′) some most (t .meant-is) h (stateOf q k m′) (rw e)
 
   pub next-place : (q : Regs) (k : Control) → x ≡ Next q k → Of form (k .place)
   unfolding GoesOn
-  next-place q k e = let g = rw e at (t .goes-on) in g .2 ∙ o
+  next-place q k e = let g = rw e at (t .goes-on) in g .2
 
-  pub next-ready : (q : Regs) (k : Control) → x ≡ Next q k → StepReady s table m r c → length (m′ .globals) ≡ 256 → length (m′ .stack) ≡ 256
+  pub next-ready : (s table : List ℕ) (q : Regs) (k : Control) → x ≡ Next q k → Of form (c .place) → StepReady s table m r c → length (m′ .globals) ≡ 256 → length (m′ .stack) ≡ 256
       → length (m′ .store) ≡ 2048 → length (m′ .frames) ≡ 2048 → StepReady s table m′ q k
   unfolding GoesOn
-  next-ready q k e w lg ls lt lf =
+  next-ready s table q k e o w lg ls lt lf =
       let g = rw e at (t .goes-on) in
-      record { code-ready = rw (g .2) (w .code-ready); fit = g .0; frames-fit = g .1; globals-long = lg; stack-long = ls; store-long = lt; frames-long = lf }
+      record { code-ready = rw (g .2, ← o) (w .code-ready); fit = g .0; frames-fit = g .1; globals-long = lg; stack-long = ls; store-long = lt; frames-long = lf }
 
   pub halted-turn : (v : Value) (y : Run) → x ≡ Halted → v ≡ valueOf (r .v) → y ≡ endsWith (end.Halted v) (b - (left - 1)) r c → ran y m′ ≡ goal
   unfolding meant Unchanged endsIn memoryOf
   halted-turn v y e k i =
       let u : m′ ≡ m = rw e at (t .unchanged) in
       let n : b - (left - 1) ≡ b - left + 1 = omega arith in
-      rw (i, k, u, n) (turn-halts own P left b (stateOf r c m) (meant x m′) some most step-is h (rw e))
+      rw (i, k, u, n) (turn-halts own P left b (stateOf r c m) (meant x m′) some most (t .meant-is) h (rw e))
 
   pub wrong-turn : (n : ℕ) (y : Run) → x ≡ Wrong n → y ≡ endsWith (end.Wrong n) (b - left) r c → ran y m′ ≡ goal
   unfolding meant Unchanged endsIn memoryOf
   wrong-turn n y e i =
       let u : m′ ≡ m = rw e at (t .unchanged) in
-      rw (i, u) (turn-stops own P left b (stateOf r c m) (meant x m′) some most step-is h n (rw e))
+      rw (i, u) (turn-stops own P left b (stateOf r c m) (meant x m′) some most (t .meant-is) h n (rw e))
 
 pub spent-turn : {goal : Ran} (own : Owner) (P : Program) (left b : ℕ) (m : Memory) (r : Regs) (c : Control) (y : Run) → left ≤ 0 → ranFrom own P left (b - left) (stateOf r c m) ≡ goal
     → y ≡ endsWith end.OutOfBudget (b - left) r c → ran y m ≡ goal

@@ -145,7 +145,7 @@ fn act_neutral(
     }
 }
 
-fn act_call(table: &[u64], n: u8, r: Regs, c: Control) -> OneStep
+pub fn act_call(table: &[u64], n: u8, r: Regs, c: Control) -> OneStep
     requires { ⌜ Fit r × (c .fr ≤ 2048) ⌝ }
     ensures { λ x. ⌜ ((o : Owner) (P : Program) (m : Memory) → ((t : ℕ) → startAt (formOf (c .place)) (now (table .entry)) t ≡ P .start t)
         → Taken (formOf (c .place)) x m m (act o P (calls n) (stateOf r c m))) ⌝ }
@@ -167,7 +167,7 @@ fn act_call(table: &[u64], n: u8, r: Regs, c: Control) -> OneStep
     }
 }
 
-fn act_branch(first: CodePlace, second: CodePlace, r: Regs, c: Control) -> OneStep
+pub fn act_branch(first: CodePlace, second: CodePlace, r: Regs, c: Control) -> OneStep
     requires { ⌜ Fit r × (c .fr ≤ 2048) × Of (formOf first) second ⌝ }
     ensures { λ x. ⌜ ((o : Owner) (P : Program) (m : Memory)
         → Taken (formOf first) x m m (act o P (branches 0 (number first) (number second)) (stateOf r c m))) ⌝ }
@@ -193,7 +193,7 @@ fn act_jump(to: CodePlace, r: Regs, c: Control) -> OneStep
     )
 }
 
-fn act_save(
+pub fn act_save(
     n: u8,
     saved: CodePlace,
     rest: CodePlace,
@@ -223,7 +223,7 @@ fn act_save(
     }
 }
 
-fn act_return(stack: &mut [u64], frames: &mut [u64], r: Regs, c: Control) -> OneStep
+pub fn act_return(stack: &mut [u64], frames: &mut [u64], r: Regs, c: Control) -> OneStep
     requires { ⌜ (length (now stack) ≡ 256) × (length (now frames) ≡ 2048) × Fit r × (c .fr ≤ 2048) ⌝ }
     ensures { λ x. ⌜ ((o : Owner) (P : Program) (g t : List ℕ)
         → Taken (formOf (c .place)) x (memory g (now (stack .entry)) t (now (frames .entry))) (memory g (now (stack .exit)) t (now (frames .exit)))
@@ -282,7 +282,7 @@ fn take_step(
 // ---- a run
 
 // The end of a run that has `left` of its budget left.
-fn ended(end: End, budget: u64, left: u64, r: Regs, c: Control) -> Run
+pub fn ended(end: End, budget: u64, left: u64, r: Regs, c: Control) -> Run
     requires { ⌜ left ≤ budget ⌝ }
     ensures { λ x. ⌜ x ≡ endsWith end (budget - left) r c ⌝ }
 {

@@ -14,6 +14,9 @@ use Rattle.owners.specs.Owners.{isOwner, ownerOf}
 use Rattle.machines.specs.Machine.{Ending, halted, wrongly, spent, Ended}
 use Rattle.machines.specs.Runs.{Memory, Ran, refusedRun, lowestUnfit, fitGlobals, rightLengths, byOwner, started, endOf, reported, onTree, onLinear, treeRun}
 use Rattle.machines.specs.Runs.{linearRun}
+use Rattle.basic.specs.Basic.{Basic}
+use Rattle.basic.specs.Checked.{basicChecked}
+use Rattle.basic_program.specs.Run.{onBasic, basicRun}
 use Rattle.exporter.specs.Answers.{FieldsFit, AnswerFits, RanFits}
 
 value-fits : (c : ℕ) → FieldsFit (valueOf c)
@@ -70,4 +73,12 @@ linear-fits s b o m = started-fits 2000000 b o m _ (on (linearRead s))
   where
     on : (g : Got (List Linear)) → RanFits (onLinear (ownerOf o) b m g)
     on (got ts q) = reported-fits _
+    on (refused n p) = refused-fits n p m
+
+pub basic-fits : (s : List ℕ) (b o : ℕ) (m : Memory) → RanFits (basicRun s b o m)
+unfolding basicRun
+basic-fits s b o m = started-fits 1000000 b o m _ (on (basicChecked s))
+  where
+    on : (g : Got Basic) → RanFits (onBasic (ownerOf o) b m g)
+    on (got c q) = reported-fits _
     on (refused n p) = refused-fits n p m

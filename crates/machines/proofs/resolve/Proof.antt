@@ -4,7 +4,7 @@ use mathlib.Core.Path.{refl, ap, _∙_}
 use Rattle.rules.specs.declared.Plain.the-variants.{Closure, Global, SetGlobal}
 use Rattle.machines.specs.Fetched.{asLiteral, ruleOf}
 use Rattle.machines.specs.Slots.{slotAt, slotNames, slotResolve, resolvedAs, markedAs}
-use Rattle.machines.proofs.ResolveLaws.{coded, no-code, closure-slot, global-slot, marked-number, marked-other}
+use Rattle.machines.proofs.ResolveLaws.{coded, other-code, closure-slot, global-slot, marked-number, marked-other}
 use Rattle.machines.proofs.resolve.Statement.{statement}
 use Rattle.machines.proofs.resolve.Tie as tie
 
@@ -98,92 +98,13 @@ returns-7 c =
     let x = slotAt (p .table .now) (p .template) (p .a) in
     coded (slotAt (p .table .now) (p .template)) _ 9 (p .a) (p .b) _ (c .before .before .before .before .match .keys4) (marked-other x SetGlobal 11 _ (c .before .before .under-tag3 .ensures ∙ ap (markedAs 11) (c .before .before .before .slot-at4 .ensures)) _ (global-slot x SetGlobal) (c .enum-told3 .given .1))
 
+unnamed-requires : tie.Need-unnamed-requires
+unnamed-requires c κs = search needs
+
 returns-8 : tie.Need-returns-8
-unfolding slotResolve ruleOf resolvedAs
 returns-8 c =
-    let p = c .before .before .args in
-    coded (slotAt (p .table .now) (p .template)) _ 10 (p .a) (p .b) _ (c .match .keys5) refl
-
-returns-9 : tie.Need-returns-9
-unfolding slotResolve ruleOf resolvedAs
-returns-9 c =
-    let p = c .before .before .args in
-    coded (slotAt (p .table .now) (p .template)) _ 11 (p .a) (p .b) _ (c .match .keys6) refl
-
-returns-10 : tie.Need-returns-10
-unfolding slotResolve ruleOf resolvedAs
-returns-10 c =
-    let p = c .before .before .args in
-    coded (slotAt (p .table .now) (p .template)) _ 12 (p .a) (p .b) _ (c .match .keys7) refl
-
-returns-11 : tie.Need-returns-11
-unfolding slotResolve ruleOf resolvedAs
-returns-11 c =
-    let p = c .before .before .args in
-    coded (slotAt (p .table .now) (p .template)) _ 13 (p .a) (p .b) _ (c .match .keys8) refl
-
-returns-12 : tie.Need-returns-12
-unfolding slotResolve ruleOf resolvedAs
-returns-12 c =
-    let p = c .before .before .args in
-    coded (slotAt (p .table .now) (p .template)) _ 15 (p .a) (p .b) _ (c .match .keys9) refl
-
-returns-13 : tie.Need-returns-13
-unfolding slotResolve ruleOf resolvedAs
-returns-13 c =
-    let p = c .before .before .args in
-    coded (slotAt (p .table .now) (p .template)) _ 16 (p .a) (p .b) _ (c .match .keys10) refl
-
-returns-14 : tie.Need-returns-14
-unfolding slotResolve ruleOf resolvedAs
-returns-14 c =
-    let p = c .before .before .args in
-    coded (slotAt (p .table .now) (p .template)) _ 18 (p .a) (p .b) _ (c .match .keys11) refl
-
-returns-15 : tie.Need-returns-15
-unfolding slotResolve ruleOf resolvedAs
-returns-15 c =
-    let p = c .before .before .args in
-    coded (slotAt (p .table .now) (p .template)) _ 19 (p .a) (p .b) _ (c .match .keys12) refl
-
-returns-16 : tie.Need-returns-16
-unfolding slotResolve ruleOf resolvedAs
-returns-16 c =
-    let p = c .before .before .args in
-    coded (slotAt (p .table .now) (p .template)) _ 20 (p .a) (p .b) _ (c .match .keys13) refl
-
-returns-17 : tie.Need-returns-17
-unfolding slotResolve ruleOf resolvedAs
-returns-17 c =
-    let p = c .before .before .args in
-    coded (slotAt (p .table .now) (p .template)) _ 21 (p .a) (p .b) _ (c .match .keys14) refl
-
-returns-18 : tie.Need-returns-18
-unfolding slotResolve ruleOf resolvedAs
-returns-18 c =
-    let p = c .before .before .args in
-    coded (slotAt (p .table .now) (p .template)) _ 22 (p .a) (p .b) _ (c .match .keys15) refl
-
-returns-19 : tie.Need-returns-19
-unfolding slotResolve ruleOf resolvedAs
-returns-19 c =
-    let p = c .before .before .args in
-    coded (slotAt (p .table .now) (p .template)) _ 23 (p .a) (p .b) _ (c .match .keys16) refl
-
-returns-20 : tie.Need-returns-20
-unfolding slotResolve ruleOf resolvedAs
-returns-20 c =
-    let p = c .before .before .args in
-    coded (slotAt (p .table .now) (p .template)) _ 24 (p .a) (p .b) _ (c .match .keys17) refl
-
-returns-21 : tie.Need-returns-21
-unfolding slotResolve ruleOf resolvedAs
-returns-21 c =
-    let p = c .before .before .args in
-    coded (slotAt (p .table .now) (p .template)) _ 25 (p .a) (p .b) _ (c .match .keys18) refl
-
-returns-22 : tie.Need-returns-22
-returns-22 c = let n = c .match .rest in no-code _ _ _ _ (n .0 .0 .0 .0 .0 .0 .0 .0 .0 .0 .0 .0 .0 .0 .0 .0 .0 .1) (n .0 .0 .0 .0 .0 .0 .0 .0 .0 .0 .0 .0 .0 .0 .0 .0 .1) (n .0 .0 .0 .0 .0 .0 .0 .0 .0 .0 .0 .0 .0 .0 .0 .1) (n .0 .0 .0 .0 .0 .0 .0 .0 .0 .0 .0 .0 .0 .0 .1) (n .0 .0 .0 .0 .0 .0 .0 .0 .0 .0 .0 .0 .0 .1) (n .0 .0 .0 .0 .0 .0 .0 .0 .0 .0 .0 .0 .1) (n .0 .0 .0 .0 .0 .0 .0 .0 .0 .0 .0 .1) (n .0 .0 .0 .0 .0 .0 .0 .0 .0 .0 .1) (n .0 .0 .0 .0 .0 .0 .0 .0 .0 .1) (n .0 .0 .0 .0 .0 .0 .0 .0 .1) (n .0 .0 .0 .0 .0 .0 .0 .1) (n .0 .0 .0 .0 .0 .0 .1) (n .0 .0 .0 .0 .0 .1) (n .0 .0 .0 .0 .1) (n .0 .0 .0 .1) (n .0 .0 .1) (n .0 .1) (n .1)
+    let n = c .before .match .rest in
+    c .unnamed .ensures ∙ other-code _ _ _ _ (n .0 .0 .0 .1) (n .0 .0 .1) (n .0 .1) (n .1)
 
 pub resolve-spec : {M : Type 1} → statement M
 resolve-spec =
@@ -203,6 +124,7 @@ resolve-spec =
     under-tag-requires-3
     enum-known-g-2
     enum-told-3
+    unnamed-requires
     returns
     returns-2
     returns-3
@@ -210,18 +132,4 @@ resolve-spec =
     returns-5
     returns-6
     returns-7
-    returns-8
-    returns-9
-    returns-10
-    returns-11
-    returns-12
-    returns-13
-    returns-14
-    returns-15
-    returns-16
-    returns-17
-    returns-18
-    returns-19
-    returns-20
-    returns-21
-    returns-22)
+    returns-8)

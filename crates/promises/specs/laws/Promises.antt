@@ -24,6 +24,8 @@ use Rattle.tree_machine.proofs.run_tree.Kinds as run-tree
 use Rattle.tree_machine.proofs.run_tree.Reads as run-tree-reads
 use Rattle.linear_machine.proofs.run_linear.Kinds as run-linear
 use Rattle.linear_machine.proofs.run_linear.Reads as run-linear-reads
+use Rattle.basic_machine.proofs.run_basic.Kinds as run-basic
+use Rattle.basic_machine.proofs.run_basic.Reads as run-basic-reads
 use Rattle.pull.proofs.pull_list.Kinds as pull-list
 use Rattle.pull.proofs.pull_list.Reads as pull-list-reads
 use Rattle.exporter.proofs.exporter_pull_list.Kinds as exporter-pull-list
@@ -52,6 +54,8 @@ use Rattle.exporter.proofs.exporter_run_tree.Kinds as exporter-run-tree
 use Rattle.exporter.proofs.exporter_run_tree.Reads as exporter-run-tree-reads
 use Rattle.exporter.proofs.exporter_run_linear.Kinds as exporter-run-linear
 use Rattle.exporter.proofs.exporter_run_linear.Reads as exporter-run-linear-reads
+use Rattle.exporter.proofs.exporter_run_basic.Kinds as exporter-run-basic
+use Rattle.exporter.proofs.exporter_run_basic.Reads as exporter-run-basic-reads
 
 -- THE LAW
 pub fixed : {A : Type 0} {d x y : A} → x ≡ d → y ≡ d → x ≡ y
@@ -94,6 +98,11 @@ pub run-linear-only : Only 5 run-linear.ps run-linear.r run-linear-reads.Learnt
     (λ κs x e. ran x (memory (now (e .1 .1 .1 .0)) (now (e .1 .1 .1 .1 .0)) (now (e .1 .1 .1 .1 .1 .0)) (now (e .1 .1 .1 .1 .1 .1 .0))))
 run-linear-only κs a x y e f p q = fixed p q
 
+-- basic_machine::run_basic(the same)
+pub run-basic-only : Only 5 run-basic.ps run-basic.r run-basic-reads.Learnt
+    (λ κs x e. ran x (memory (now (e .1 .1 .1 .0)) (now (e .1 .1 .1 .1 .0)) (now (e .1 .1 .1 .1 .1 .0)) (now (e .1 .1 .1 .1 .1 .1 .0))))
+run-basic-only κs a x y e f p q = fixed p q
+
 -- exporter::exporter_flatten(file, out, result): out and result
 pub exporter-flatten-only : Only 3 exporter-flatten.ps exporter-flatten.r exporter-flatten-reads.Learnt {B = List ℕ × List ℕ}
     (λ κs x e. (now (e .1 .0), now (e .1 .1 .0)))
@@ -110,6 +119,12 @@ pub exporter-run-linear-only : Only 6 exporter-run-linear.ps exporter-run-linear
     (λ κs x e. exported (memory (now (e .1 .1 .1 .0)) (now (e .1 .1 .1 .1 .0)) (now (e .1 .1 .1 .1 .1 .0)) (now (e .1 .1 .1 .1 .1 .1 .0)))
     (now (e .1 .1 .1 .1 .1 .1 .1 .0)))
 exporter-run-linear-only κs a x y e f p q = fixed p q
+
+-- exporter::exporter_run_basic(the same)
+pub exporter-run-basic-only : Only 6 exporter-run-basic.ps exporter-run-basic.r exporter-run-basic-reads.Learnt
+    (λ κs x e. exported (memory (now (e .1 .1 .1 .0)) (now (e .1 .1 .1 .1 .0)) (now (e .1 .1 .1 .1 .1 .0)) (now (e .1 .1 .1 .1 .1 .1 .0)))
+    (now (e .1 .1 .1 .1 .1 .1 .1 .0)))
+exporter-run-basic-only κs a x y e f p q = fixed p q
 
 -- pull::pull_list(clips, file, budget, list): its answer, and list
 pub pull-list-only : Only 3 pull-list.ps pull-list.r pull-list-reads.Learnt {B = Outcome × List ℕ}

@@ -6,7 +6,7 @@ use Rattle.machines.specs.Runs.{memory}
 use Rattle.machines.specs.Steps.{ranFrom}
 use Rattle.machines.specs.Instruction.{formOf, Of}
 use Rattle.steps.specs.Step.{codeProgram, stateOf, StepReady}
-use Rattle.steps.proofs.RunLaws.{at-first, next-ready, next-place, next-turn, halted-turn, wrong-turn, spent-turn}
+use Rattle.steps.proofs.RunLaws.{at-first, in-form, next-ready, next-place, next-turn, halted-turn, wrong-turn, spent-turn}
 use borrow.Author.Needs.{needs}
 use Rattle.steps.proofs.run_from.Statement.{statement}
 use Rattle.steps.proofs.run_from.Tie as tie
@@ -57,7 +57,7 @@ returns : tie.Need-returns Inv-loop μ-loop
 returns c =
     let l = c .before .before .before .before .before .before .before .before .before .before .before .before .before .before .before .before .before .before .loop in
     let a = c .before .before .before .before .before .before .before .before .before .before .before .before .before .before .before .before .before .before .before .before .before .before .before .before .before .before .args in
-    halted-turn _ _ _ _ _ (l .left) (a .budget) _ _ (regs (l .v) (l .env) (l .sp) (l .st)) (l .c) _ (c .before .before .before .before .before .before .before .before .before .before .before .before .before .before .before .before .before .loop-test .taken) (l .inv .1) (l .inv .2) (c .before .before .before .before .before .before .before .before .before .before .before .before .take-step .ensures) (l .inv .3) _ _ (c .before .before .enum-told .given .1) (c .before .value-of .ensures) (c .ended .ensures)
+    halted-turn _ _ _ (l .left) (a .budget) _ _ (regs (l .v) (l .env) (l .sp) (l .st)) (l .c) _ (c .before .before .before .before .before .before .before .before .before .before .before .before .before .before .before .before .before .loop-test .taken) (l .inv .1) (in-form _ _ _ _ _ _ _ (regs (l .v) (l .env) (l .sp) (l .st)) (l .c) _ (l .inv .2) (c .before .before .before .before .before .before .before .before .before .before .before .before .take-step .ensures)) (l .inv .3) _ _ (c .before .before .enum-told .given .1) (c .before .value-of .ensures) (c .ended .ensures)
 
 enum-known-n : tie.Need-enum-known-n Inv-loop μ-loop
 enum-known-n c = search needs
@@ -81,7 +81,7 @@ returns-2 : tie.Need-returns-2 Inv-loop μ-loop
 returns-2 c =
     let l = c .before .before .before .before .before .before .before .before .before .before .before .before .before .before .before .before .before .before .loop in
     let a = c .before .before .before .before .before .before .before .before .before .before .before .before .before .before .before .before .before .before .before .before .before .before .before .before .before .before .args in
-    wrong-turn _ _ _ _ _ (l .left) (a .budget) _ _ (regs (l .v) (l .env) (l .sp) (l .st)) (l .c) _ (c .before .before .before .before .before .before .before .before .before .before .before .before .before .before .before .before .before .loop-test .taken) (l .inv .1) (l .inv .2) (c .before .before .before .before .before .before .before .before .before .before .before .before .take-step .ensures) (l .inv .3) _ _ (c .before .before .n .given .1) (c .ended2 .ensures)
+    wrong-turn _ _ _ (l .left) (a .budget) _ _ (regs (l .v) (l .env) (l .sp) (l .st)) (l .c) _ (c .before .before .before .before .before .before .before .before .before .before .before .before .before .before .before .before .before .loop-test .taken) (l .inv .1) (in-form _ _ _ _ _ _ _ (regs (l .v) (l .env) (l .sp) (l .st)) (l .c) _ (l .inv .2) (c .before .before .before .before .before .before .before .before .before .before .before .before .take-step .ensures)) (l .inv .3) _ _ (c .before .before .n .given .1) (c .ended2 .ensures)
 
 loop-less : tie.Need-loop-less Inv-loop μ-loop
 loop-less c = search needs
@@ -90,7 +90,7 @@ loop-again : tie.Need-loop-again Inv-loop μ-loop
 loop-again c =
     let l = c .before .before .before .before .before .before .before .before .before .before .before .before .before .before .before .before .before .loop in
     let a = c .before .before .before .before .before .before .before .before .before .before .before .before .before .before .before .before .before .before .before .before .before .before .before .before .before .args in
-    (next-ready _ _ _ _ _ (l .left) (a .budget) _ _ (regs (l .v) (l .env) (l .sp) (l .st)) (l .c) _ (c .before .before .before .before .before .before .before .before .before .before .before .before .before .before .before .before .loop-test .taken) (l .inv .1) (l .inv .2) (c .before .before .before .before .before .before .before .before .before .before .before .take-step .ensures) (l .inv .3) _ _ (c .before .q .given .1) (l .inv .0) (search needs) (search needs) (search needs) (search needs), search needs, next-place _ _ _ _ _ (l .left) (a .budget) _ _ (regs (l .v) (l .env) (l .sp) (l .st)) (l .c) _ (c .before .before .before .before .before .before .before .before .before .before .before .before .before .before .before .before .loop-test .taken) (l .inv .1) (l .inv .2) (c .before .before .before .before .before .before .before .before .before .before .before .take-step .ensures) (l .inv .3) _ _ (c .before .q .given .1), next-turn _ _ _ _ _ (l .left) (a .budget) _ _ (regs (l .v) (l .env) (l .sp) (l .st)) (l .c) _ (c .before .before .before .before .before .before .before .before .before .before .before .before .before .before .before .before .loop-test .taken) (l .inv .1) (l .inv .2) (c .before .before .before .before .before .before .before .before .before .before .before .take-step .ensures) (l .inv .3) _ _ (c .before .q .given .1))
+    (next-ready _ _ _ (l .left) (a .budget) _ _ (regs (l .v) (l .env) (l .sp) (l .st)) (l .c) _ (c .before .before .before .before .before .before .before .before .before .before .before .before .before .before .before .before .loop-test .taken) (l .inv .1) (in-form _ _ _ _ _ _ _ (regs (l .v) (l .env) (l .sp) (l .st)) (l .c) _ (l .inv .2) (c .before .before .before .before .before .before .before .before .before .before .before .take-step .ensures)) (l .inv .3) _ _ _ _ (c .before .q .given .1) (l .inv .2) (l .inv .0) (search needs) (search needs) (search needs) (search needs), search needs, next-place _ _ _ (l .left) (a .budget) _ _ (regs (l .v) (l .env) (l .sp) (l .st)) (l .c) _ (c .before .before .before .before .before .before .before .before .before .before .before .before .before .before .before .before .loop-test .taken) (l .inv .1) (in-form _ _ _ _ _ _ _ (regs (l .v) (l .env) (l .sp) (l .st)) (l .c) _ (l .inv .2) (c .before .before .before .before .before .before .before .before .before .before .before .take-step .ensures)) (l .inv .3) _ _ (c .before .q .given .1), next-turn _ _ _ (l .left) (a .budget) _ _ (regs (l .v) (l .env) (l .sp) (l .st)) (l .c) _ (c .before .before .before .before .before .before .before .before .before .before .before .before .before .before .before .before .loop-test .taken) (l .inv .1) (in-form _ _ _ _ _ _ _ (regs (l .v) (l .env) (l .sp) (l .st)) (l .c) _ (l .inv .2) (c .before .before .before .before .before .before .before .before .before .before .before .take-step .ensures)) (l .inv .3) _ _ (c .before .q .given .1))
 
 ended-requires-3 : tie.Need-ended-requires-3 Inv-loop μ-loop
 ended-requires-3 c κs = search needs

@@ -1,0 +1,40 @@
+-- `basic_code::fetch_after` meets its contract. Assumes nothing.
+use mathlib.Core.Path.{refl, sym, _∙_}
+use Rattle.lists.specs.laws.ReadLaws.{read-below}
+use Rattle.basic_code.specs.Fetch.{SavedFits}
+use Rattle.basic_code.specs.laws.FetchSteps.{nowhere-led, cut-led, code-led}
+use borrow.Author.Needs.{needs}
+use borrow.Author.Tests.{eqb-true, eqb-false}
+use Rattle.basic_code.proofs.fetch_after.Statement.{statement}
+use Rattle.basic_code.proofs.fetch_after.Tie as tie
+
+is-first-requires : tie.Need-is-first-requires
+is-first-requires c κs = search needs
+
+returns : tie.Need-returns
+unfolding SavedFits
+returns c = (nowhere-led _ _ _ (eqb-true _ 0 (sym (c .before .is-first .ensures) ∙ c .if1 .taken)), tt)
+
+read-field-requires : tie.Need-read-field-requires
+read-field-requires c κs = search needs
+
+enum-known-code : tie.Need-enum-known-code
+enum-known-code c = search needs
+
+enum-told : tie.Need-enum-told
+enum-told c = search needs
+
+returns-2 : tie.Need-returns-2
+unfolding SavedFits
+returns-2 c = (cut-led _ _ _ (eqb-false _ 0 (sym (c .before .before .before .before .is-first .ensures) ∙ c .before .before .before .if1 .left)) (sym (c .before .before .read-field .ensures) ∙ c .enum-told .given .1), tt)
+
+fetch-code-requires : tie.Need-fetch-code-requires
+fetch-code-requires c κs = (search needs, read-below _ _ 5 _ _ (sym (c .before .before .before .read-field .ensures) ∙ c .before .code .given .1))
+
+returns-3 : tie.Need-returns-3
+returns-3 c = (c .fetch-code .ensures .0 ∙ code-led _ _ _ (eqb-false _ 0 (sym (c .before .before .before .before .before .before .is-first .ensures) ∙ c .before .before .before .before .before .if1 .left)) _ _ (sym (c .before .before .before .before .read-field .ensures) ∙ c .before .before .code .given .1), c .fetch-code .ensures .1)
+
+pub fetch-after-spec : {M : Type 1} → statement M
+fetch-after-spec =
+    tie.close
+    (tie.spec is-first-requires returns read-field-requires enum-known-code enum-told returns-2 fetch-code-requires returns-3)

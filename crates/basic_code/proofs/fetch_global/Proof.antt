@@ -1,0 +1,49 @@
+-- `basic_code::fetch_global` meets its contract. Assumes nothing.
+use native.Mathlib.Omega.{arith}
+use mathlib.Core.Path.{refl, sym, _∙_}
+use Rattle.lists.specs.laws.ReadLaws.{read-below}
+use Rattle.basic_code.specs.Fetch.{SavedFits}
+use Rattle.basic_code.specs.laws.FetchSteps.{global-read, set-global-read, global-cut}
+use borrow.Author.Needs.{needs}
+use Rattle.basic_code.proofs.fetch_global.Statement.{statement}
+use Rattle.basic_code.proofs.fetch_global.Tie as tie
+
+read-field-requires : tie.Need-read-field-requires
+read-field-requires c κs = search needs
+
+enum-known-g : tie.Need-enum-known-g
+enum-known-g c = search needs
+
+enum-told : tie.Need-enum-told
+enum-told c = search needs
+
+returns : tie.Need-returns
+unfolding SavedFits
+returns c = (λ L p. global-cut _ L p _ _ (c .before .before .before .before .pre .1) (c .before .before .before .before .pre .2) (sym (c .before .before .read-field .ensures) ∙ c .enum-told .given .1), tt)
+
+cast-t9 : tie.Need-cast-t9
+cast-t9 c = omega (arith, read-below _ _ 8 _ _ (sym (c .before .before .before .before .read-field .ensures) ∙ c .before .before .g .given .1))
+
+cast-t11 : tie.Need-cast-t11
+cast-t11 c = omega (arith, read-below _ _ 8 _ _ (sym (c .before .before .before .before .read-field .ensures) ∙ c .before .before .g .given .1))
+
+returns-2 : tie.Need-returns-2
+unfolding SavedFits
+returns-2 c = (λ L p. global-read _ L p _ _ _ _ (c .if1 .taken) (sym (c .before .before .before .before .read-field .ensures) ∙ c .before .before .g .given .1), tt)
+
+returns-3 : tie.Need-returns-3
+unfolding SavedFits
+returns-3 c = (λ L p. set-global-read _ L p _ _ _ _ (omega (arith, c .if1 .left)) (sym (c .before .before .before .before .read-field .ensures) ∙ c .before .before .g .given .1), tt)
+
+pub fetch-global-spec : {M : Type 1} → statement M
+fetch-global-spec =
+    tie.close
+    (tie.spec
+    read-field-requires
+    enum-known-g
+    enum-told
+    returns
+    cast-t9
+    cast-t11
+    returns-2
+    returns-3)

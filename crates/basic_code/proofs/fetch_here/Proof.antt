@@ -1,0 +1,42 @@
+-- `basic_code::fetch_here` meets its contract. Assumes nothing.
+use mathlib.Core.Path.{refl, sym, _∙_}
+use Rattle.lists.specs.laws.ReadLaws.{read-below}
+use Rattle.basic_code.specs.Fetch.{SavedFits}
+use Rattle.basic_code.specs.laws.FetchSteps.{cut-here, end-here, code-here}
+use borrow.Author.Needs.{needs}
+use borrow.Author.Tests.{eqb-true, eqb-false}
+use Rattle.basic_code.proofs.fetch_here.Statement.{statement}
+use Rattle.basic_code.proofs.fetch_here.Tie as tie
+
+read-field-requires : tie.Need-read-field-requires
+read-field-requires c κs = search needs
+
+enum-known-code : tie.Need-enum-known-code
+enum-known-code c = search needs
+
+enum-told : tie.Need-enum-told
+enum-told c = search needs
+
+returns : tie.Need-returns
+unfolding SavedFits
+returns c = (cut-here _ _ _ (sym (c .before .before .read-field .ensures) ∙ c .enum-told .given .1), tt)
+
+link-at-requires : tie.Need-link-at-requires
+link-at-requires c κs = search needs
+
+fetch-after-requires : tie.Need-fetch-after-requires
+fetch-after-requires c κs = search needs
+
+fetch-code-requires : tie.Need-fetch-code-requires
+fetch-code-requires c κs = (search needs, read-below _ _ 5 _ _ (sym (c .before .before .before .before .read-field .ensures) ∙ c .before .before .code .given .1))
+
+returns-2 : tie.Need-returns-2
+returns-2 c = (c .fetch-after .ensures .0 ∙ end-here _ _ _ _ _ (sym (c .before .before .before .before .before .before .read-field .ensures) ∙ c .before .before .before .before .code .given .1) (c .before .before .if1 .taken) _ (c .before .link-at .ensures), c .fetch-after .ensures .1)
+
+returns-3 : tie.Need-returns-3
+returns-3 c = (c .fetch-code .ensures .0 ∙ code-here _ _ _ _ _ (sym (c .before .before .before .before .before .read-field .ensures) ∙ c .before .before .before .code .given .1) (c .before .if1 .left), c .fetch-code .ensures .1)
+
+pub fetch-here-spec : {M : Type 1} → statement M
+fetch-here-spec =
+    tie.close
+    (tie.spec read-field-requires enum-known-code enum-told returns link-at-requires fetch-after-requires fetch-code-requires returns-2 returns-3)

@@ -1,0 +1,69 @@
+-- `basic_code::fetch_two` meets its contract. Assumes nothing.
+use Rattle.basic_code.specs.Fetch.{SavedFits}
+use Rattle.basic_code.specs.laws.FetchSteps.{operand-cut, second-cut, two-read}
+use Rattle.lists.specs.laws.ReadLaws.{read-below}
+use native.Mathlib.Omega.{arith}
+use mathlib.Core.Path.{refl, sym, _∙_}
+use borrow.Author.Needs.{needs}
+use Rattle.basic_code.proofs.fetch_two.Statement.{statement}
+use Rattle.basic_code.proofs.fetch_two.Tie as tie
+
+read-field-requires : tie.Need-read-field-requires
+read-field-requires c κs = search needs
+
+enum-known-a : tie.Need-enum-known-a
+enum-known-a c = search needs
+
+enum-told : tie.Need-enum-told
+enum-told c = search needs
+
+returns : tie.Need-returns
+unfolding SavedFits
+returns c = (λ L p. operand-cut _ L p _ _ 3 (omega arith) (omega arith) (sym (c .before .before .read-field .ensures) ∙ c .enum-told .given .1), tt)
+
+read-field-requires-2 : tie.Need-read-field-requires-2
+read-field-requires-2 c κs = search needs
+
+enum-known-b : tie.Need-enum-known-b
+enum-known-b c = search needs
+
+enum-told-2 : tie.Need-enum-told-2
+enum-told-2 c = search needs
+
+returns-2 : tie.Need-returns-2
+unfolding SavedFits
+returns-2 c = (λ L p. second-cut _ L p _ _ _ _ (sym (c .before .before .before .before .before .before .read-field .ensures) ∙ c .before .before .before .before .a .given .1) (sym (c .before .before .read-field2 .ensures) ∙ c .enum-told2 .given .1), tt)
+
+cast-ready : tie.Need-cast-ready
+cast-ready c = search needs
+
+cast-ready-2 : tie.Need-cast-ready-2
+cast-ready-2 c = omega (arith, read-below _ _ 8 _ _ (sym (c .before .before .before .before .before .before .before .read-field .ensures) ∙ c .before .before .before .before .before .a .given .1))
+
+cast-ready-3 : tie.Need-cast-ready-3
+cast-ready-3 c = omega (arith, read-below _ _ 8 _ _ (sym (c .before .before .before .read-field2 .ensures) ∙ c .before .b .given .1))
+
+ready-requires : tie.Need-ready-requires
+ready-requires c κs = search needs
+
+returns-3 : tie.Need-returns-3
+unfolding SavedFits
+returns-3 c = (λ L p. c .ready .ensures .0 ∙ two-read _ L p _ _ _ _ (sym (c .before .before .before .before .before .before .before .before .read-field .ensures) ∙ c .before .before .before .before .before .before .a .given .1) _ _ (sym (c .before .before .before .before .read-field2 .ensures) ∙ c .before .before .b .given .1), c .ready .ensures .1)
+
+pub fetch-two-spec : {M : Type 1} → statement M
+fetch-two-spec =
+    tie.close
+    (tie.spec
+    read-field-requires
+    enum-known-a
+    enum-told
+    returns
+    read-field-requires-2
+    enum-known-b
+    enum-told-2
+    returns-2
+    cast-ready
+    cast-ready-2
+    cast-ready-3
+    ready-requires
+    returns-3)

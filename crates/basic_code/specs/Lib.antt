@@ -1,0 +1,3 @@
+-- The specs of the crate basic_code.
+pub mod Fetch
+pub mod laws

@@ -1,0 +1,2 @@
+-- The laws of the crate basic_code.
+pub mod FetchSteps

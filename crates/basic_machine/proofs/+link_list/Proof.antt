@@ -1,0 +1,230 @@
+-- The cycle of `basic_machine::link_list`: a list within a list begins further on; within a list unread bits fall. Assumes nothing.
+use Prim.Native.Nat.{ℕ, _+_, _*_, _-_, _<_, _≤_}
+use native.Mathlib.Omega.{arith}
+use mathlib.Core.Path.{_≡_, refl, sym, ap, _∙_}
+use lib.ListN.{length}
+use borrow.Author.Needs.{needs}
+use borrow.Fn.Kinds.{In}
+use borrow.Fn.PlainCycle.{Measures, is, falls, and}
+use Rattle.links.specs.Links.{link}
+use Rattle.basic.specs.Basic.{Basic}
+use Rattle.basic_machine.specs.Pass.{Reads, Going}
+use Rattle.basic_machine.specs.laws.TurnLaws.{reads-within, begun, parted-as, onward-small, turn-end, turn-simple, turn-closure, turn-arms, turn-saved, turn-bad}
+use Rattle.basic_machine.proofs.link_list.Reads as link-list
+use Rattle.basic_machine.proofs.link_list.Kinds as link-list-kinds
+use Rattle.basic_machine.proofs.+link_list.Lts-link_list as link-list-lts
+use Rattle.basic_machine.proofs.follow_of.Reads as follow-of-reads
+use Rattle.basic_machine.proofs.parts_at.Reads as parts-at-reads
+use Rattle.basic_machine.proofs.put_link.Reads as put-link-reads
+use Rattle.basic_machine.proofs.put_start.Reads as put-start-reads
+use Rattle.cells.proofs.BitPlace.number.Reads as number-reads
+use Rattle.basic_machine.proofs.+link_list.{statement}
+use Rattle.basic_machine.proofs.+link_list.Tie.{close}
+
+abbrev μ-link-list : Measures 3 link-list-kinds.ps ℕ
+μ-link-list κs a = 524288 - a .1 .1 .1 .0 .0
+
+abbrev link-list-at : ℕ → In 3 link-list-kinds.ps
+link-list-at t = and 3 link-list-kinds.ps (is 3 link-list-kinds.ps μ-link-list t) link-list.Pre
+
+abbrev link-list-below : ℕ → In 3 link-list-kinds.ps
+link-list-below t = and 3 link-list-kinds.ps (falls 3 link-list-kinds.ps _<_ μ-link-list t) link-list.Pre
+
+-- what it calls
+abbrev inner : ℕ → link-list-lts.Claims
+inner t = (parts-at-reads.Asked, parts-at-reads.Learnt, number-reads.Asked, number-reads.Learnt, put-link-reads.Asked, put-link-reads.Learnt, put-start-reads.Asked, put-start-reads.Learnt, link-list-below t, link-list.Post, follow-of-reads.Asked, follow-of-reads.Learnt)
+
+abbrev link-list-Inv-loop : link-list-lts.InvT-loop
+link-list-Inv-loop s links₀ table₀ first here₀ number₀ goes₀ links table here number goes =
+    ((c : Basic) → Reads s (here₀ .0) c → Going s links₀ table₀ number₀ (goes₀ .0) (here₀ .0) c links table number (goes .0) (here .0))
+    × (length links ≡ length links₀)
+    × (length table ≡ length table₀)
+    × (goes .0 ≤ 524288)
+    × (here₀ .0 ≤ here .0)
+
+abbrev link-list-μ-loop : link-list-lts.MeasureT-loop
+link-list-μ-loop s links₀ table₀ first here₀ number₀ goes₀ links table here number goes = 8 * length s - here .0
+
+link-list-loop-holds : (t : ℕ) → link-list-lts.Need-loop-holds (inner t) (link-list-at t) link-list.Post link-list-Inv-loop link-list-μ-loop
+link-list-loop-holds t c = ((λ d h. begun _ _ _ _ _ _ (c .before .before .before .pre .1 .2) d h), refl, refl, c .before .before .before .pre .1 .1, omega arith)
+
+link-list-parts-at-requires : (t : ℕ) → link-list-lts.Need-parts-at-requires (inner t) (link-list-at t) link-list.Post link-list-Inv-loop link-list-μ-loop
+link-list-parts-at-requires t c κs = c .before .before .before .before .pre .1 .0
+
+link-list-enum-told : (t : ℕ) → link-list-lts.Need-enum-told (inner t) (link-list-at t) link-list.Post link-list-Inv-loop link-list-μ-loop
+link-list-enum-told t c = search needs
+
+link-list-number-requires : (t : ℕ) → link-list-lts.Need-number-requires (inner t) (link-list-at t) link-list.Post link-list-Inv-loop link-list-μ-loop
+link-list-number-requires t c κs = search needs
+
+link-list-put-link-requires : (t : ℕ) → link-list-lts.Need-put-link-requires (inner t) (link-list-at t) link-list.Post link-list-Inv-loop link-list-μ-loop
+link-list-put-link-requires t c κs = omega (arith, c .number .ensures, c .before .before .before .before .before .loop .inv .3)
+
+link-list-same-length : (t : ℕ) → link-list-lts.Need-same-length (inner t) (link-list-at t) link-list.Post link-list-Inv-loop link-list-μ-loop
+link-list-same-length t c = search needs
+
+link-list-same-length-2 : (t : ℕ) → link-list-lts.Need-same-length-2 (inner t) (link-list-at t) link-list.Post link-list-Inv-loop link-list-μ-loop
+link-list-same-length-2 t c = search needs
+
+link-list-returns : (t : ℕ) → link-list-lts.Need-returns (inner t) (link-list-at t) link-list.Post link-list-Inv-loop link-list-μ-loop
+link-list-returns t c = λ d h. turn-end _ _ _ _ _ _ _ _ _ _ _ _ (c .before .before .before .before .before .before .before .before .loop .inv .0 d h) (parted-as _ _ (c .before .before .before .before .before .enum-told .given .1) (c .before .before .before .before .before .before .before .parts-at .ensures ((c .before .before .before .before .before .before .before .before .loop .inv .0 d h) .rest) ((c .before .before .before .before .before .before .before .before .loop .inv .0 d h) .reads))) (c .before .before .put-link .ensures ∙ ap (λ n. link (c .before .before .before .before .before .before .before .before .loop .links) (c .before .before .before .before .before .before .before .before .loop .here .0) n) (c .before .before .before .number .ensures))
+
+link-list-enum-known-past : (t : ℕ) → link-list-lts.Need-enum-known-past (inner t) (link-list-at t) link-list.Post link-list-Inv-loop link-list-μ-loop
+link-list-enum-known-past t c = search needs
+
+link-list-loop-less : (t : ℕ) → link-list-lts.Need-loop-less (inner t) (link-list-at t) link-list.Post link-list-Inv-loop link-list-μ-loop
+link-list-loop-less t c = let w = turn-simple _ _ _ _ _ _ _ _ _ _ _ _ (c .before .before .before .before .loop .inv .0 (c .before .before .before .before .before .before .before .before .pre .1 .2 .code) (c .before .before .before .before .before .before .before .before .pre .1 .2 .reads)) _ (parted-as _ _ (c .before .past .given .1) (c .before .before .before .parts-at .ensures ((c .before .before .before .before .loop .inv .0 (c .before .before .before .before .before .before .before .before .pre .1 .2 .code) (c .before .before .before .before .before .before .before .before .pre .1 .2 .reads)) .rest) ((c .before .before .before .before .loop .inv .0 (c .before .before .before .before .before .before .before .before .pre .1 .2 .code) (c .before .before .before .before .before .before .before .before .pre .1 .2 .reads)) .reads))) in omega (arith, w .1, reads-within _ _ _ (w .0 .reads))
+
+link-list-loop-again : (t : ℕ) → link-list-lts.Need-loop-again (inner t) (link-list-at t) link-list.Post link-list-Inv-loop link-list-μ-loop
+link-list-loop-again t c = let w = turn-simple _ _ _ _ _ _ _ _ _ _ _ _ (c .before .before .before .before .loop .inv .0 (c .before .before .before .before .before .before .before .before .pre .1 .2 .code) (c .before .before .before .before .before .before .before .before .pre .1 .2 .reads)) _ (parted-as _ _ (c .before .past .given .1) (c .before .before .before .parts-at .ensures ((c .before .before .before .before .loop .inv .0 (c .before .before .before .before .before .before .before .before .pre .1 .2 .code) (c .before .before .before .before .before .before .before .before .pre .1 .2 .reads)) .rest) ((c .before .before .before .before .loop .inv .0 (c .before .before .before .before .before .before .before .before .pre .1 .2 .code) (c .before .before .before .before .before .before .before .before .pre .1 .2 .reads)) .reads))) in ((λ d h. turn-simple _ _ _ _ _ _ _ _ _ _ _ _ (c .before .before .before .before .loop .inv .0 d h) _ (parted-as _ _ (c .before .past .given .1) (c .before .before .before .parts-at .ensures ((c .before .before .before .before .loop .inv .0 d h) .rest) ((c .before .before .before .before .loop .inv .0 d h) .reads))) .0), c .before .before .before .before .loop .inv .1, c .before .before .before .before .loop .inv .2, c .before .before .before .before .loop .inv .3, omega (arith, w .1, c .before .before .before .before .loop .inv .4))
+
+link-list-enum-known-list : (t : ℕ) → link-list-lts.Need-enum-known-list (inner t) (link-list-at t) link-list.Post link-list-Inv-loop link-list-μ-loop
+link-list-enum-known-list t c = search needs
+
+link-list-put-start-requires : (t : ℕ) → link-list-lts.Need-put-start-requires (inner t) (link-list-at t) link-list.Post link-list-Inv-loop link-list-μ-loop
+link-list-put-start-requires t c κs = let w = turn-closure _ _ _ _ _ _ _ _ _ _ _ _ (c .before .before .before .before .before .loop .inv .0 (c .before .before .before .before .before .before .before .before .before .pre .1 .2 .code) (c .before .before .before .before .before .before .before .before .before .pre .1 .2 .reads)) _ _ _ (parted-as _ _ (c .before .before .list .given .1) (c .before .before .before .before .parts-at .ensures ((c .before .before .before .before .before .loop .inv .0 (c .before .before .before .before .before .before .before .before .before .pre .1 .2 .code) (c .before .before .before .before .before .before .before .before .before .pre .1 .2 .reads)) .rest) ((c .before .before .before .before .before .loop .inv .0 (c .before .before .before .before .before .before .before .before .before .pre .1 .2 .code) (c .before .before .before .before .before .before .before .before .before .pre .1 .2 .reads)) .reads))) in omega (arith, w .below-64)
+
+link-list-number-requires-2 : (t : ℕ) → link-list-lts.Need-number-requires-2 (inner t) (link-list-at t) link-list.Post link-list-Inv-loop link-list-μ-loop
+link-list-number-requires-2 t c κs = search needs
+
+link-list-mul-put-link : (t : ℕ) → link-list-lts.Need-mul-put-link (inner t) (link-list-at t) link-list.Post link-list-Inv-loop link-list-μ-loop
+link-list-mul-put-link t c = let w = turn-closure _ _ _ _ _ _ _ _ _ _ _ _ (c .before .before .before .before .before .before .before .before .before .before .loop .inv .0 (c .before .before .before .before .before .before .before .before .before .before .before .before .before .before .pre .1 .2 .code) (c .before .before .before .before .before .before .before .before .before .before .before .before .before .before .pre .1 .2 .reads)) _ _ _ (parted-as _ _ (c .before .before .before .before .before .before .before .list .given .1) (c .before .before .before .before .before .before .before .before .before .parts-at .ensures ((c .before .before .before .before .before .before .before .before .before .before .loop .inv .0 (c .before .before .before .before .before .before .before .before .before .before .before .before .before .before .pre .1 .2 .code) (c .before .before .before .before .before .before .before .before .before .before .before .before .before .before .pre .1 .2 .reads)) .rest) ((c .before .before .before .before .before .before .before .before .before .before .loop .inv .0 (c .before .before .before .before .before .before .before .before .before .before .before .before .before .before .pre .1 .2 .code) (c .before .before .before .before .before .before .before .before .before .before .before .before .before .before .pre .1 .2 .reads)) .reads))) in omega (arith, c .number2 .ensures, w .below-64, w .within, c .before .before .before .before .before .before .before .before .before .before .before .before .before .before .pre .1 .0)
+
+link-list-add-put-link : (t : ℕ) → link-list-lts.Need-add-put-link (inner t) (link-list-at t) link-list.Post link-list-Inv-loop link-list-μ-loop
+link-list-add-put-link t c = let w = turn-closure _ _ _ _ _ _ _ _ _ _ _ _ (c .before .before .before .before .before .before .before .before .before .before .loop .inv .0 (c .before .before .before .before .before .before .before .before .before .before .before .before .before .before .pre .1 .2 .code) (c .before .before .before .before .before .before .before .before .before .before .before .before .before .before .pre .1 .2 .reads)) _ _ _ (parted-as _ _ (c .before .before .before .before .before .before .before .list .given .1) (c .before .before .before .before .before .before .before .before .before .parts-at .ensures ((c .before .before .before .before .before .before .before .before .before .before .loop .inv .0 (c .before .before .before .before .before .before .before .before .before .before .before .before .before .before .pre .1 .2 .code) (c .before .before .before .before .before .before .before .before .before .before .before .before .before .before .pre .1 .2 .reads)) .rest) ((c .before .before .before .before .before .before .before .before .before .before .loop .inv .0 (c .before .before .before .before .before .before .before .before .before .before .before .before .before .before .pre .1 .2 .code) (c .before .before .before .before .before .before .before .before .before .before .before .before .before .before .pre .1 .2 .reads)) .reads))) in omega (arith, c .number2 .ensures, w .below-64, w .within, c .before .before .before .before .before .before .before .before .before .before .before .before .before .before .pre .1 .0)
+
+link-list-put-link-requires-2 : (t : ℕ) → link-list-lts.Need-put-link-requires-2 (inner t) (link-list-at t) link-list.Post link-list-Inv-loop link-list-μ-loop
+link-list-put-link-requires-2 t c κs = let w = turn-closure _ _ _ _ _ _ _ _ _ _ _ _ (c .before .before .before .before .before .before .before .before .before .before .loop .inv .0 (c .before .before .before .before .before .before .before .before .before .before .before .before .before .before .pre .1 .2 .code) (c .before .before .before .before .before .before .before .before .before .before .before .before .before .before .pre .1 .2 .reads)) _ _ _ (parted-as _ _ (c .before .before .before .before .before .before .before .list .given .1) (c .before .before .before .before .before .before .before .before .before .parts-at .ensures ((c .before .before .before .before .before .before .before .before .before .before .loop .inv .0 (c .before .before .before .before .before .before .before .before .before .before .before .before .before .before .pre .1 .2 .code) (c .before .before .before .before .before .before .before .before .before .before .before .before .before .before .pre .1 .2 .reads)) .rest) ((c .before .before .before .before .before .before .before .before .before .before .loop .inv .0 (c .before .before .before .before .before .before .before .before .before .before .before .before .before .before .pre .1 .2 .code) (c .before .before .before .before .before .before .before .before .before .before .before .before .before .before .pre .1 .2 .reads)) .reads))) in omega (arith, c .number2 .ensures, w .below-64, w .within, c .before .before .before .before .before .before .before .before .before .before .before .before .before .before .pre .1 .0)
+
+link-list-add-link-list : (t : ℕ) → link-list-lts.Need-add-link-list (inner t) (link-list-at t) link-list.Post link-list-Inv-loop link-list-μ-loop
+link-list-add-link-list t c = let w = turn-closure _ _ _ _ _ _ _ _ _ _ _ _ (c .before .before .before .before .before .before .before .before .before .before .before .before .before .before .before .loop .inv .0 (c .before .before .before .before .before .before .before .before .before .before .before .before .before .before .before .before .before .before .before .pre .1 .2 .code) (c .before .before .before .before .before .before .before .before .before .before .before .before .before .before .before .before .before .before .before .pre .1 .2 .reads)) _ _ _ (parted-as _ _ (c .before .before .before .before .before .before .before .before .before .before .before .before .list .given .1) (c .before .before .before .before .before .before .before .before .before .before .before .before .before .before .parts-at .ensures ((c .before .before .before .before .before .before .before .before .before .before .before .before .before .before .before .loop .inv .0 (c .before .before .before .before .before .before .before .before .before .before .before .before .before .before .before .before .before .before .before .pre .1 .2 .code) (c .before .before .before .before .before .before .before .before .before .before .before .before .before .before .before .before .before .before .before .pre .1 .2 .reads)) .rest) ((c .before .before .before .before .before .before .before .before .before .before .before .before .before .before .before .loop .inv .0 (c .before .before .before .before .before .before .before .before .before .before .before .before .before .before .before .before .before .before .before .pre .1 .2 .code) (c .before .before .before .before .before .before .before .before .before .before .before .before .before .before .before .before .before .before .before .pre .1 .2 .reads)) .reads))) in omega (arith, w .below-64)
+
+link-list-link-list-requires : (t : ℕ) → link-list-lts.Need-link-list-requires (inner t) (link-list-at t) link-list.Post link-list-Inv-loop link-list-μ-loop
+link-list-link-list-requires t c κs = let w = turn-closure _ _ _ _ _ _ _ _ _ _ _ _ (c .before .before .before .before .before .before .before .before .before .before .before .before .before .before .before .loop .inv .0 (c .before .before .before .before .before .before .before .before .before .before .before .before .before .before .before .before .before .before .before .pre .1 .2 .code) (c .before .before .before .before .before .before .before .before .before .before .before .before .before .before .before .before .before .before .before .pre .1 .2 .reads)) _ _ _ (parted-as _ _ (c .before .before .before .before .before .before .before .before .before .before .before .before .list .given .1) (c .before .before .before .before .before .before .before .before .before .before .before .before .before .before .parts-at .ensures ((c .before .before .before .before .before .before .before .before .before .before .before .before .before .before .before .loop .inv .0 (c .before .before .before .before .before .before .before .before .before .before .before .before .before .before .before .before .before .before .before .pre .1 .2 .code) (c .before .before .before .before .before .before .before .before .before .before .before .before .before .before .before .before .before .before .before .pre .1 .2 .reads)) .rest) ((c .before .before .before .before .before .before .before .before .before .before .before .before .before .before .before .loop .inv .0 (c .before .before .before .before .before .before .before .before .before .before .before .before .before .before .before .before .before .before .before .pre .1 .2 .code) (c .before .before .before .before .before .before .before .before .before .before .before .before .before .before .before .before .before .before .before .pre .1 .2 .reads)) .reads))) in (omega (arith, w .on, w .past, w .within, c .before .before .before .before .before .before .before .before .before .before .before .before .before .before .before .before .before .before .before .pre .1 .0, c .before .before .before .before .before .before .before .before .before .before .before .before .before .before .before .loop .inv .4, c .before .before .before .before .before .before .before .before .before .before .before .before .before .before .before .before .before .before .before .pre .0), (c .before .before .before .before .before .before .before .before .before .before .before .before .before .before .before .before .before .before .before .pre .1 .0, omega arith, w .fresh))
+
+link-list-add-number : (t : ℕ) → link-list-lts.Need-add-number (inner t) (link-list-at t) link-list.Post link-list-Inv-loop link-list-μ-loop
+link-list-add-number t c = let w = turn-closure _ _ _ _ _ _ _ _ _ _ _ _ (c .before .before .before .before .before .before .before .before .before .before .before .before .before .before .before .before .before .before .before .before .loop .inv .0 (c .before .before .before .before .before .before .before .before .before .before .before .before .before .before .before .before .before .before .before .before .before .before .before .before .pre .1 .2 .code) (c .before .before .before .before .before .before .before .before .before .before .before .before .before .before .before .before .before .before .before .before .before .before .before .before .pre .1 .2 .reads)) _ _ _ (parted-as _ _ (c .before .before .before .before .before .before .before .before .before .before .before .before .before .before .before .before .before .list .given .1) (c .before .before .before .before .before .before .before .before .before .before .before .before .before .before .before .before .before .before .before .parts-at .ensures ((c .before .before .before .before .before .before .before .before .before .before .before .before .before .before .before .before .before .before .before .before .loop .inv .0 (c .before .before .before .before .before .before .before .before .before .before .before .before .before .before .before .before .before .before .before .before .before .before .before .before .pre .1 .2 .code) (c .before .before .before .before .before .before .before .before .before .before .before .before .before .before .before .before .before .before .before .before .before .before .before .before .pre .1 .2 .reads)) .rest) ((c .before .before .before .before .before .before .before .before .before .before .before .before .before .before .before .before .before .before .before .before .loop .inv .0 (c .before .before .before .before .before .before .before .before .before .before .before .before .before .before .before .before .before .before .before .before .before .before .before .before .pre .1 .2 .code) (c .before .before .before .before .before .before .before .before .before .before .before .before .before .before .before .before .before .before .before .before .before .before .before .before .pre .1 .2 .reads)) .reads))) in omega (arith, w .below-64)
+
+link-list-add-number-2 : (t : ℕ) → link-list-lts.Need-add-number-2 (inner t) (link-list-at t) link-list.Post link-list-Inv-loop link-list-μ-loop
+link-list-add-number-2 t c = let w = turn-closure _ _ _ _ _ _ _ _ _ _ _ _ (c .before .before .before .before .before .before .before .before .before .before .before .before .before .before .before .before .before .before .before .before .loop .inv .0 (c .before .before .before .before .before .before .before .before .before .before .before .before .before .before .before .before .before .before .before .before .before .before .before .before .pre .1 .2 .code) (c .before .before .before .before .before .before .before .before .before .before .before .before .before .before .before .before .before .before .before .before .before .before .before .before .pre .1 .2 .reads)) _ _ _ (parted-as _ _ (c .before .before .before .before .before .before .before .before .before .before .before .before .before .before .before .before .before .list .given .1) (c .before .before .before .before .before .before .before .before .before .before .before .before .before .before .before .before .before .before .before .parts-at .ensures ((c .before .before .before .before .before .before .before .before .before .before .before .before .before .before .before .before .before .before .before .before .loop .inv .0 (c .before .before .before .before .before .before .before .before .before .before .before .before .before .before .before .before .before .before .before .before .before .before .before .before .pre .1 .2 .code) (c .before .before .before .before .before .before .before .before .before .before .before .before .before .before .before .before .before .before .before .before .before .before .before .before .pre .1 .2 .reads)) .rest) ((c .before .before .before .before .before .before .before .before .before .before .before .before .before .before .before .before .before .before .before .before .loop .inv .0 (c .before .before .before .before .before .before .before .before .before .before .before .before .before .before .before .before .before .before .before .before .before .before .before .before .pre .1 .2 .code) (c .before .before .before .before .before .before .before .before .before .before .before .before .before .before .before .before .before .before .before .before .before .before .before .before .pre .1 .2 .reads)) .reads))) in omega (arith, w .below-64)
+
+link-list-loop-less-2 : (t : ℕ) → link-list-lts.Need-loop-less-2 (inner t) (link-list-at t) link-list.Post link-list-Inv-loop link-list-μ-loop
+link-list-loop-less-2 t c = let w = turn-closure _ _ _ _ _ _ _ _ _ _ _ _ (c .before .before .before .before .before .before .before .before .before .before .before .before .before .before .before .before .before .before .before .before .loop .inv .0 (c .before .before .before .before .before .before .before .before .before .before .before .before .before .before .before .before .before .before .before .before .before .before .before .before .pre .1 .2 .code) (c .before .before .before .before .before .before .before .before .before .before .before .before .before .before .before .before .before .before .before .before .before .before .before .before .pre .1 .2 .reads)) _ _ _ (parted-as _ _ (c .before .before .before .before .before .before .before .before .before .before .before .before .before .before .before .before .before .list .given .1) (c .before .before .before .before .before .before .before .before .before .before .before .before .before .before .before .before .before .before .before .parts-at .ensures ((c .before .before .before .before .before .before .before .before .before .before .before .before .before .before .before .before .before .before .before .before .loop .inv .0 (c .before .before .before .before .before .before .before .before .before .before .before .before .before .before .before .before .before .before .before .before .before .before .before .before .pre .1 .2 .code) (c .before .before .before .before .before .before .before .before .before .before .before .before .before .before .before .before .before .before .before .before .before .before .before .before .pre .1 .2 .reads)) .rest) ((c .before .before .before .before .before .before .before .before .before .before .before .before .before .before .before .before .before .before .before .before .loop .inv .0 (c .before .before .before .before .before .before .before .before .before .before .before .before .before .before .before .before .before .before .before .before .before .before .before .before .pre .1 .2 .code) (c .before .before .before .before .before .before .before .before .before .before .before .before .before .before .before .before .before .before .before .before .before .before .before .before .pre .1 .2 .reads)) .reads))) in omega (arith, w .past, w .within)
+
+link-list-loop-again-2 : (t : ℕ) → link-list-lts.Need-loop-again-2 (inner t) (link-list-at t) link-list.Post link-list-Inv-loop link-list-μ-loop
+link-list-loop-again-2 t c = let w = turn-closure _ _ _ _ _ _ _ _ _ _ _ _ (c .before .before .before .before .before .before .before .before .before .before .before .before .before .before .before .before .before .before .before .before .loop .inv .0 (c .before .before .before .before .before .before .before .before .before .before .before .before .before .before .before .before .before .before .before .before .before .before .before .before .pre .1 .2 .code) (c .before .before .before .before .before .before .before .before .before .before .before .before .before .before .before .before .before .before .before .before .before .before .before .before .pre .1 .2 .reads)) _ _ _ (parted-as _ _ (c .before .before .before .before .before .before .before .before .before .before .before .before .before .before .before .before .before .list .given .1) (c .before .before .before .before .before .before .before .before .before .before .before .before .before .before .before .before .before .before .before .parts-at .ensures ((c .before .before .before .before .before .before .before .before .before .before .before .before .before .before .before .before .before .before .before .before .loop .inv .0 (c .before .before .before .before .before .before .before .before .before .before .before .before .before .before .before .before .before .before .before .before .before .before .before .before .pre .1 .2 .code) (c .before .before .before .before .before .before .before .before .before .before .before .before .before .before .before .before .before .before .before .before .before .before .before .before .pre .1 .2 .reads)) .rest) ((c .before .before .before .before .before .before .before .before .before .before .before .before .before .before .before .before .before .before .before .before .loop .inv .0 (c .before .before .before .before .before .before .before .before .before .before .before .before .before .before .before .before .before .before .before .before .before .before .before .before .pre .1 .2 .code) (c .before .before .before .before .before .before .before .before .before .before .before .before .before .before .before .before .before .before .before .before .before .before .before .before .pre .1 .2 .reads)) .reads))) in ((λ d h. turn-closure _ _ _ _ _ _ _ _ _ _ _ _ (c .before .before .before .before .before .before .before .before .before .before .before .before .before .before .before .before .before .before .before .before .loop .inv .0 d h) _ _ _ (parted-as _ _ (c .before .before .before .before .before .before .before .before .before .before .before .before .before .before .before .before .before .list .given .1) (c .before .before .before .before .before .before .before .before .before .before .before .before .before .before .before .before .before .before .before .parts-at .ensures ((c .before .before .before .before .before .before .before .before .before .before .before .before .before .before .before .before .before .before .before .before .loop .inv .0 d h) .rest) ((c .before .before .before .before .before .before .before .before .before .before .before .before .before .before .before .before .before .before .before .before .loop .inv .0 d h) .reads))) .left _ _ _ _ (c .before .before .before .before .before .before .before .before .before .put-link2 .ensures ∙ ap (λ n. link (c .before .before .before .before .before .before .before .before .before .before .before .before .before .before .before .before .before .before .before .before .loop .links) (c .before .before .before .before .before .before .before .before .before .before .before .before .before .before .before .before .before .before .before .before .loop .here .0) (64 * n + c .before .before .before .before .before .before .before .before .before .before .before .before .before .before .before .before .before .before .before .before .loop .number)) (c .before .before .before .before .before .before .before .before .before .before .number2 .ensures)) (c .before .before .before .before .before .before .before .before .before .before .before .before .before .before .put-start .ensures) (c .before .before .before .before .link-list .ensures)), search needs, search needs, c .before .before .before .before .before .before .before .before .before .before .before .before .before .before .before .before .before .before .before .before .loop .inv .3, omega (arith, w .past, c .before .before .before .before .before .before .before .before .before .before .before .before .before .before .before .before .before .before .before .before .loop .inv .4))
+
+link-list-enum-known-arm : (t : ℕ) → link-list-lts.Need-enum-known-arm (inner t) (link-list-at t) link-list.Post link-list-Inv-loop link-list-μ-loop
+link-list-enum-known-arm t c = search needs
+
+link-list-follow-of-requires : (t : ℕ) → link-list-lts.Need-follow-of-requires (inner t) (link-list-at t) link-list.Post link-list-Inv-loop link-list-μ-loop
+link-list-follow-of-requires t c κs = search needs
+
+link-list-number-requires-3 : (t : ℕ) → link-list-lts.Need-number-requires-3 (inner t) (link-list-at t) link-list.Post link-list-Inv-loop link-list-μ-loop
+link-list-number-requires-3 t c κs = search needs
+
+link-list-put-link-requires-3 : (t : ℕ) → link-list-lts.Need-put-link-requires-3 (inner t) (link-list-at t) link-list.Post link-list-Inv-loop link-list-μ-loop
+link-list-put-link-requires-3 t c κs = let w = turn-arms _ _ _ _ _ _ _ _ _ _ _ _ (c .before .before .before .before .before .before .before .loop .inv .0 (c .before .before .before .before .before .before .before .before .before .before .before .pre .1 .2 .code) (c .before .before .before .before .before .before .before .before .before .before .before .pre .1 .2 .reads)) _ _ _ _ _ (parted-as _ _ (c .before .before .before .before .arm .given .1) (c .before .before .before .before .before .before .parts-at .ensures ((c .before .before .before .before .before .before .before .loop .inv .0 (c .before .before .before .before .before .before .before .before .before .before .before .pre .1 .2 .code) (c .before .before .before .before .before .before .before .before .before .before .before .pre .1 .2 .reads)) .rest) ((c .before .before .before .before .before .before .before .loop .inv .0 (c .before .before .before .before .before .before .before .before .before .before .before .pre .1 .2 .code) (c .before .before .before .before .before .before .before .before .before .before .before .pre .1 .2 .reads)) .reads))) in omega (arith, c .number3 .ensures, w .short, w .within, c .before .before .before .before .before .before .before .before .before .before .before .pre .1 .0)
+
+link-list-link-list-requires-2 : (t : ℕ) → link-list-lts.Need-link-list-requires-2 (inner t) (link-list-at t) link-list.Post link-list-Inv-loop link-list-μ-loop
+link-list-link-list-requires-2 t c κs = let w = turn-arms _ _ _ _ _ _ _ _ _ _ _ _ (c .before .before .before .before .before .before .before .before .before .before .before .before .loop .inv .0 (c .before .before .before .before .before .before .before .before .before .before .before .before .before .before .before .before .pre .1 .2 .code) (c .before .before .before .before .before .before .before .before .before .before .before .before .before .before .before .before .pre .1 .2 .reads)) _ _ _ _ _ (parted-as _ _ (c .before .before .before .before .before .before .before .before .before .arm .given .1) (c .before .before .before .before .before .before .before .before .before .before .before .parts-at .ensures ((c .before .before .before .before .before .before .before .before .before .before .before .before .loop .inv .0 (c .before .before .before .before .before .before .before .before .before .before .before .before .before .before .before .before .pre .1 .2 .code) (c .before .before .before .before .before .before .before .before .before .before .before .before .before .before .before .before .pre .1 .2 .reads)) .rest) ((c .before .before .before .before .before .before .before .before .before .before .before .before .loop .inv .0 (c .before .before .before .before .before .before .before .before .before .before .before .before .before .before .before .before .pre .1 .2 .code) (c .before .before .before .before .before .before .before .before .before .before .before .before .before .before .before .before .pre .1 .2 .reads)) .reads))) in (omega (arith, w .on, w .past, w .within, c .before .before .before .before .before .before .before .before .before .before .before .before .before .before .before .before .pre .1 .0, c .before .before .before .before .before .before .before .before .before .before .before .before .loop .inv .4, c .before .before .before .before .before .before .before .before .before .before .before .before .before .before .before .before .pre .0), (c .before .before .before .before .before .before .before .before .before .before .before .before .before .before .before .before .pre .1 .0, w .small _ 524288 (c .before .before .before .before .before .before .before .follow-of .ensures) (c .before .before .before .before .before .before .before .before .before .before .before .before .loop .inv .3) (omega (arith, c .before .before .before .before .before .before .before .before .before .before .before .before .before .before .before .before .pre .1 .0)), w .first-fresh))
+
+link-list-add-link-list-2 : (t : ℕ) → link-list-lts.Need-add-link-list-2 (inner t) (link-list-at t) link-list.Post link-list-Inv-loop link-list-μ-loop
+link-list-add-link-list-2 t c = let w = turn-arms _ _ _ _ _ _ _ _ _ _ _ _ (c .before .before .before .before .before .before .before .before .before .before .before .before .before .before .before .before .before .before .before .loop .inv .0 (c .before .before .before .before .before .before .before .before .before .before .before .before .before .before .before .before .before .before .before .before .before .before .before .pre .1 .2 .code) (c .before .before .before .before .before .before .before .before .before .before .before .before .before .before .before .before .before .before .before .before .before .before .before .pre .1 .2 .reads)) _ _ _ _ _ (parted-as _ _ (c .before .before .before .before .before .before .before .before .before .before .before .before .before .before .before .before .arm .given .1) (c .before .before .before .before .before .before .before .before .before .before .before .before .before .before .before .before .before .before .parts-at .ensures ((c .before .before .before .before .before .before .before .before .before .before .before .before .before .before .before .before .before .before .before .loop .inv .0 (c .before .before .before .before .before .before .before .before .before .before .before .before .before .before .before .before .before .before .before .before .before .before .before .pre .1 .2 .code) (c .before .before .before .before .before .before .before .before .before .before .before .before .before .before .before .before .before .before .before .before .before .before .before .pre .1 .2 .reads)) .rest) ((c .before .before .before .before .before .before .before .before .before .before .before .before .before .before .before .before .before .before .before .loop .inv .0 (c .before .before .before .before .before .before .before .before .before .before .before .before .before .before .before .before .before .before .before .before .before .before .before .pre .1 .2 .code) (c .before .before .before .before .before .before .before .before .before .before .before .before .before .before .before .before .before .before .before .before .before .before .before .pre .1 .2 .reads)) .reads))) in omega (arith, w .below-64)
+
+link-list-link-list-requires-3 : (t : ℕ) → link-list-lts.Need-link-list-requires-3 (inner t) (link-list-at t) link-list.Post link-list-Inv-loop link-list-μ-loop
+link-list-link-list-requires-3 t c κs = let w = turn-arms _ _ _ _ _ _ _ _ _ _ _ _ (c .before .before .before .before .before .before .before .before .before .before .before .before .before .before .before .before .before .before .before .loop .inv .0 (c .before .before .before .before .before .before .before .before .before .before .before .before .before .before .before .before .before .before .before .before .before .before .before .pre .1 .2 .code) (c .before .before .before .before .before .before .before .before .before .before .before .before .before .before .before .before .before .before .before .before .before .before .before .pre .1 .2 .reads)) _ _ _ _ _ (parted-as _ _ (c .before .before .before .before .before .before .before .before .before .before .before .before .before .before .before .before .arm .given .1) (c .before .before .before .before .before .before .before .before .before .before .before .before .before .before .before .before .before .before .parts-at .ensures ((c .before .before .before .before .before .before .before .before .before .before .before .before .before .before .before .before .before .before .before .loop .inv .0 (c .before .before .before .before .before .before .before .before .before .before .before .before .before .before .before .before .before .before .before .before .before .before .before .pre .1 .2 .code) (c .before .before .before .before .before .before .before .before .before .before .before .before .before .before .before .before .before .before .before .before .before .before .before .pre .1 .2 .reads)) .rest) ((c .before .before .before .before .before .before .before .before .before .before .before .before .before .before .before .before .before .before .before .loop .inv .0 (c .before .before .before .before .before .before .before .before .before .before .before .before .before .before .before .before .before .before .before .before .before .before .before .pre .1 .2 .code) (c .before .before .before .before .before .before .before .before .before .before .before .before .before .before .before .before .before .before .before .before .before .before .before .pre .1 .2 .reads)) .reads))) in (omega (arith, w .middle, w .past, w .within, c .before .before .before .before .before .before .before .before .before .before .before .before .before .before .before .before .before .before .before .before .before .before .before .pre .1 .0, c .before .before .before .before .before .before .before .before .before .before .before .before .before .before .before .before .before .before .before .loop .inv .4, c .before .before .before .before .before .before .before .before .before .before .before .before .before .before .before .before .before .before .before .before .before .before .before .pre .0), (c .before .before .before .before .before .before .before .before .before .before .before .before .before .before .before .before .before .before .before .before .before .before .before .pre .1 .0, w .small _ 524288 (c .before .before .before .before .before .before .before .before .before .before .before .before .before .before .follow-of .ensures) (c .before .before .before .before .before .before .before .before .before .before .before .before .before .before .before .before .before .before .before .loop .inv .3) (omega (arith, c .before .before .before .before .before .before .before .before .before .before .before .before .before .before .before .before .before .before .before .before .before .before .before .pre .1 .0)), w .second-fresh))
+
+link-list-add-number-3 : (t : ℕ) → link-list-lts.Need-add-number-3 (inner t) (link-list-at t) link-list.Post link-list-Inv-loop link-list-μ-loop
+link-list-add-number-3 t c = let w = turn-arms _ _ _ _ _ _ _ _ _ _ _ _ (c .before .before .before .before .before .before .before .before .before .before .before .before .before .before .before .before .before .before .before .before .before .before .before .before .loop .inv .0 (c .before .before .before .before .before .before .before .before .before .before .before .before .before .before .before .before .before .before .before .before .before .before .before .before .before .before .before .before .pre .1 .2 .code) (c .before .before .before .before .before .before .before .before .before .before .before .before .before .before .before .before .before .before .before .before .before .before .before .before .before .before .before .before .pre .1 .2 .reads)) _ _ _ _ _ (parted-as _ _ (c .before .before .before .before .before .before .before .before .before .before .before .before .before .before .before .before .before .before .before .before .before .arm .given .1) (c .before .before .before .before .before .before .before .before .before .before .before .before .before .before .before .before .before .before .before .before .before .before .before .parts-at .ensures ((c .before .before .before .before .before .before .before .before .before .before .before .before .before .before .before .before .before .before .before .before .before .before .before .before .loop .inv .0 (c .before .before .before .before .before .before .before .before .before .before .before .before .before .before .before .before .before .before .before .before .before .before .before .before .before .before .before .before .pre .1 .2 .code) (c .before .before .before .before .before .before .before .before .before .before .before .before .before .before .before .before .before .before .before .before .before .before .before .before .before .before .before .before .pre .1 .2 .reads)) .rest) ((c .before .before .before .before .before .before .before .before .before .before .before .before .before .before .before .before .before .before .before .before .before .before .before .before .loop .inv .0 (c .before .before .before .before .before .before .before .before .before .before .before .before .before .before .before .before .before .before .before .before .before .before .before .before .before .before .before .before .pre .1 .2 .code) (c .before .before .before .before .before .before .before .before .before .before .before .before .before .before .before .before .before .before .before .before .before .before .before .before .before .before .before .before .pre .1 .2 .reads)) .reads))) in omega (arith, w .below-64)
+
+link-list-add-number-4 : (t : ℕ) → link-list-lts.Need-add-number-4 (inner t) (link-list-at t) link-list.Post link-list-Inv-loop link-list-μ-loop
+link-list-add-number-4 t c = let w = turn-arms _ _ _ _ _ _ _ _ _ _ _ _ (c .before .before .before .before .before .before .before .before .before .before .before .before .before .before .before .before .before .before .before .before .before .before .before .before .loop .inv .0 (c .before .before .before .before .before .before .before .before .before .before .before .before .before .before .before .before .before .before .before .before .before .before .before .before .before .before .before .before .pre .1 .2 .code) (c .before .before .before .before .before .before .before .before .before .before .before .before .before .before .before .before .before .before .before .before .before .before .before .before .before .before .before .before .pre .1 .2 .reads)) _ _ _ _ _ (parted-as _ _ (c .before .before .before .before .before .before .before .before .before .before .before .before .before .before .before .before .before .before .before .before .before .arm .given .1) (c .before .before .before .before .before .before .before .before .before .before .before .before .before .before .before .before .before .before .before .before .before .before .before .parts-at .ensures ((c .before .before .before .before .before .before .before .before .before .before .before .before .before .before .before .before .before .before .before .before .before .before .before .before .loop .inv .0 (c .before .before .before .before .before .before .before .before .before .before .before .before .before .before .before .before .before .before .before .before .before .before .before .before .before .before .before .before .pre .1 .2 .code) (c .before .before .before .before .before .before .before .before .before .before .before .before .before .before .before .before .before .before .before .before .before .before .before .before .before .before .before .before .pre .1 .2 .reads)) .rest) ((c .before .before .before .before .before .before .before .before .before .before .before .before .before .before .before .before .before .before .before .before .before .before .before .before .loop .inv .0 (c .before .before .before .before .before .before .before .before .before .before .before .before .before .before .before .before .before .before .before .before .before .before .before .before .before .before .before .before .pre .1 .2 .code) (c .before .before .before .before .before .before .before .before .before .before .before .before .before .before .before .before .before .before .before .before .before .before .before .before .before .before .before .before .pre .1 .2 .reads)) .reads))) in omega (arith, w .below-64)
+
+link-list-loop-less-3 : (t : ℕ) → link-list-lts.Need-loop-less-3 (inner t) (link-list-at t) link-list.Post link-list-Inv-loop link-list-μ-loop
+link-list-loop-less-3 t c = let w = turn-arms _ _ _ _ _ _ _ _ _ _ _ _ (c .before .before .before .before .before .before .before .before .before .before .before .before .before .before .before .before .before .before .before .before .before .before .before .before .loop .inv .0 (c .before .before .before .before .before .before .before .before .before .before .before .before .before .before .before .before .before .before .before .before .before .before .before .before .before .before .before .before .pre .1 .2 .code) (c .before .before .before .before .before .before .before .before .before .before .before .before .before .before .before .before .before .before .before .before .before .before .before .before .before .before .before .before .pre .1 .2 .reads)) _ _ _ _ _ (parted-as _ _ (c .before .before .before .before .before .before .before .before .before .before .before .before .before .before .before .before .before .before .before .before .before .arm .given .1) (c .before .before .before .before .before .before .before .before .before .before .before .before .before .before .before .before .before .before .before .before .before .before .before .parts-at .ensures ((c .before .before .before .before .before .before .before .before .before .before .before .before .before .before .before .before .before .before .before .before .before .before .before .before .loop .inv .0 (c .before .before .before .before .before .before .before .before .before .before .before .before .before .before .before .before .before .before .before .before .before .before .before .before .before .before .before .before .pre .1 .2 .code) (c .before .before .before .before .before .before .before .before .before .before .before .before .before .before .before .before .before .before .before .before .before .before .before .before .before .before .before .before .pre .1 .2 .reads)) .rest) ((c .before .before .before .before .before .before .before .before .before .before .before .before .before .before .before .before .before .before .before .before .before .before .before .before .loop .inv .0 (c .before .before .before .before .before .before .before .before .before .before .before .before .before .before .before .before .before .before .before .before .before .before .before .before .before .before .before .before .pre .1 .2 .code) (c .before .before .before .before .before .before .before .before .before .before .before .before .before .before .before .before .before .before .before .before .before .before .before .before .before .before .before .before .pre .1 .2 .reads)) .reads))) in omega (arith, w .past, w .within)
+
+link-list-loop-again-3 : (t : ℕ) → link-list-lts.Need-loop-again-3 (inner t) (link-list-at t) link-list.Post link-list-Inv-loop link-list-μ-loop
+link-list-loop-again-3 t c = let w = turn-arms _ _ _ _ _ _ _ _ _ _ _ _ (c .before .before .before .before .before .before .before .before .before .before .before .before .before .before .before .before .before .before .before .before .before .before .before .before .loop .inv .0 (c .before .before .before .before .before .before .before .before .before .before .before .before .before .before .before .before .before .before .before .before .before .before .before .before .before .before .before .before .pre .1 .2 .code) (c .before .before .before .before .before .before .before .before .before .before .before .before .before .before .before .before .before .before .before .before .before .before .before .before .before .before .before .before .pre .1 .2 .reads)) _ _ _ _ _ (parted-as _ _ (c .before .before .before .before .before .before .before .before .before .before .before .before .before .before .before .before .before .before .before .before .before .arm .given .1) (c .before .before .before .before .before .before .before .before .before .before .before .before .before .before .before .before .before .before .before .before .before .before .before .parts-at .ensures ((c .before .before .before .before .before .before .before .before .before .before .before .before .before .before .before .before .before .before .before .before .before .before .before .before .loop .inv .0 (c .before .before .before .before .before .before .before .before .before .before .before .before .before .before .before .before .before .before .before .before .before .before .before .before .before .before .before .before .pre .1 .2 .code) (c .before .before .before .before .before .before .before .before .before .before .before .before .before .before .before .before .before .before .before .before .before .before .before .before .before .before .before .before .pre .1 .2 .reads)) .rest) ((c .before .before .before .before .before .before .before .before .before .before .before .before .before .before .before .before .before .before .before .before .before .before .before .before .loop .inv .0 (c .before .before .before .before .before .before .before .before .before .before .before .before .before .before .before .before .before .before .before .before .before .before .before .before .before .before .before .before .pre .1 .2 .code) (c .before .before .before .before .before .before .before .before .before .before .before .before .before .before .before .before .before .before .before .before .before .before .before .before .before .before .before .before .pre .1 .2 .reads)) .reads))) in ((λ d h. turn-arms _ _ _ _ _ _ _ _ _ _ _ _ (c .before .before .before .before .before .before .before .before .before .before .before .before .before .before .before .before .before .before .before .before .before .before .before .before .loop .inv .0 d h) _ _ _ _ _ (parted-as _ _ (c .before .before .before .before .before .before .before .before .before .before .before .before .before .before .before .before .before .before .before .before .before .arm .given .1) (c .before .before .before .before .before .before .before .before .before .before .before .before .before .before .before .before .before .before .before .before .before .before .before .parts-at .ensures ((c .before .before .before .before .before .before .before .before .before .before .before .before .before .before .before .before .before .before .before .before .before .before .before .before .loop .inv .0 d h) .rest) ((c .before .before .before .before .before .before .before .before .before .before .before .before .before .before .before .before .before .before .before .before .before .before .before .before .loop .inv .0 d h) .reads))) .left _ (c .before .before .before .before .before .before .before .before .before .before .before .before .before .before .before .before .before .before .before .follow-of .ensures) _ _ _ _ _ (c .before .before .before .before .before .before .before .before .before .before .before .before .before .before .before .before .put-link3 .ensures ∙ ap (λ n. link (c .before .before .before .before .before .before .before .before .before .before .before .before .before .before .before .before .before .before .before .before .before .before .before .before .loop .links) (c .before .before .before .before .before .before .before .before .before .before .before .before .before .before .before .before .before .before .before .before .before .before .before .before .loop .here .0) n) (c .before .before .before .before .before .before .before .before .before .before .before .before .before .before .before .before .before .number3 .ensures)) (c .before .before .before .before .before .before .before .before .before .before .before .link-list2 .ensures) (c .before .before .before .before .link-list3 .ensures)), c .before .before .before .before .link-list3 .kept .1 .0 ∙ c .before .before .before .before .before .before .before .before .before .before .before .link-list2 .kept .1 .0 ∙ c .before .before .before .before .before .before .before .before .before .before .before .before .before .before .before .before .put-link3 .kept .0 ∙ c .before .before .before .before .before .before .before .before .before .before .before .before .before .before .before .before .before .before .before .before .before .before .before .before .loop .inv .1, c .before .before .before .before .link-list3 .kept .1 .1 .0 ∙ c .before .before .before .before .before .before .before .before .before .before .before .link-list2 .kept .1 .1 .0 ∙ c .before .before .before .before .before .before .before .before .before .before .before .before .before .before .before .before .before .before .before .before .before .before .before .before .loop .inv .2, c .before .before .before .before .before .before .before .before .before .before .before .before .before .before .before .before .before .before .before .before .before .before .before .before .loop .inv .3, omega (arith, w .past, c .before .before .before .before .before .before .before .before .before .before .before .before .before .before .before .before .before .before .before .before .before .before .before .before .loop .inv .4))
+
+link-list-enum-known-list-2 : (t : ℕ) → link-list-lts.Need-enum-known-list-2 (inner t) (link-list-at t) link-list.Post link-list-Inv-loop link-list-μ-loop
+link-list-enum-known-list-2 t c = search needs
+
+link-list-number-requires-4 : (t : ℕ) → link-list-lts.Need-number-requires-4 (inner t) (link-list-at t) link-list.Post link-list-Inv-loop link-list-μ-loop
+link-list-number-requires-4 t c κs = search needs
+
+link-list-put-link-requires-4 : (t : ℕ) → link-list-lts.Need-put-link-requires-4 (inner t) (link-list-at t) link-list.Post link-list-Inv-loop link-list-μ-loop
+link-list-put-link-requires-4 t c κs = let w = turn-saved _ _ _ _ _ _ _ _ _ _ _ _ (c .before .before .before .before .before .before .loop .inv .0 (c .before .before .before .before .before .before .before .before .before .before .pre .1 .2 .code) (c .before .before .before .before .before .before .before .before .before .before .pre .1 .2 .reads)) _ _ _ (parted-as _ _ (c .before .before .before .list2 .given .1) (c .before .before .before .before .before .parts-at .ensures ((c .before .before .before .before .before .before .loop .inv .0 (c .before .before .before .before .before .before .before .before .before .before .pre .1 .2 .code) (c .before .before .before .before .before .before .before .before .before .before .pre .1 .2 .reads)) .rest) ((c .before .before .before .before .before .before .loop .inv .0 (c .before .before .before .before .before .before .before .before .before .before .pre .1 .2 .code) (c .before .before .before .before .before .before .before .before .before .before .pre .1 .2 .reads)) .reads))) in omega (arith, c .number4 .ensures, w .within, c .before .before .before .before .before .before .before .before .before .before .pre .1 .0)
+
+link-list-link-list-requires-4 : (t : ℕ) → link-list-lts.Need-link-list-requires-4 (inner t) (link-list-at t) link-list.Post link-list-Inv-loop link-list-μ-loop
+link-list-link-list-requires-4 t c κs = let w = turn-saved _ _ _ _ _ _ _ _ _ _ _ _ (c .before .before .before .before .before .before .before .before .before .before .before .loop .inv .0 (c .before .before .before .before .before .before .before .before .before .before .before .before .before .before .before .pre .1 .2 .code) (c .before .before .before .before .before .before .before .before .before .before .before .before .before .before .before .pre .1 .2 .reads)) _ _ _ (parted-as _ _ (c .before .before .before .before .before .before .before .before .list2 .given .1) (c .before .before .before .before .before .before .before .before .before .before .parts-at .ensures ((c .before .before .before .before .before .before .before .before .before .before .before .loop .inv .0 (c .before .before .before .before .before .before .before .before .before .before .before .before .before .before .before .pre .1 .2 .code) (c .before .before .before .before .before .before .before .before .before .before .before .before .before .before .before .pre .1 .2 .reads)) .rest) ((c .before .before .before .before .before .before .before .before .before .before .before .loop .inv .0 (c .before .before .before .before .before .before .before .before .before .before .before .before .before .before .before .pre .1 .2 .code) (c .before .before .before .before .before .before .before .before .before .before .before .before .before .before .before .pre .1 .2 .reads)) .reads))) in (omega (arith, w .on, w .past, w .within, c .before .before .before .before .before .before .before .before .before .before .before .before .before .before .before .pre .1 .0, c .before .before .before .before .before .before .before .before .before .before .before .loop .inv .4, c .before .before .before .before .before .before .before .before .before .before .before .before .before .before .before .pre .0), (c .before .before .before .before .before .before .before .before .before .before .before .before .before .before .before .pre .1 .0, c .before .before .before .before .before .before .before .before .before .before .before .loop .inv .3, w .fresh))
+
+link-list-add-number-5 : (t : ℕ) → link-list-lts.Need-add-number-5 (inner t) (link-list-at t) link-list.Post link-list-Inv-loop link-list-μ-loop
+link-list-add-number-5 t c = let w = turn-saved _ _ _ _ _ _ _ _ _ _ _ _ (c .before .before .before .before .before .before .before .before .before .before .before .before .before .before .before .before .loop .inv .0 (c .before .before .before .before .before .before .before .before .before .before .before .before .before .before .before .before .before .before .before .before .pre .1 .2 .code) (c .before .before .before .before .before .before .before .before .before .before .before .before .before .before .before .before .before .before .before .before .pre .1 .2 .reads)) _ _ _ (parted-as _ _ (c .before .before .before .before .before .before .before .before .before .before .before .before .before .list2 .given .1) (c .before .before .before .before .before .before .before .before .before .before .before .before .before .before .before .parts-at .ensures ((c .before .before .before .before .before .before .before .before .before .before .before .before .before .before .before .before .loop .inv .0 (c .before .before .before .before .before .before .before .before .before .before .before .before .before .before .before .before .before .before .before .before .pre .1 .2 .code) (c .before .before .before .before .before .before .before .before .before .before .before .before .before .before .before .before .before .before .before .before .pre .1 .2 .reads)) .rest) ((c .before .before .before .before .before .before .before .before .before .before .before .before .before .before .before .before .loop .inv .0 (c .before .before .before .before .before .before .before .before .before .before .before .before .before .before .before .before .before .before .before .before .pre .1 .2 .code) (c .before .before .before .before .before .before .before .before .before .before .before .before .before .before .before .before .before .before .before .before .pre .1 .2 .reads)) .reads))) in omega (arith, w .below-64)
+
+link-list-loop-less-4 : (t : ℕ) → link-list-lts.Need-loop-less-4 (inner t) (link-list-at t) link-list.Post link-list-Inv-loop link-list-μ-loop
+link-list-loop-less-4 t c = let w = turn-saved _ _ _ _ _ _ _ _ _ _ _ _ (c .before .before .before .before .before .before .before .before .before .before .before .before .before .before .before .before .loop .inv .0 (c .before .before .before .before .before .before .before .before .before .before .before .before .before .before .before .before .before .before .before .before .pre .1 .2 .code) (c .before .before .before .before .before .before .before .before .before .before .before .before .before .before .before .before .before .before .before .before .pre .1 .2 .reads)) _ _ _ (parted-as _ _ (c .before .before .before .before .before .before .before .before .before .before .before .before .before .list2 .given .1) (c .before .before .before .before .before .before .before .before .before .before .before .before .before .before .before .parts-at .ensures ((c .before .before .before .before .before .before .before .before .before .before .before .before .before .before .before .before .loop .inv .0 (c .before .before .before .before .before .before .before .before .before .before .before .before .before .before .before .before .before .before .before .before .pre .1 .2 .code) (c .before .before .before .before .before .before .before .before .before .before .before .before .before .before .before .before .before .before .before .before .pre .1 .2 .reads)) .rest) ((c .before .before .before .before .before .before .before .before .before .before .before .before .before .before .before .before .loop .inv .0 (c .before .before .before .before .before .before .before .before .before .before .before .before .before .before .before .before .before .before .before .before .pre .1 .2 .code) (c .before .before .before .before .before .before .before .before .before .before .before .before .before .before .before .before .before .before .before .before .pre .1 .2 .reads)) .reads))) in omega (arith, w .past, w .within)
+
+link-list-loop-again-4 : (t : ℕ) → link-list-lts.Need-loop-again-4 (inner t) (link-list-at t) link-list.Post link-list-Inv-loop link-list-μ-loop
+link-list-loop-again-4 t c = let w = turn-saved _ _ _ _ _ _ _ _ _ _ _ _ (c .before .before .before .before .before .before .before .before .before .before .before .before .before .before .before .before .loop .inv .0 (c .before .before .before .before .before .before .before .before .before .before .before .before .before .before .before .before .before .before .before .before .pre .1 .2 .code) (c .before .before .before .before .before .before .before .before .before .before .before .before .before .before .before .before .before .before .before .before .pre .1 .2 .reads)) _ _ _ (parted-as _ _ (c .before .before .before .before .before .before .before .before .before .before .before .before .before .list2 .given .1) (c .before .before .before .before .before .before .before .before .before .before .before .before .before .before .before .parts-at .ensures ((c .before .before .before .before .before .before .before .before .before .before .before .before .before .before .before .before .loop .inv .0 (c .before .before .before .before .before .before .before .before .before .before .before .before .before .before .before .before .before .before .before .before .pre .1 .2 .code) (c .before .before .before .before .before .before .before .before .before .before .before .before .before .before .before .before .before .before .before .before .pre .1 .2 .reads)) .rest) ((c .before .before .before .before .before .before .before .before .before .before .before .before .before .before .before .before .loop .inv .0 (c .before .before .before .before .before .before .before .before .before .before .before .before .before .before .before .before .before .before .before .before .pre .1 .2 .code) (c .before .before .before .before .before .before .before .before .before .before .before .before .before .before .before .before .before .before .before .before .pre .1 .2 .reads)) .reads))) in ((λ d h. turn-saved _ _ _ _ _ _ _ _ _ _ _ _ (c .before .before .before .before .before .before .before .before .before .before .before .before .before .before .before .before .loop .inv .0 d h) _ _ _ (parted-as _ _ (c .before .before .before .before .before .before .before .before .before .before .before .before .before .list2 .given .1) (c .before .before .before .before .before .before .before .before .before .before .before .before .before .before .before .parts-at .ensures ((c .before .before .before .before .before .before .before .before .before .before .before .before .before .before .before .before .loop .inv .0 d h) .rest) ((c .before .before .before .before .before .before .before .before .before .before .before .before .before .before .before .before .loop .inv .0 d h) .reads))) .left _ _ _ (c .before .before .before .before .before .before .before .before .before .put-link4 .ensures ∙ ap (λ n. link (c .before .before .before .before .before .before .before .before .before .before .before .before .before .before .before .before .loop .links) (c .before .before .before .before .before .before .before .before .before .before .before .before .before .before .before .before .loop .here .0) n) (c .before .before .before .before .before .before .before .before .before .before .number4 .ensures)) (c .before .before .before .before .link-list4 .ensures)), search needs, search needs, omega arith, omega (arith, w .past, c .before .before .before .before .before .before .before .before .before .before .before .before .before .before .before .before .loop .inv .4))
+
+link-list-enum-told-2 : (t : ℕ) → link-list-lts.Need-enum-told-2 (inner t) (link-list-at t) link-list.Post link-list-Inv-loop link-list-μ-loop
+link-list-enum-told-2 t c = search needs
+
+link-list-same-length-3 : (t : ℕ) → link-list-lts.Need-same-length-3 (inner t) (link-list-at t) link-list.Post link-list-Inv-loop link-list-μ-loop
+link-list-same-length-3 t c = search needs
+
+link-list-same-length-4 : (t : ℕ) → link-list-lts.Need-same-length-4 (inner t) (link-list-at t) link-list.Post link-list-Inv-loop link-list-μ-loop
+link-list-same-length-4 t c = search needs
+
+link-list-returns-2 : (t : ℕ) → link-list-lts.Need-returns-2 (inner t) (link-list-at t) link-list.Post link-list-Inv-loop link-list-μ-loop
+link-list-returns-2 t c = λ d h. absurd (turn-bad _ _ _ _ _ _ _ _ _ _ _ _ (c .before .before .before .loop .inv .0 d h) (parted-as _ _ (c .enum-told2 .given .1) (c .before .before .parts-at .ensures ((c .before .before .before .loop .inv .0 d h) .rest) ((c .before .before .before .loop .inv .0 d h) .reads))))
+
+pub +link-list-spec : {M : Type 1} → statement M
++link-list-spec =
+    close μ-link-list (λ t. link-list-lts.spec (inner t) (link-list-at t) link-list.Post link-list-Inv-loop link-list-μ-loop
+    (link-list-loop-holds t)
+    (link-list-parts-at-requires t)
+    (link-list-enum-told t)
+    (link-list-number-requires t)
+    (link-list-put-link-requires t)
+    (link-list-same-length t)
+    (link-list-same-length-2 t)
+    (link-list-returns t)
+    (link-list-enum-known-past t)
+    (link-list-loop-less t)
+    (link-list-loop-again t)
+    (link-list-enum-known-list t)
+    (link-list-put-start-requires t)
+    (link-list-number-requires-2 t)
+    (link-list-mul-put-link t)
+    (link-list-add-put-link t)
+    (link-list-put-link-requires-2 t)
+    (link-list-add-link-list t)
+    (link-list-link-list-requires t)
+    (link-list-add-number t)
+    (link-list-add-number-2 t)
+    (link-list-loop-less-2 t)
+    (link-list-loop-again-2 t)
+    (link-list-enum-known-arm t)
+    (link-list-follow-of-requires t)
+    (link-list-number-requires-3 t)
+    (link-list-put-link-requires-3 t)
+    (link-list-link-list-requires-2 t)
+    (link-list-add-link-list-2 t)
+    (link-list-link-list-requires-3 t)
+    (link-list-add-number-3 t)
+    (link-list-add-number-4 t)
+    (link-list-loop-less-3 t)
+    (link-list-loop-again-3 t)
+    (link-list-enum-known-list-2 t)
+    (link-list-number-requires-4 t)
+    (link-list-put-link-requires-4 t)
+    (link-list-link-list-requires-4 t)
+    (link-list-add-number-5 t)
+    (link-list-loop-less-4 t)
+    (link-list-loop-again-4 t)
+    (link-list-enum-told-2 t)
+    (link-list-same-length-3 t)
+    (link-list-same-length-4 t)
+    (link-list-returns-2 t))

@@ -1,0 +1,58 @@
+-- `basic_machine::run_accepted` meets its contract. Assumes nothing.
+use native.Mathlib.Omega.{arith}
+use mathlib.Core.Path.{_∙_}
+use Rattle.basic_machine.specs.laws.RunLaws.{file-short, file-fresh, linked-ran}
+use borrow.Author.Needs.{needs}
+use Rattle.basic_machine.proofs.run_accepted.Statement.{statement}
+use Rattle.basic_machine.proofs.run_accepted.Tie as tie
+
+link-list-requires : tie.Need-link-list-requires
+link-list-requires c κs = let w = c .before .before .before .before .before .before .before .before .before .pre .1 in (file-short _ w, omega arith, file-fresh _ w)
+
+slot-at-requires : tie.Need-slot-at-requires
+slot-at-requires c κs = search needs
+
+from-slot-requires : tie.Need-from-slot-requires
+from-slot-requires c κs = search needs
+
+run-code-requires : tie.Need-run-code-requires
+run-code-requires c κs = (file-short _ (c .before .before .before .before .before .before .before .before .before .before .before .before .before .before .before .before .before .before .before .before .before .before .before .pre .1), search needs, search needs, search needs, search needs)
+
+same-length : tie.Need-same-length
+same-length c = search needs
+
+same-length-2 : tie.Need-same-length-2
+same-length-2 c = search needs
+
+same-length-3 : tie.Need-same-length-3
+same-length-3 c = search needs
+
+same-length-4 : tie.Need-same-length-4
+same-length-4 c = search needs
+
+same-length-5 : tie.Need-same-length-5
+same-length-5 c = search needs
+
+same-length-6 : tie.Need-same-length-6
+same-length-6 c = search needs
+
+returns : tie.Need-returns
+returns c =
+    let p = c .before .before .before .before .before .before .before .before .before .before .before .before .before .before .before .before .before .before .before .before .before .before .before .before .before .before .before .before .before .before .before .before .pre in
+    linked-ran _ (p .1) _ _ _ _ _ _ _ _ _ (p .3) (p .2) (c .before .before .before .before .before .before .before .before .before .before .before .before .before .before .before .before .before .before .before .before .before .before .link-list .ensures) (c .before .before .before .before .before .before .before .before .before .before .before .before .before .before .before .from-slot .ensures ∙ c .before .before .before .before .before .before .before .before .before .before .before .before .before .before .before .before .slot-at .ensures) (c .before .before .before .before .before .before .before .before .run-code .ensures)
+
+pub run-accepted-spec : {M : Type 1} → statement M
+run-accepted-spec =
+    tie.close
+    (tie.spec
+    link-list-requires
+    slot-at-requires
+    from-slot-requires
+    run-code-requires
+    same-length
+    same-length-2
+    same-length-3
+    same-length-4
+    same-length-5
+    same-length-6
+    returns)

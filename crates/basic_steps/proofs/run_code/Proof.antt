@@ -1,0 +1,45 @@
+-- `basic_steps::run_code` meets its contract. Assumes nothing.
+use mathlib.Core.Path.{refl, ap, _∙_}
+use Rattle.machines.specs.Instruction.{number, formOf}
+use Rattle.machines.specs.Steps.{ranFrom}
+use Rattle.machines.specs.declared.CodePlace.the-variants.{Tree}
+use Rattle.steps.specs.Step.{CodeReady}
+use Rattle.steps.proofs.RunLaws.{first-ready, first-is}
+use borrow.Author.Needs.{needs}
+use Rattle.basic_steps.proofs.run_code.Statement.{statement}
+use Rattle.basic_steps.proofs.run_code.Tie as tie
+
+clear-all-requires : tie.Need-clear-all-requires
+clear-all-requires c κs = search needs
+
+run-from-requires : tie.Need-run-from-requires
+unfolding formOf CodeReady
+run-from-requires c κs = let e = c .before .before .before .before .before .before .before .before .before .before .clear-all .ensures in (refl, first-ready _ _ (e .0) (e .1) (e .2) _ _ (c .before .before .before .before .before .before .before .before .before .before .before .before .before .before .before .before .before .before .before .before .before .pre .0) (c .before .before .before .before .before .before .before .before .before .before .before .before .before .before .before .before .before .before .before .before .before .pre .1))
+
+same-length : tie.Need-same-length
+same-length c = search needs
+
+same-length-2 : tie.Need-same-length-2
+same-length-2 c = search needs
+
+same-length-3 : tie.Need-same-length-3
+same-length-3 c = search needs
+
+same-length-4 : tie.Need-same-length-4
+same-length-4 c = search needs
+
+returns : tie.Need-returns
+unfolding number
+returns c = let e = c .before .before .before .before .before .before .before .before .before .before .before .before .before .before .before .before .before .before .before .clear-all .ensures in c .before .before .before .before .before .before .before .before .run-from .ensures ∙ ap (ranFrom _ _ _ 0) (first-is _ (Tree (c .before .before .before .before .before .before .before .before .before .before .before .before .before .before .before .before .before .before .before .before .before .before .before .before .before .before .before .before .before .before .args .first)) (e .0) (e .1) (e .2))
+
+pub run-code-spec : {M : Type 1} → statement M
+run-code-spec =
+    tie.close
+    (tie.spec
+    clear-all-requires
+    run-from-requires
+    same-length
+    same-length-2
+    same-length-3
+    same-length-4
+    returns)
