@@ -9,8 +9,6 @@ trap 'rm -rf "$build"' EXIT
 start=
 compiler=${CC:-gcc}
 flags=${CFLAGS:--O2}
-# Until the library has a basic machine (document 02, request 6) plain C's stands for it. The line can go once include/exporter.h declares it.
-grep -q exporter_run_basic "$root/include/exporter.h" || flags="$flags -Dexporter_run_basic=plain_run_basic"
 
 if [ -n "${SELF:-}" ]; then
   library=$SELF

@@ -16,6 +16,4 @@ void exporter_trim(TRIM_LENT) { plain_trim(TRIM_GIVEN); }
 void exporter_run_tree(RUN_LENT) { RUN_TREE(RUN_GIVEN); }
 void exporter_run_linear(RUN_LENT) { RUN_LINEAR(RUN_GIVEN); }
 void exporter_pull_list(PULL_LENT) { plain_pull_list(PULL_GIVEN); }
-#ifndef exporter_run_basic /* tests/library.sh */
 void exporter_run_basic(RUN_LENT) { plain_run_basic(RUN_GIVEN); }
-#endif

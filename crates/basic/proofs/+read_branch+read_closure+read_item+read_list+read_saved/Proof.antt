@@ -347,7 +347,7 @@ read-item-sub-read-closure : (t : ℕ) → read-item-lts.Need-sub-read-closure (
   read-saved-below t,
   read-saved.Post,
 ) (read-item-at t) read-item.Post
-read-item-sub-read-closure t c = closure-level _ _ _ _ (is-closure _ _ (turned (c .before .next6 .given .1) (c .before .before .before .read-token .ensures)))
+read-item-sub-read-closure t c = omega (arith, closure-level _ _ _ _ (is-closure _ _ (turned (c .before .next6 .given .1) (c .before .before .before .read-token .ensures))))
 
 read-item-read-closure-requires : (t : ℕ) → read-item-lts.Need-read-closure-requires (
   read-token-reads.Asked,

@@ -1,7 +1,7 @@
 -- Small files of basic byte code, and what the tabulator's definition makes of their bytes, by computation. Assumes nothing.
 use Prim.Native.Nat.{ℕ}
 use mathlib.Core.Path.{_≡_, refl}
-use mathlib.Core.List.{List, [], _∷_, map}
+use mathlib.Core.List.{List, [], _∷_, _++_, map}
 use Rattle.fields.specs.Field.{bitAt, fieldAt, fieldRead, pickField}
 use Rattle.files.specs.Codes.{shapeOf}
 use Rattle.files.specs.Code.{put, simple}
@@ -59,3 +59,16 @@ unfolding bitAt fieldAt fieldRead pickField shapeOf put simple then field fieldG
     lowest bitsOf entryBits entriesBits byteOf bytesFrom bytesOf orLowest operandsBits listBits templateBits templatesBits fileBits treeFile
     inside tabulatedFile
 rows = refl
+
+-- 26 before 9: 64 closures, eight in each 15 bytes, and an output of no bytes
+abbrev eightClosures : List ℕ
+eightClosures = 56 ∷ 64 ∷ 112 ∷ 128 ∷ 225 ∷ 1 ∷ 194 ∷ 3 ∷ 132 ∷ 7 ∷ 8 ∷ 14 ∷ 16 ∷ 28 ∷ 32 ∷ []
+
+abbrev thirtyTwo : List ℕ
+thirtyTwo = eightClosures ++ (eightClosures ++ (eightClosures ++ eightClosures))
+
+pub too-large-first : tabulatedFile (thirtyTwo ++ (thirtyTwo ++ (8 ∷ 0 ∷ []))) 0 ≡ refused 26 0
+unfolding bitAt fieldAt fieldRead pickField shapeOf put simple then field fieldGot tagWidth constantAt zeroBits nothingMore paddedEnd isEmpty isOpen isClosed
+    lowest bitsOf entryBits entriesBits byteOf bytesFrom bytesOf orLowest operandsBits listBits templateBits templatesBits fileBits treeFile
+    inside tabulatedFile
+too-large-first = refl
