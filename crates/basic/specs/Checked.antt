@@ -4,7 +4,7 @@ use mathlib.Core.Bool.{Bool, true, cond, _&&_}
 use mathlib.Core.List.{List, [], _∷_}
 use lib.ListN.{length}
 use lib.Dec.{leb}
-use Rattle.cells.specs.Numbers.{notClosed}
+use Rattle.cells.specs.Numbers.{notClosed, tooLarge}
 use Rattle.files.specs.Reading.{Got, got, refused}
 use Rattle.files.specs.Entries.{then}
 use Rattle.files.specs.Outcome.{intoBytes}
@@ -17,9 +17,6 @@ use Rattle.basic.specs.Reading.{basicRead}
 use Rattle.basic.specs.Tabulated.{tabulated}
 
 -- ---- 26: more templates, entries of a template or tabulated bytes than a tree file may have; place 0
-abbrev pub tooLarge : ℕ
-tooLarge = 26
-
 abbrev pub mostTemplates : ℕ
 mostTemplates = 64
 

@@ -48,6 +48,10 @@ noTree = 32
 abbrev pub manyEntries : ℕ
 manyEntries = 30
 
+-- 26 more templates, entries or bytes than a tree file may have, of a basic file once tabulated; place 0: limited (basic, Checked; request 6)
+abbrev pub tooLarge : ℕ
+tooLarge = 26
+
 -- 9 output shorter than what is to be written; bytes needed: intoBytes (files, Outcome)
 abbrev pub shortOutput : ℕ
 shortOutput = 9

@@ -25,7 +25,10 @@ fetch-here-requires-2 : tie.Need-fetch-here-requires-2
 fetch-here-requires-2 c κs = search needs
 
 returns-3 : tie.Need-returns-3
-returns-3 c = (c .fetch-here2 .ensures .0 ∙ here-away _ _ _ _ (eqb-false _ 0 (sym (c .before .before .is-first .ensures) ∙ c .before .if2 .left)), c .fetch-here2 .ensures .1)
+returns-3 c = (
+  c .fetch-here2 .ensures .0 ∙ here-away _ _ _ _ (eqb-false _ 0 (sym (c .before .before .is-first .ensures) ∙ c .before .if2 .left)),
+  c .fetch-here2 .ensures .1,
+)
 
 pub fetch-spec : {M : Type 1} → statement M
 fetch-spec =

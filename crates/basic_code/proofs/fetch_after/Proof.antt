@@ -26,13 +26,23 @@ enum-told c = search needs
 
 returns-2 : tie.Need-returns-2
 unfolding SavedFits
-returns-2 c = (cut-led _ _ _ (eqb-false _ 0 (sym (c .before .before .before .before .is-first .ensures) ∙ c .before .before .before .if1 .left)) (sym (c .before .before .read-field .ensures) ∙ c .enum-told .given .1), tt)
+returns-2 c =
+    let is-first = c .before .before .before .before .is-first in
+    let if1 = c .before .before .before .if1 in
+    (cut-led _ _ _ (eqb-false _ 0 (sym (is-first .ensures) ∙ if1 .left)) (sym (c .before .before .read-field .ensures) ∙ c .enum-told .given .1), tt)
 
 fetch-code-requires : tie.Need-fetch-code-requires
 fetch-code-requires c κs = (search needs, read-below _ _ 5 _ _ (sym (c .before .before .before .read-field .ensures) ∙ c .before .code .given .1))
 
 returns-3 : tie.Need-returns-3
-returns-3 c = (c .fetch-code .ensures .0 ∙ code-led _ _ _ (eqb-false _ 0 (sym (c .before .before .before .before .before .before .is-first .ensures) ∙ c .before .before .before .before .before .if1 .left)) _ _ (sym (c .before .before .before .before .read-field .ensures) ∙ c .before .before .code .given .1), c .fetch-code .ensures .1)
+returns-3 c =
+    let is-first = c .before .before .before .before .before .before .is-first in
+    let if1 = c .before .before .before .before .before .if1 in
+    let read-field = c .before .before .before .before .read-field in (
+      c .fetch-code .ensures .0 ∙ code-led _ _ _ (eqb-false _ 0 (sym (is-first .ensures) ∙ if1 .left)) _ _
+          (sym (read-field .ensures) ∙ c .before .before .code .given .1),
+      c .fetch-code .ensures .1,
+    )
 
 pub fetch-after-spec : {M : Type 1} → statement M
 fetch-after-spec =

@@ -34,7 +34,9 @@ returns-4 : tie.Need-returns-4
 returns-4 c = (c .fetch-global2 .ensures .0 _ _, c .fetch-global2 .ensures .1)
 
 returns-5 : tie.Need-returns-5
-returns-5 c = let n = c .before .match .rest in (c .fetch-shaped .ensures .0 ∙ other-read _ _ _ _ _ (n .0 .0 .0 .1) (n .0 .0 .1) (n .0 .1) (n .1), c .fetch-shaped .ensures .1)
+returns-5 c =
+    let n = c .before .match .rest in
+    (c .fetch-shaped .ensures .0 ∙ other-read _ _ _ _ _ (n .0 .0 .0 .1) (n .0 .0 .1) (n .0 .1) (n .1), c .fetch-shaped .ensures .1)
 
 pub fetch-code-spec : {M : Type 1} → statement M
 fetch-code-spec =

@@ -19,7 +19,9 @@ enum-told c = search needs
 
 returns : tie.Need-returns
 unfolding SavedFits
-returns c = (λ L p. global-cut _ L p _ _ (c .before .before .before .before .pre .1) (c .before .before .before .before .pre .2) (sym (c .before .before .read-field .ensures) ∙ c .enum-told .given .1), tt)
+returns c =
+    let pre = c .before .before .before .before .pre in
+    (λ L p. global-cut _ L p _ _ (pre .1) (pre .2) (sym (c .before .before .read-field .ensures) ∙ c .enum-told .given .1), tt)
 
 cast-t9 : tie.Need-cast-t9
 cast-t9 c = omega (arith, read-below _ _ 8 _ _ (sym (c .before .before .before .before .read-field .ensures) ∙ c .before .before .g .given .1))
@@ -29,11 +31,15 @@ cast-t11 c = omega (arith, read-below _ _ 8 _ _ (sym (c .before .before .before 
 
 returns-2 : tie.Need-returns-2
 unfolding SavedFits
-returns-2 c = (λ L p. global-read _ L p _ _ _ _ (c .if1 .taken) (sym (c .before .before .before .before .read-field .ensures) ∙ c .before .before .g .given .1), tt)
+returns-2 c =
+    let read-field = c .before .before .before .before .read-field in
+    (λ L p. global-read _ L p _ _ _ _ (c .if1 .taken) (sym (read-field .ensures) ∙ c .before .before .g .given .1), tt)
 
 returns-3 : tie.Need-returns-3
 unfolding SavedFits
-returns-3 c = (λ L p. set-global-read _ L p _ _ _ _ (omega (arith, c .if1 .left)) (sym (c .before .before .before .before .read-field .ensures) ∙ c .before .before .g .given .1), tt)
+returns-3 c =
+    let read-field = c .before .before .before .before .read-field in
+    (λ L p. set-global-read _ L p _ _ _ _ (omega (arith, c .if1 .left)) (sym (read-field .ensures) ∙ c .before .before .g .given .1), tt)
 
 pub fetch-global-spec : {M : Type 1} → statement M
 fetch-global-spec =

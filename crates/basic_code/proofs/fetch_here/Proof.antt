@@ -28,13 +28,24 @@ fetch-after-requires : tie.Need-fetch-after-requires
 fetch-after-requires c κs = search needs
 
 fetch-code-requires : tie.Need-fetch-code-requires
-fetch-code-requires c κs = (search needs, read-below _ _ 5 _ _ (sym (c .before .before .before .before .read-field .ensures) ∙ c .before .before .code .given .1))
+fetch-code-requires c κs =
+    let read-field = c .before .before .before .before .read-field in
+    (search needs, read-below _ _ 5 _ _ (sym (read-field .ensures) ∙ c .before .before .code .given .1))
 
 returns-2 : tie.Need-returns-2
-returns-2 c = (c .fetch-after .ensures .0 ∙ end-here _ _ _ _ _ (sym (c .before .before .before .before .before .before .read-field .ensures) ∙ c .before .before .before .before .code .given .1) (c .before .before .if1 .taken) _ (c .before .link-at .ensures), c .fetch-after .ensures .1)
+returns-2 c =
+    let read-field = c .before .before .before .before .before .before .read-field in
+    let code = c .before .before .before .before .code in (
+      c .fetch-after .ensures .0 ∙ end-here _ _ _ _ _ (sym (read-field .ensures) ∙ code .given .1) (c .before .before .if1 .taken) _
+          (c .before .link-at .ensures),
+      c .fetch-after .ensures .1,
+    )
 
 returns-3 : tie.Need-returns-3
-returns-3 c = (c .fetch-code .ensures .0 ∙ code-here _ _ _ _ _ (sym (c .before .before .before .before .before .read-field .ensures) ∙ c .before .before .before .code .given .1) (c .before .if1 .left), c .fetch-code .ensures .1)
+returns-3 c =
+    let read-field = c .before .before .before .before .before .read-field in
+    let code = c .before .before .before .code in
+    (c .fetch-code .ensures .0 ∙ code-here _ _ _ _ _ (sym (read-field .ensures) ∙ code .given .1) (c .before .if1 .left), c .fetch-code .ensures .1)
 
 pub fetch-here-spec : {M : Type 1} → statement M
 fetch-here-spec =

@@ -35,11 +35,16 @@ ready-requires c κs = search needs
 
 returns-2 : tie.Need-returns-2
 unfolding SavedFits
-returns-2 c = (λ L p. call-read _ L p _ _ _ _ (sym (c .before .before .before .before .read-field .ensures) ∙ c .before .before .n .given .1) (c .if1 .taken), tt)
+returns-2 c =
+    let read-field = c .before .before .before .before .read-field in
+    (λ L p. call-read _ L p _ _ _ _ (sym (read-field .ensures) ∙ c .before .before .n .given .1) (c .if1 .taken), tt)
 
 returns-3 : tie.Need-returns-3
 unfolding SavedFits
-returns-3 c = (λ L p. c .ready .ensures .0 ∙ one-read _ L p _ _ _ _ (sym (c .before .before .before .before .before .read-field .ensures) ∙ c .before .before .before .n .given .1) (c .before .if1 .left), c .ready .ensures .1)
+returns-3 c =
+    let read-field = c .before .before .before .before .before .read-field in
+    let n = c .before .before .before .n in
+    (λ L p. c .ready .ensures .0 ∙ one-read _ L p _ _ _ _ (sym (read-field .ensures) ∙ n .given .1) (c .before .if1 .left), c .ready .ensures .1)
 
 pub fetch-one-spec : {M : Type 1} → statement M
 fetch-one-spec =

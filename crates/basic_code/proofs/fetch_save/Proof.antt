@@ -29,7 +29,13 @@ link-at-requires c κs = search needs
 
 returns-2 : tie.Need-returns-2
 unfolding SavedFits
-returns-2 c = (λ v. save-read _ _ _ v _ _ _ (sym (c .before .before .before .before .read-field .ensures) ∙ c .before .before .n .given .1) _ (c .link-at .ensures), (read-fits _ _ _ _ (c .before .before .before .before .before .before .before .pre) (sym (c .before .before .before .before .read-field .ensures) ∙ c .before .before .n .given .1)))
+returns-2 c =
+    let pre = c .before .before .before .before .before .before .before .pre in
+    let read-field = c .before .before .before .before .read-field in
+    let n = c .before .before .n in (
+      λ v. save-read _ _ _ v _ _ _ (sym (read-field .ensures) ∙ n .given .1) _ (c .link-at .ensures),
+      (read-fits _ _ _ _ (pre) (sym (read-field .ensures) ∙ n .given .1)),
+    )
 
 pub fetch-save-spec : {M : Type 1} → statement M
 fetch-save-spec =

@@ -46,7 +46,9 @@ abbrev link-list-μ-loop : link-list-lts.MeasureT-loop
 link-list-μ-loop s links₀ table₀ first here₀ number₀ goes₀ links table here number goes = 8 * length s - here .0
 
 link-list-loop-holds : (t : ℕ) → link-list-lts.Need-loop-holds (inner t) (link-list-at t) link-list.Post link-list-Inv-loop link-list-μ-loop
-link-list-loop-holds t c = ((λ d h. begun _ _ _ _ _ _ (c .before .before .before .pre .1 .2) d h), refl, refl, c .before .before .before .pre .1 .1, omega arith)
+link-list-loop-holds t c =
+    let pre = c .before .before .before .pre in
+    ((λ d h. begun _ _ _ _ _ _ (pre .1 .2) d h), refl, refl, pre .1 .1, omega arith)
 
 link-list-parts-at-requires : (t : ℕ) → link-list-lts.Need-parts-at-requires (inner t) (link-list-at t) link-list.Post link-list-Inv-loop link-list-μ-loop
 link-list-parts-at-requires t c κs = c .before .before .before .before .pre .1 .0
@@ -67,52 +69,189 @@ link-list-same-length-2 : (t : ℕ) → link-list-lts.Need-same-length-2 (inner 
 link-list-same-length-2 t c = search needs
 
 link-list-returns : (t : ℕ) → link-list-lts.Need-returns (inner t) (link-list-at t) link-list.Post link-list-Inv-loop link-list-μ-loop
-link-list-returns t c = λ d h. turn-end _ _ _ _ _ _ _ _ _ _ _ _ (c .before .before .before .before .before .before .before .before .loop .inv .0 d h) (parted-as _ _ (c .before .before .before .before .before .enum-told .given .1) (c .before .before .before .before .before .before .before .parts-at .ensures ((c .before .before .before .before .before .before .before .before .loop .inv .0 d h) .rest) ((c .before .before .before .before .before .before .before .before .loop .inv .0 d h) .reads))) (c .before .before .put-link .ensures ∙ ap (λ n. link (c .before .before .before .before .before .before .before .before .loop .links) (c .before .before .before .before .before .before .before .before .loop .here .0) n) (c .before .before .before .number .ensures))
+link-list-returns t c =
+    let loop = c .before .before .before .before .before .before .before .before .loop in
+    let parts-at = c .before .before .before .before .before .before .before .parts-at in
+    let enum-told = c .before .before .before .before .before .enum-told in
+    let number = c .before .before .before .number in
+    λ d h. turn-end _ _ _ _ _ _ _ _ _ _ _ _ (loop .inv .0 d h)
+    (parted-as _ _ (enum-told .given .1) (parts-at .ensures ((loop .inv .0 d h) .rest) ((loop .inv .0 d h) .reads)))
+    (c .before .before .put-link .ensures ∙ ap (λ n. link (loop .links) (loop .here .0) n) (number .ensures))
 
 link-list-enum-known-past : (t : ℕ) → link-list-lts.Need-enum-known-past (inner t) (link-list-at t) link-list.Post link-list-Inv-loop link-list-μ-loop
 link-list-enum-known-past t c = search needs
 
 link-list-loop-less : (t : ℕ) → link-list-lts.Need-loop-less (inner t) (link-list-at t) link-list.Post link-list-Inv-loop link-list-μ-loop
-link-list-loop-less t c = let w = turn-simple _ _ _ _ _ _ _ _ _ _ _ _ (c .before .before .before .before .loop .inv .0 (c .before .before .before .before .before .before .before .before .pre .1 .2 .code) (c .before .before .before .before .before .before .before .before .pre .1 .2 .reads)) _ (parted-as _ _ (c .before .past .given .1) (c .before .before .before .parts-at .ensures ((c .before .before .before .before .loop .inv .0 (c .before .before .before .before .before .before .before .before .pre .1 .2 .code) (c .before .before .before .before .before .before .before .before .pre .1 .2 .reads)) .rest) ((c .before .before .before .before .loop .inv .0 (c .before .before .before .before .before .before .before .before .pre .1 .2 .code) (c .before .before .before .before .before .before .before .before .pre .1 .2 .reads)) .reads))) in omega (arith, w .1, reads-within _ _ _ (w .0 .reads))
+link-list-loop-less t c =
+    let pre = c .before .before .before .before .before .before .before .before .pre in
+    let loop = c .before .before .before .before .loop in
+    let parts-at = c .before .before .before .parts-at in
+    let w = turn-simple _ _ _ _ _ _ _ _ _ _ _ _ (loop .inv .0 (pre .1 .2 .code) (pre .1 .2 .reads)) _
+    (parted-as _ _ (c .before .past .given .1)
+    (parts-at .ensures ((loop .inv .0 (pre .1 .2 .code) (pre .1 .2 .reads)) .rest) ((loop .inv .0 (pre .1 .2 .code) (pre .1 .2 .reads)) .reads))) in
+    omega (arith, w .1, reads-within _ _ _ (w .0 .reads))
 
 link-list-loop-again : (t : ℕ) → link-list-lts.Need-loop-again (inner t) (link-list-at t) link-list.Post link-list-Inv-loop link-list-μ-loop
-link-list-loop-again t c = let w = turn-simple _ _ _ _ _ _ _ _ _ _ _ _ (c .before .before .before .before .loop .inv .0 (c .before .before .before .before .before .before .before .before .pre .1 .2 .code) (c .before .before .before .before .before .before .before .before .pre .1 .2 .reads)) _ (parted-as _ _ (c .before .past .given .1) (c .before .before .before .parts-at .ensures ((c .before .before .before .before .loop .inv .0 (c .before .before .before .before .before .before .before .before .pre .1 .2 .code) (c .before .before .before .before .before .before .before .before .pre .1 .2 .reads)) .rest) ((c .before .before .before .before .loop .inv .0 (c .before .before .before .before .before .before .before .before .pre .1 .2 .code) (c .before .before .before .before .before .before .before .before .pre .1 .2 .reads)) .reads))) in ((λ d h. turn-simple _ _ _ _ _ _ _ _ _ _ _ _ (c .before .before .before .before .loop .inv .0 d h) _ (parted-as _ _ (c .before .past .given .1) (c .before .before .before .parts-at .ensures ((c .before .before .before .before .loop .inv .0 d h) .rest) ((c .before .before .before .before .loop .inv .0 d h) .reads))) .0), c .before .before .before .before .loop .inv .1, c .before .before .before .before .loop .inv .2, c .before .before .before .before .loop .inv .3, omega (arith, w .1, c .before .before .before .before .loop .inv .4))
+link-list-loop-again t c =
+    let pre = c .before .before .before .before .before .before .before .before .pre in
+    let loop = c .before .before .before .before .loop in
+    let parts-at = c .before .before .before .parts-at in
+    let past = c .before .past in
+    let w = turn-simple _ _ _ _ _ _ _ _ _ _ _ _ (loop .inv .0 (pre .1 .2 .code) (pre .1 .2 .reads)) _
+    (parted-as _ _ (past .given .1) (parts-at .ensures ((loop .inv .0 (pre .1 .2 .code) (pre .1 .2 .reads)) .rest)
+    ((loop .inv .0 (pre .1 .2 .code) (pre .1 .2 .reads)) .reads))) in (
+      (λ d h. turn-simple _ _ _ _ _ _ _ _ _ _ _ _ (loop .inv .0 d h) _
+          (parted-as _ _ (past .given .1) (parts-at .ensures ((loop .inv .0 d h) .rest) ((loop .inv .0 d h) .reads))) .0),
+      loop .inv .1,
+      loop .inv .2,
+      loop .inv .3,
+      omega (arith, w .1, loop .inv .4),
+    )
 
 link-list-enum-known-list : (t : ℕ) → link-list-lts.Need-enum-known-list (inner t) (link-list-at t) link-list.Post link-list-Inv-loop link-list-μ-loop
 link-list-enum-known-list t c = search needs
 
 link-list-put-start-requires : (t : ℕ) → link-list-lts.Need-put-start-requires (inner t) (link-list-at t) link-list.Post link-list-Inv-loop link-list-μ-loop
-link-list-put-start-requires t c κs = let w = turn-closure _ _ _ _ _ _ _ _ _ _ _ _ (c .before .before .before .before .before .loop .inv .0 (c .before .before .before .before .before .before .before .before .before .pre .1 .2 .code) (c .before .before .before .before .before .before .before .before .before .pre .1 .2 .reads)) _ _ _ (parted-as _ _ (c .before .before .list .given .1) (c .before .before .before .before .parts-at .ensures ((c .before .before .before .before .before .loop .inv .0 (c .before .before .before .before .before .before .before .before .before .pre .1 .2 .code) (c .before .before .before .before .before .before .before .before .before .pre .1 .2 .reads)) .rest) ((c .before .before .before .before .before .loop .inv .0 (c .before .before .before .before .before .before .before .before .before .pre .1 .2 .code) (c .before .before .before .before .before .before .before .before .before .pre .1 .2 .reads)) .reads))) in omega (arith, w .below-64)
+link-list-put-start-requires t c κs =
+    let pre = c .before .before .before .before .before .before .before .before .before .pre in
+    let loop = c .before .before .before .before .before .loop in
+    let parts-at = c .before .before .before .before .parts-at in
+    let w = turn-closure _ _ _ _ _ _ _ _ _ _ _ _ (loop .inv .0 (pre .1 .2 .code) (pre .1 .2 .reads)) _ _ _
+    (parted-as _ _ (c .before .before .list .given .1)
+    (parts-at .ensures ((loop .inv .0 (pre .1 .2 .code) (pre .1 .2 .reads)) .rest) ((loop .inv .0 (pre .1 .2 .code) (pre .1 .2 .reads)) .reads))) in
+    omega (arith, w .below-64)
 
 link-list-number-requires-2 : (t : ℕ) → link-list-lts.Need-number-requires-2 (inner t) (link-list-at t) link-list.Post link-list-Inv-loop link-list-μ-loop
 link-list-number-requires-2 t c κs = search needs
 
 link-list-mul-put-link : (t : ℕ) → link-list-lts.Need-mul-put-link (inner t) (link-list-at t) link-list.Post link-list-Inv-loop link-list-μ-loop
-link-list-mul-put-link t c = let w = turn-closure _ _ _ _ _ _ _ _ _ _ _ _ (c .before .before .before .before .before .before .before .before .before .before .loop .inv .0 (c .before .before .before .before .before .before .before .before .before .before .before .before .before .before .pre .1 .2 .code) (c .before .before .before .before .before .before .before .before .before .before .before .before .before .before .pre .1 .2 .reads)) _ _ _ (parted-as _ _ (c .before .before .before .before .before .before .before .list .given .1) (c .before .before .before .before .before .before .before .before .before .parts-at .ensures ((c .before .before .before .before .before .before .before .before .before .before .loop .inv .0 (c .before .before .before .before .before .before .before .before .before .before .before .before .before .before .pre .1 .2 .code) (c .before .before .before .before .before .before .before .before .before .before .before .before .before .before .pre .1 .2 .reads)) .rest) ((c .before .before .before .before .before .before .before .before .before .before .loop .inv .0 (c .before .before .before .before .before .before .before .before .before .before .before .before .before .before .pre .1 .2 .code) (c .before .before .before .before .before .before .before .before .before .before .before .before .before .before .pre .1 .2 .reads)) .reads))) in omega (arith, c .number2 .ensures, w .below-64, w .within, c .before .before .before .before .before .before .before .before .before .before .before .before .before .before .pre .1 .0)
+link-list-mul-put-link t c =
+    let pre = c .before .before .before .before .before .before .before .before .before .before .before .before .before .before .pre in
+    let loop = c .before .before .before .before .before .before .before .before .before .before .loop in
+    let parts-at = c .before .before .before .before .before .before .before .before .before .parts-at in
+    let list = c .before .before .before .before .before .before .before .list in
+    let w = turn-closure _ _ _ _ _ _ _ _ _ _ _ _ (loop .inv .0 (pre .1 .2 .code) (pre .1 .2 .reads)) _ _ _
+    (parted-as _ _ (list .given .1) (parts-at .ensures ((loop .inv .0 (pre .1 .2 .code) (pre .1 .2 .reads)) .rest)
+    ((loop .inv .0 (pre .1 .2 .code) (pre .1 .2 .reads)) .reads))) in
+    omega (arith, c .number2 .ensures, w .below-64, w .within, pre .1 .0)
 
 link-list-add-put-link : (t : ℕ) → link-list-lts.Need-add-put-link (inner t) (link-list-at t) link-list.Post link-list-Inv-loop link-list-μ-loop
-link-list-add-put-link t c = let w = turn-closure _ _ _ _ _ _ _ _ _ _ _ _ (c .before .before .before .before .before .before .before .before .before .before .loop .inv .0 (c .before .before .before .before .before .before .before .before .before .before .before .before .before .before .pre .1 .2 .code) (c .before .before .before .before .before .before .before .before .before .before .before .before .before .before .pre .1 .2 .reads)) _ _ _ (parted-as _ _ (c .before .before .before .before .before .before .before .list .given .1) (c .before .before .before .before .before .before .before .before .before .parts-at .ensures ((c .before .before .before .before .before .before .before .before .before .before .loop .inv .0 (c .before .before .before .before .before .before .before .before .before .before .before .before .before .before .pre .1 .2 .code) (c .before .before .before .before .before .before .before .before .before .before .before .before .before .before .pre .1 .2 .reads)) .rest) ((c .before .before .before .before .before .before .before .before .before .before .loop .inv .0 (c .before .before .before .before .before .before .before .before .before .before .before .before .before .before .pre .1 .2 .code) (c .before .before .before .before .before .before .before .before .before .before .before .before .before .before .pre .1 .2 .reads)) .reads))) in omega (arith, c .number2 .ensures, w .below-64, w .within, c .before .before .before .before .before .before .before .before .before .before .before .before .before .before .pre .1 .0)
+link-list-add-put-link t c =
+    let pre = c .before .before .before .before .before .before .before .before .before .before .before .before .before .before .pre in
+    let loop = c .before .before .before .before .before .before .before .before .before .before .loop in
+    let parts-at = c .before .before .before .before .before .before .before .before .before .parts-at in
+    let list = c .before .before .before .before .before .before .before .list in
+    let w = turn-closure _ _ _ _ _ _ _ _ _ _ _ _ (loop .inv .0 (pre .1 .2 .code) (pre .1 .2 .reads)) _ _ _
+    (parted-as _ _ (list .given .1) (parts-at .ensures ((loop .inv .0 (pre .1 .2 .code) (pre .1 .2 .reads)) .rest)
+    ((loop .inv .0 (pre .1 .2 .code) (pre .1 .2 .reads)) .reads))) in
+    omega (arith, c .number2 .ensures, w .below-64, w .within, pre .1 .0)
 
 link-list-put-link-requires-2 : (t : ℕ) → link-list-lts.Need-put-link-requires-2 (inner t) (link-list-at t) link-list.Post link-list-Inv-loop link-list-μ-loop
-link-list-put-link-requires-2 t c κs = let w = turn-closure _ _ _ _ _ _ _ _ _ _ _ _ (c .before .before .before .before .before .before .before .before .before .before .loop .inv .0 (c .before .before .before .before .before .before .before .before .before .before .before .before .before .before .pre .1 .2 .code) (c .before .before .before .before .before .before .before .before .before .before .before .before .before .before .pre .1 .2 .reads)) _ _ _ (parted-as _ _ (c .before .before .before .before .before .before .before .list .given .1) (c .before .before .before .before .before .before .before .before .before .parts-at .ensures ((c .before .before .before .before .before .before .before .before .before .before .loop .inv .0 (c .before .before .before .before .before .before .before .before .before .before .before .before .before .before .pre .1 .2 .code) (c .before .before .before .before .before .before .before .before .before .before .before .before .before .before .pre .1 .2 .reads)) .rest) ((c .before .before .before .before .before .before .before .before .before .before .loop .inv .0 (c .before .before .before .before .before .before .before .before .before .before .before .before .before .before .pre .1 .2 .code) (c .before .before .before .before .before .before .before .before .before .before .before .before .before .before .pre .1 .2 .reads)) .reads))) in omega (arith, c .number2 .ensures, w .below-64, w .within, c .before .before .before .before .before .before .before .before .before .before .before .before .before .before .pre .1 .0)
+link-list-put-link-requires-2 t c κs =
+    let pre = c .before .before .before .before .before .before .before .before .before .before .before .before .before .before .pre in
+    let loop = c .before .before .before .before .before .before .before .before .before .before .loop in
+    let parts-at = c .before .before .before .before .before .before .before .before .before .parts-at in
+    let list = c .before .before .before .before .before .before .before .list in
+    let w = turn-closure _ _ _ _ _ _ _ _ _ _ _ _ (loop .inv .0 (pre .1 .2 .code) (pre .1 .2 .reads)) _ _ _
+    (parted-as _ _ (list .given .1) (parts-at .ensures ((loop .inv .0 (pre .1 .2 .code) (pre .1 .2 .reads)) .rest)
+    ((loop .inv .0 (pre .1 .2 .code) (pre .1 .2 .reads)) .reads))) in
+    omega (arith, c .number2 .ensures, w .below-64, w .within, pre .1 .0)
 
 link-list-add-link-list : (t : ℕ) → link-list-lts.Need-add-link-list (inner t) (link-list-at t) link-list.Post link-list-Inv-loop link-list-μ-loop
-link-list-add-link-list t c = let w = turn-closure _ _ _ _ _ _ _ _ _ _ _ _ (c .before .before .before .before .before .before .before .before .before .before .before .before .before .before .before .loop .inv .0 (c .before .before .before .before .before .before .before .before .before .before .before .before .before .before .before .before .before .before .before .pre .1 .2 .code) (c .before .before .before .before .before .before .before .before .before .before .before .before .before .before .before .before .before .before .before .pre .1 .2 .reads)) _ _ _ (parted-as _ _ (c .before .before .before .before .before .before .before .before .before .before .before .before .list .given .1) (c .before .before .before .before .before .before .before .before .before .before .before .before .before .before .parts-at .ensures ((c .before .before .before .before .before .before .before .before .before .before .before .before .before .before .before .loop .inv .0 (c .before .before .before .before .before .before .before .before .before .before .before .before .before .before .before .before .before .before .before .pre .1 .2 .code) (c .before .before .before .before .before .before .before .before .before .before .before .before .before .before .before .before .before .before .before .pre .1 .2 .reads)) .rest) ((c .before .before .before .before .before .before .before .before .before .before .before .before .before .before .before .loop .inv .0 (c .before .before .before .before .before .before .before .before .before .before .before .before .before .before .before .before .before .before .before .pre .1 .2 .code) (c .before .before .before .before .before .before .before .before .before .before .before .before .before .before .before .before .before .before .before .pre .1 .2 .reads)) .reads))) in omega (arith, w .below-64)
+link-list-add-link-list t c =
+    let pre = c .before .before .before .before .before .before .before .before .before .before .before .before .before .before .before .before .before
+    .before .before .pre in
+    let loop = c .before .before .before .before .before .before .before .before .before .before .before .before .before .before .before .loop in
+    let parts-at = c .before .before .before .before .before .before .before .before .before .before .before .before .before .before .parts-at in
+    let list = c .before .before .before .before .before .before .before .before .before .before .before .before .list in
+    let w = turn-closure _ _ _ _ _ _ _ _ _ _ _ _ (loop .inv .0 (pre .1 .2 .code) (pre .1 .2 .reads)) _ _ _
+    (parted-as _ _ (list .given .1) (parts-at .ensures ((loop .inv .0 (pre .1 .2 .code) (pre .1 .2 .reads)) .rest)
+    ((loop .inv .0 (pre .1 .2 .code) (pre .1 .2 .reads)) .reads))) in
+    omega (arith, w .below-64)
 
 link-list-link-list-requires : (t : ℕ) → link-list-lts.Need-link-list-requires (inner t) (link-list-at t) link-list.Post link-list-Inv-loop link-list-μ-loop
-link-list-link-list-requires t c κs = let w = turn-closure _ _ _ _ _ _ _ _ _ _ _ _ (c .before .before .before .before .before .before .before .before .before .before .before .before .before .before .before .loop .inv .0 (c .before .before .before .before .before .before .before .before .before .before .before .before .before .before .before .before .before .before .before .pre .1 .2 .code) (c .before .before .before .before .before .before .before .before .before .before .before .before .before .before .before .before .before .before .before .pre .1 .2 .reads)) _ _ _ (parted-as _ _ (c .before .before .before .before .before .before .before .before .before .before .before .before .list .given .1) (c .before .before .before .before .before .before .before .before .before .before .before .before .before .before .parts-at .ensures ((c .before .before .before .before .before .before .before .before .before .before .before .before .before .before .before .loop .inv .0 (c .before .before .before .before .before .before .before .before .before .before .before .before .before .before .before .before .before .before .before .pre .1 .2 .code) (c .before .before .before .before .before .before .before .before .before .before .before .before .before .before .before .before .before .before .before .pre .1 .2 .reads)) .rest) ((c .before .before .before .before .before .before .before .before .before .before .before .before .before .before .before .loop .inv .0 (c .before .before .before .before .before .before .before .before .before .before .before .before .before .before .before .before .before .before .before .pre .1 .2 .code) (c .before .before .before .before .before .before .before .before .before .before .before .before .before .before .before .before .before .before .before .pre .1 .2 .reads)) .reads))) in (omega (arith, w .on, w .past, w .within, c .before .before .before .before .before .before .before .before .before .before .before .before .before .before .before .before .before .before .before .pre .1 .0, c .before .before .before .before .before .before .before .before .before .before .before .before .before .before .before .loop .inv .4, c .before .before .before .before .before .before .before .before .before .before .before .before .before .before .before .before .before .before .before .pre .0), (c .before .before .before .before .before .before .before .before .before .before .before .before .before .before .before .before .before .before .before .pre .1 .0, omega arith, w .fresh))
+link-list-link-list-requires t c κs =
+    let pre = c .before .before .before .before .before .before .before .before .before .before .before .before .before .before .before .before .before
+    .before .before .pre in
+    let loop = c .before .before .before .before .before .before .before .before .before .before .before .before .before .before .before .loop in
+    let parts-at = c .before .before .before .before .before .before .before .before .before .before .before .before .before .before .parts-at in
+    let list = c .before .before .before .before .before .before .before .before .before .before .before .before .list in
+    let w = turn-closure _ _ _ _ _ _ _ _ _ _ _ _ (loop .inv .0 (pre .1 .2 .code) (pre .1 .2 .reads)) _ _ _
+    (parted-as _ _ (list .given .1) (parts-at .ensures ((loop .inv .0 (pre .1 .2 .code) (pre .1 .2 .reads)) .rest)
+    ((loop .inv .0 (pre .1 .2 .code) (pre .1 .2 .reads)) .reads))) in
+    (omega (arith, w .on, w .past, w .within, pre .1 .0, loop .inv .4, pre .0), (pre .1 .0, omega arith, w .fresh))
 
 link-list-add-number : (t : ℕ) → link-list-lts.Need-add-number (inner t) (link-list-at t) link-list.Post link-list-Inv-loop link-list-μ-loop
-link-list-add-number t c = let w = turn-closure _ _ _ _ _ _ _ _ _ _ _ _ (c .before .before .before .before .before .before .before .before .before .before .before .before .before .before .before .before .before .before .before .before .loop .inv .0 (c .before .before .before .before .before .before .before .before .before .before .before .before .before .before .before .before .before .before .before .before .before .before .before .before .pre .1 .2 .code) (c .before .before .before .before .before .before .before .before .before .before .before .before .before .before .before .before .before .before .before .before .before .before .before .before .pre .1 .2 .reads)) _ _ _ (parted-as _ _ (c .before .before .before .before .before .before .before .before .before .before .before .before .before .before .before .before .before .list .given .1) (c .before .before .before .before .before .before .before .before .before .before .before .before .before .before .before .before .before .before .before .parts-at .ensures ((c .before .before .before .before .before .before .before .before .before .before .before .before .before .before .before .before .before .before .before .before .loop .inv .0 (c .before .before .before .before .before .before .before .before .before .before .before .before .before .before .before .before .before .before .before .before .before .before .before .before .pre .1 .2 .code) (c .before .before .before .before .before .before .before .before .before .before .before .before .before .before .before .before .before .before .before .before .before .before .before .before .pre .1 .2 .reads)) .rest) ((c .before .before .before .before .before .before .before .before .before .before .before .before .before .before .before .before .before .before .before .before .loop .inv .0 (c .before .before .before .before .before .before .before .before .before .before .before .before .before .before .before .before .before .before .before .before .before .before .before .before .pre .1 .2 .code) (c .before .before .before .before .before .before .before .before .before .before .before .before .before .before .before .before .before .before .before .before .before .before .before .before .pre .1 .2 .reads)) .reads))) in omega (arith, w .below-64)
+link-list-add-number t c =
+    let pre = c .before .before .before .before .before .before .before .before .before .before .before .before .before .before .before .before .before
+    .before .before .before .before .before .before .before .pre in
+    let loop = c .before .before .before .before .before .before .before .before .before .before .before .before .before .before .before .before .before
+    .before .before .before .loop in
+    let parts-at = c .before .before .before .before .before .before .before .before .before .before .before .before .before .before .before .before .before
+    .before .before .parts-at in
+    let list = c .before .before .before .before .before .before .before .before .before .before .before .before .before .before .before .before .before
+    .list in
+    let w = turn-closure _ _ _ _ _ _ _ _ _ _ _ _ (loop .inv .0 (pre .1 .2 .code) (pre .1 .2 .reads)) _ _ _
+    (parted-as _ _ (list .given .1) (parts-at .ensures ((loop .inv .0 (pre .1 .2 .code) (pre .1 .2 .reads)) .rest)
+    ((loop .inv .0 (pre .1 .2 .code) (pre .1 .2 .reads)) .reads))) in
+    omega (arith, w .below-64)
 
 link-list-add-number-2 : (t : ℕ) → link-list-lts.Need-add-number-2 (inner t) (link-list-at t) link-list.Post link-list-Inv-loop link-list-μ-loop
-link-list-add-number-2 t c = let w = turn-closure _ _ _ _ _ _ _ _ _ _ _ _ (c .before .before .before .before .before .before .before .before .before .before .before .before .before .before .before .before .before .before .before .before .loop .inv .0 (c .before .before .before .before .before .before .before .before .before .before .before .before .before .before .before .before .before .before .before .before .before .before .before .before .pre .1 .2 .code) (c .before .before .before .before .before .before .before .before .before .before .before .before .before .before .before .before .before .before .before .before .before .before .before .before .pre .1 .2 .reads)) _ _ _ (parted-as _ _ (c .before .before .before .before .before .before .before .before .before .before .before .before .before .before .before .before .before .list .given .1) (c .before .before .before .before .before .before .before .before .before .before .before .before .before .before .before .before .before .before .before .parts-at .ensures ((c .before .before .before .before .before .before .before .before .before .before .before .before .before .before .before .before .before .before .before .before .loop .inv .0 (c .before .before .before .before .before .before .before .before .before .before .before .before .before .before .before .before .before .before .before .before .before .before .before .before .pre .1 .2 .code) (c .before .before .before .before .before .before .before .before .before .before .before .before .before .before .before .before .before .before .before .before .before .before .before .before .pre .1 .2 .reads)) .rest) ((c .before .before .before .before .before .before .before .before .before .before .before .before .before .before .before .before .before .before .before .before .loop .inv .0 (c .before .before .before .before .before .before .before .before .before .before .before .before .before .before .before .before .before .before .before .before .before .before .before .before .pre .1 .2 .code) (c .before .before .before .before .before .before .before .before .before .before .before .before .before .before .before .before .before .before .before .before .before .before .before .before .pre .1 .2 .reads)) .reads))) in omega (arith, w .below-64)
+link-list-add-number-2 t c =
+    let pre = c .before .before .before .before .before .before .before .before .before .before .before .before .before .before .before .before .before
+    .before .before .before .before .before .before .before .pre in
+    let loop = c .before .before .before .before .before .before .before .before .before .before .before .before .before .before .before .before .before
+    .before .before .before .loop in
+    let parts-at = c .before .before .before .before .before .before .before .before .before .before .before .before .before .before .before .before .before
+    .before .before .parts-at in
+    let list = c .before .before .before .before .before .before .before .before .before .before .before .before .before .before .before .before .before
+    .list in
+    let w = turn-closure _ _ _ _ _ _ _ _ _ _ _ _ (loop .inv .0 (pre .1 .2 .code) (pre .1 .2 .reads)) _ _ _
+    (parted-as _ _ (list .given .1) (parts-at .ensures ((loop .inv .0 (pre .1 .2 .code) (pre .1 .2 .reads)) .rest)
+    ((loop .inv .0 (pre .1 .2 .code) (pre .1 .2 .reads)) .reads))) in
+    omega (arith, w .below-64)
 
 link-list-loop-less-2 : (t : ℕ) → link-list-lts.Need-loop-less-2 (inner t) (link-list-at t) link-list.Post link-list-Inv-loop link-list-μ-loop
-link-list-loop-less-2 t c = let w = turn-closure _ _ _ _ _ _ _ _ _ _ _ _ (c .before .before .before .before .before .before .before .before .before .before .before .before .before .before .before .before .before .before .before .before .loop .inv .0 (c .before .before .before .before .before .before .before .before .before .before .before .before .before .before .before .before .before .before .before .before .before .before .before .before .pre .1 .2 .code) (c .before .before .before .before .before .before .before .before .before .before .before .before .before .before .before .before .before .before .before .before .before .before .before .before .pre .1 .2 .reads)) _ _ _ (parted-as _ _ (c .before .before .before .before .before .before .before .before .before .before .before .before .before .before .before .before .before .list .given .1) (c .before .before .before .before .before .before .before .before .before .before .before .before .before .before .before .before .before .before .before .parts-at .ensures ((c .before .before .before .before .before .before .before .before .before .before .before .before .before .before .before .before .before .before .before .before .loop .inv .0 (c .before .before .before .before .before .before .before .before .before .before .before .before .before .before .before .before .before .before .before .before .before .before .before .before .pre .1 .2 .code) (c .before .before .before .before .before .before .before .before .before .before .before .before .before .before .before .before .before .before .before .before .before .before .before .before .pre .1 .2 .reads)) .rest) ((c .before .before .before .before .before .before .before .before .before .before .before .before .before .before .before .before .before .before .before .before .loop .inv .0 (c .before .before .before .before .before .before .before .before .before .before .before .before .before .before .before .before .before .before .before .before .before .before .before .before .pre .1 .2 .code) (c .before .before .before .before .before .before .before .before .before .before .before .before .before .before .before .before .before .before .before .before .before .before .before .before .pre .1 .2 .reads)) .reads))) in omega (arith, w .past, w .within)
+link-list-loop-less-2 t c =
+    let pre = c .before .before .before .before .before .before .before .before .before .before .before .before .before .before .before .before .before
+    .before .before .before .before .before .before .before .pre in
+    let loop = c .before .before .before .before .before .before .before .before .before .before .before .before .before .before .before .before .before
+    .before .before .before .loop in
+    let parts-at = c .before .before .before .before .before .before .before .before .before .before .before .before .before .before .before .before .before
+    .before .before .parts-at in
+    let list = c .before .before .before .before .before .before .before .before .before .before .before .before .before .before .before .before .before
+    .list in
+    let w = turn-closure _ _ _ _ _ _ _ _ _ _ _ _ (loop .inv .0 (pre .1 .2 .code) (pre .1 .2 .reads)) _ _ _
+    (parted-as _ _ (list .given .1) (parts-at .ensures ((loop .inv .0 (pre .1 .2 .code) (pre .1 .2 .reads)) .rest)
+    ((loop .inv .0 (pre .1 .2 .code) (pre .1 .2 .reads)) .reads))) in
+    omega (arith, w .past, w .within)
 
 link-list-loop-again-2 : (t : ℕ) → link-list-lts.Need-loop-again-2 (inner t) (link-list-at t) link-list.Post link-list-Inv-loop link-list-μ-loop
-link-list-loop-again-2 t c = let w = turn-closure _ _ _ _ _ _ _ _ _ _ _ _ (c .before .before .before .before .before .before .before .before .before .before .before .before .before .before .before .before .before .before .before .before .loop .inv .0 (c .before .before .before .before .before .before .before .before .before .before .before .before .before .before .before .before .before .before .before .before .before .before .before .before .pre .1 .2 .code) (c .before .before .before .before .before .before .before .before .before .before .before .before .before .before .before .before .before .before .before .before .before .before .before .before .pre .1 .2 .reads)) _ _ _ (parted-as _ _ (c .before .before .before .before .before .before .before .before .before .before .before .before .before .before .before .before .before .list .given .1) (c .before .before .before .before .before .before .before .before .before .before .before .before .before .before .before .before .before .before .before .parts-at .ensures ((c .before .before .before .before .before .before .before .before .before .before .before .before .before .before .before .before .before .before .before .before .loop .inv .0 (c .before .before .before .before .before .before .before .before .before .before .before .before .before .before .before .before .before .before .before .before .before .before .before .before .pre .1 .2 .code) (c .before .before .before .before .before .before .before .before .before .before .before .before .before .before .before .before .before .before .before .before .before .before .before .before .pre .1 .2 .reads)) .rest) ((c .before .before .before .before .before .before .before .before .before .before .before .before .before .before .before .before .before .before .before .before .loop .inv .0 (c .before .before .before .before .before .before .before .before .before .before .before .before .before .before .before .before .before .before .before .before .before .before .before .before .pre .1 .2 .code) (c .before .before .before .before .before .before .before .before .before .before .before .before .before .before .before .before .before .before .before .before .before .before .before .before .pre .1 .2 .reads)) .reads))) in ((λ d h. turn-closure _ _ _ _ _ _ _ _ _ _ _ _ (c .before .before .before .before .before .before .before .before .before .before .before .before .before .before .before .before .before .before .before .before .loop .inv .0 d h) _ _ _ (parted-as _ _ (c .before .before .before .before .before .before .before .before .before .before .before .before .before .before .before .before .before .list .given .1) (c .before .before .before .before .before .before .before .before .before .before .before .before .before .before .before .before .before .before .before .parts-at .ensures ((c .before .before .before .before .before .before .before .before .before .before .before .before .before .before .before .before .before .before .before .before .loop .inv .0 d h) .rest) ((c .before .before .before .before .before .before .before .before .before .before .before .before .before .before .before .before .before .before .before .before .loop .inv .0 d h) .reads))) .left _ _ _ _ (c .before .before .before .before .before .before .before .before .before .put-link2 .ensures ∙ ap (λ n. link (c .before .before .before .before .before .before .before .before .before .before .before .before .before .before .before .before .before .before .before .before .loop .links) (c .before .before .before .before .before .before .before .before .before .before .before .before .before .before .before .before .before .before .before .before .loop .here .0) (64 * n + c .before .before .before .before .before .before .before .before .before .before .before .before .before .before .before .before .before .before .before .before .loop .number)) (c .before .before .before .before .before .before .before .before .before .before .number2 .ensures)) (c .before .before .before .before .before .before .before .before .before .before .before .before .before .before .put-start .ensures) (c .before .before .before .before .link-list .ensures)), search needs, search needs, c .before .before .before .before .before .before .before .before .before .before .before .before .before .before .before .before .before .before .before .before .loop .inv .3, omega (arith, w .past, c .before .before .before .before .before .before .before .before .before .before .before .before .before .before .before .before .before .before .before .before .loop .inv .4))
+link-list-loop-again-2 t c =
+    let pre = c .before .before .before .before .before .before .before .before .before .before .before .before .before .before .before .before .before
+    .before .before .before .before .before .before .before .pre in
+    let loop = c .before .before .before .before .before .before .before .before .before .before .before .before .before .before .before .before .before
+    .before .before .before .loop in
+    let parts-at = c .before .before .before .before .before .before .before .before .before .before .before .before .before .before .before .before .before
+    .before .before .parts-at in
+    let list = c .before .before .before .before .before .before .before .before .before .before .before .before .before .before .before .before .before
+    .list in
+    let put-start = c .before .before .before .before .before .before .before .before .before .before .before .before .before .before .put-start in
+    let number2 = c .before .before .before .before .before .before .before .before .before .before .number2 in
+    let put-link2 = c .before .before .before .before .before .before .before .before .before .put-link2 in
+    let link-list′ = c .before .before .before .before .link-list in
+    let w = turn-closure _ _ _ _ _ _ _ _ _ _ _ _ (loop .inv .0 (pre .1 .2 .code) (pre .1 .2 .reads)) _ _ _
+    (parted-as _ _ (list .given .1) (parts-at .ensures ((loop .inv .0 (pre .1 .2 .code) (pre .1 .2 .reads)) .rest)
+    ((loop .inv .0 (pre .1 .2 .code) (pre .1 .2 .reads)) .reads))) in (
+      (λ d h. turn-closure _ _ _ _ _ _ _ _ _ _ _ _ (loop .inv .0 d h) _ _ _
+          (parted-as _ _ (list .given .1) (parts-at .ensures ((loop .inv .0 d h) .rest) ((loop .inv .0 d h) .reads))) .left _ _ _ _
+          (put-link2 .ensures ∙ ap (λ n. link (loop .links) (loop .here .0) (64 * n + loop .number)) (number2 .ensures)) (put-start .ensures)
+          (link-list′ .ensures)),
+      search needs,
+      search needs,
+      loop .inv .3,
+      omega (arith, w .past, loop .inv .4),
+    )
 
 link-list-enum-known-arm : (t : ℕ) → link-list-lts.Need-enum-known-arm (inner t) (link-list-at t) link-list.Post link-list-Inv-loop link-list-μ-loop
 link-list-enum-known-arm t c = search needs
@@ -124,28 +263,135 @@ link-list-number-requires-3 : (t : ℕ) → link-list-lts.Need-number-requires-3
 link-list-number-requires-3 t c κs = search needs
 
 link-list-put-link-requires-3 : (t : ℕ) → link-list-lts.Need-put-link-requires-3 (inner t) (link-list-at t) link-list.Post link-list-Inv-loop link-list-μ-loop
-link-list-put-link-requires-3 t c κs = let w = turn-arms _ _ _ _ _ _ _ _ _ _ _ _ (c .before .before .before .before .before .before .before .loop .inv .0 (c .before .before .before .before .before .before .before .before .before .before .before .pre .1 .2 .code) (c .before .before .before .before .before .before .before .before .before .before .before .pre .1 .2 .reads)) _ _ _ _ _ (parted-as _ _ (c .before .before .before .before .arm .given .1) (c .before .before .before .before .before .before .parts-at .ensures ((c .before .before .before .before .before .before .before .loop .inv .0 (c .before .before .before .before .before .before .before .before .before .before .before .pre .1 .2 .code) (c .before .before .before .before .before .before .before .before .before .before .before .pre .1 .2 .reads)) .rest) ((c .before .before .before .before .before .before .before .loop .inv .0 (c .before .before .before .before .before .before .before .before .before .before .before .pre .1 .2 .code) (c .before .before .before .before .before .before .before .before .before .before .before .pre .1 .2 .reads)) .reads))) in omega (arith, c .number3 .ensures, w .short, w .within, c .before .before .before .before .before .before .before .before .before .before .before .pre .1 .0)
+link-list-put-link-requires-3 t c κs =
+    let pre = c .before .before .before .before .before .before .before .before .before .before .before .pre in
+    let loop = c .before .before .before .before .before .before .before .loop in
+    let parts-at = c .before .before .before .before .before .before .parts-at in
+    let arm = c .before .before .before .before .arm in
+    let w = turn-arms _ _ _ _ _ _ _ _ _ _ _ _ (loop .inv .0 (pre .1 .2 .code) (pre .1 .2 .reads)) _ _ _ _ _
+    (parted-as _ _ (arm .given .1) (parts-at .ensures ((loop .inv .0 (pre .1 .2 .code) (pre .1 .2 .reads)) .rest)
+    ((loop .inv .0 (pre .1 .2 .code) (pre .1 .2 .reads)) .reads))) in
+    omega (arith, c .number3 .ensures, w .short, w .within, pre .1 .0)
 
 link-list-link-list-requires-2 : (t : ℕ) → link-list-lts.Need-link-list-requires-2 (inner t) (link-list-at t) link-list.Post link-list-Inv-loop link-list-μ-loop
-link-list-link-list-requires-2 t c κs = let w = turn-arms _ _ _ _ _ _ _ _ _ _ _ _ (c .before .before .before .before .before .before .before .before .before .before .before .before .loop .inv .0 (c .before .before .before .before .before .before .before .before .before .before .before .before .before .before .before .before .pre .1 .2 .code) (c .before .before .before .before .before .before .before .before .before .before .before .before .before .before .before .before .pre .1 .2 .reads)) _ _ _ _ _ (parted-as _ _ (c .before .before .before .before .before .before .before .before .before .arm .given .1) (c .before .before .before .before .before .before .before .before .before .before .before .parts-at .ensures ((c .before .before .before .before .before .before .before .before .before .before .before .before .loop .inv .0 (c .before .before .before .before .before .before .before .before .before .before .before .before .before .before .before .before .pre .1 .2 .code) (c .before .before .before .before .before .before .before .before .before .before .before .before .before .before .before .before .pre .1 .2 .reads)) .rest) ((c .before .before .before .before .before .before .before .before .before .before .before .before .loop .inv .0 (c .before .before .before .before .before .before .before .before .before .before .before .before .before .before .before .before .pre .1 .2 .code) (c .before .before .before .before .before .before .before .before .before .before .before .before .before .before .before .before .pre .1 .2 .reads)) .reads))) in (omega (arith, w .on, w .past, w .within, c .before .before .before .before .before .before .before .before .before .before .before .before .before .before .before .before .pre .1 .0, c .before .before .before .before .before .before .before .before .before .before .before .before .loop .inv .4, c .before .before .before .before .before .before .before .before .before .before .before .before .before .before .before .before .pre .0), (c .before .before .before .before .before .before .before .before .before .before .before .before .before .before .before .before .pre .1 .0, w .small _ 524288 (c .before .before .before .before .before .before .before .follow-of .ensures) (c .before .before .before .before .before .before .before .before .before .before .before .before .loop .inv .3) (omega (arith, c .before .before .before .before .before .before .before .before .before .before .before .before .before .before .before .before .pre .1 .0)), w .first-fresh))
+link-list-link-list-requires-2 t c κs =
+    let pre = c .before .before .before .before .before .before .before .before .before .before .before .before .before .before .before .before .pre in
+    let loop = c .before .before .before .before .before .before .before .before .before .before .before .before .loop in
+    let parts-at = c .before .before .before .before .before .before .before .before .before .before .before .parts-at in
+    let arm = c .before .before .before .before .before .before .before .before .before .arm in
+    let follow-of = c .before .before .before .before .before .before .before .follow-of in
+    let w = turn-arms _ _ _ _ _ _ _ _ _ _ _ _ (loop .inv .0 (pre .1 .2 .code) (pre .1 .2 .reads)) _ _ _ _ _
+    (parted-as _ _ (arm .given .1) (parts-at .ensures ((loop .inv .0 (pre .1 .2 .code) (pre .1 .2 .reads)) .rest)
+    ((loop .inv .0 (pre .1 .2 .code) (pre .1 .2 .reads)) .reads))) in (
+      omega (arith, w .on, w .past, w .within, pre .1 .0, loop .inv .4, pre .0),
+      (pre .1 .0, w .small _ 524288 (follow-of .ensures) (loop .inv .3) (omega (arith, pre .1 .0)), w .first-fresh),
+    )
 
 link-list-add-link-list-2 : (t : ℕ) → link-list-lts.Need-add-link-list-2 (inner t) (link-list-at t) link-list.Post link-list-Inv-loop link-list-μ-loop
-link-list-add-link-list-2 t c = let w = turn-arms _ _ _ _ _ _ _ _ _ _ _ _ (c .before .before .before .before .before .before .before .before .before .before .before .before .before .before .before .before .before .before .before .loop .inv .0 (c .before .before .before .before .before .before .before .before .before .before .before .before .before .before .before .before .before .before .before .before .before .before .before .pre .1 .2 .code) (c .before .before .before .before .before .before .before .before .before .before .before .before .before .before .before .before .before .before .before .before .before .before .before .pre .1 .2 .reads)) _ _ _ _ _ (parted-as _ _ (c .before .before .before .before .before .before .before .before .before .before .before .before .before .before .before .before .arm .given .1) (c .before .before .before .before .before .before .before .before .before .before .before .before .before .before .before .before .before .before .parts-at .ensures ((c .before .before .before .before .before .before .before .before .before .before .before .before .before .before .before .before .before .before .before .loop .inv .0 (c .before .before .before .before .before .before .before .before .before .before .before .before .before .before .before .before .before .before .before .before .before .before .before .pre .1 .2 .code) (c .before .before .before .before .before .before .before .before .before .before .before .before .before .before .before .before .before .before .before .before .before .before .before .pre .1 .2 .reads)) .rest) ((c .before .before .before .before .before .before .before .before .before .before .before .before .before .before .before .before .before .before .before .loop .inv .0 (c .before .before .before .before .before .before .before .before .before .before .before .before .before .before .before .before .before .before .before .before .before .before .before .pre .1 .2 .code) (c .before .before .before .before .before .before .before .before .before .before .before .before .before .before .before .before .before .before .before .before .before .before .before .pre .1 .2 .reads)) .reads))) in omega (arith, w .below-64)
+link-list-add-link-list-2 t c =
+    let pre = c .before .before .before .before .before .before .before .before .before .before .before .before .before .before .before .before .before
+    .before .before .before .before .before .before .pre in
+    let loop = c .before .before .before .before .before .before .before .before .before .before .before .before .before .before .before .before .before
+    .before .before .loop in
+    let parts-at = c .before .before .before .before .before .before .before .before .before .before .before .before .before .before .before .before .before
+    .before .parts-at in
+    let arm = c .before .before .before .before .before .before .before .before .before .before .before .before .before .before .before .before .arm in
+    let w = turn-arms _ _ _ _ _ _ _ _ _ _ _ _ (loop .inv .0 (pre .1 .2 .code) (pre .1 .2 .reads)) _ _ _ _ _
+    (parted-as _ _ (arm .given .1) (parts-at .ensures ((loop .inv .0 (pre .1 .2 .code) (pre .1 .2 .reads)) .rest)
+    ((loop .inv .0 (pre .1 .2 .code) (pre .1 .2 .reads)) .reads))) in
+    omega (arith, w .below-64)
 
 link-list-link-list-requires-3 : (t : ℕ) → link-list-lts.Need-link-list-requires-3 (inner t) (link-list-at t) link-list.Post link-list-Inv-loop link-list-μ-loop
-link-list-link-list-requires-3 t c κs = let w = turn-arms _ _ _ _ _ _ _ _ _ _ _ _ (c .before .before .before .before .before .before .before .before .before .before .before .before .before .before .before .before .before .before .before .loop .inv .0 (c .before .before .before .before .before .before .before .before .before .before .before .before .before .before .before .before .before .before .before .before .before .before .before .pre .1 .2 .code) (c .before .before .before .before .before .before .before .before .before .before .before .before .before .before .before .before .before .before .before .before .before .before .before .pre .1 .2 .reads)) _ _ _ _ _ (parted-as _ _ (c .before .before .before .before .before .before .before .before .before .before .before .before .before .before .before .before .arm .given .1) (c .before .before .before .before .before .before .before .before .before .before .before .before .before .before .before .before .before .before .parts-at .ensures ((c .before .before .before .before .before .before .before .before .before .before .before .before .before .before .before .before .before .before .before .loop .inv .0 (c .before .before .before .before .before .before .before .before .before .before .before .before .before .before .before .before .before .before .before .before .before .before .before .pre .1 .2 .code) (c .before .before .before .before .before .before .before .before .before .before .before .before .before .before .before .before .before .before .before .before .before .before .before .pre .1 .2 .reads)) .rest) ((c .before .before .before .before .before .before .before .before .before .before .before .before .before .before .before .before .before .before .before .loop .inv .0 (c .before .before .before .before .before .before .before .before .before .before .before .before .before .before .before .before .before .before .before .before .before .before .before .pre .1 .2 .code) (c .before .before .before .before .before .before .before .before .before .before .before .before .before .before .before .before .before .before .before .before .before .before .before .pre .1 .2 .reads)) .reads))) in (omega (arith, w .middle, w .past, w .within, c .before .before .before .before .before .before .before .before .before .before .before .before .before .before .before .before .before .before .before .before .before .before .before .pre .1 .0, c .before .before .before .before .before .before .before .before .before .before .before .before .before .before .before .before .before .before .before .loop .inv .4, c .before .before .before .before .before .before .before .before .before .before .before .before .before .before .before .before .before .before .before .before .before .before .before .pre .0), (c .before .before .before .before .before .before .before .before .before .before .before .before .before .before .before .before .before .before .before .before .before .before .before .pre .1 .0, w .small _ 524288 (c .before .before .before .before .before .before .before .before .before .before .before .before .before .before .follow-of .ensures) (c .before .before .before .before .before .before .before .before .before .before .before .before .before .before .before .before .before .before .before .loop .inv .3) (omega (arith, c .before .before .before .before .before .before .before .before .before .before .before .before .before .before .before .before .before .before .before .before .before .before .before .pre .1 .0)), w .second-fresh))
+link-list-link-list-requires-3 t c κs =
+    let pre = c .before .before .before .before .before .before .before .before .before .before .before .before .before .before .before .before .before
+    .before .before .before .before .before .before .pre in
+    let loop = c .before .before .before .before .before .before .before .before .before .before .before .before .before .before .before .before .before
+    .before .before .loop in
+    let parts-at = c .before .before .before .before .before .before .before .before .before .before .before .before .before .before .before .before .before
+    .before .parts-at in
+    let arm = c .before .before .before .before .before .before .before .before .before .before .before .before .before .before .before .before .arm in
+    let follow-of = c .before .before .before .before .before .before .before .before .before .before .before .before .before .before .follow-of in
+    let w = turn-arms _ _ _ _ _ _ _ _ _ _ _ _ (loop .inv .0 (pre .1 .2 .code) (pre .1 .2 .reads)) _ _ _ _ _
+    (parted-as _ _ (arm .given .1) (parts-at .ensures ((loop .inv .0 (pre .1 .2 .code) (pre .1 .2 .reads)) .rest)
+    ((loop .inv .0 (pre .1 .2 .code) (pre .1 .2 .reads)) .reads))) in (
+      omega (arith, w .middle, w .past, w .within, pre .1 .0, loop .inv .4, pre .0),
+      (pre .1 .0, w .small _ 524288 (follow-of .ensures) (loop .inv .3) (omega (arith, pre .1 .0)), w .second-fresh),
+    )
 
 link-list-add-number-3 : (t : ℕ) → link-list-lts.Need-add-number-3 (inner t) (link-list-at t) link-list.Post link-list-Inv-loop link-list-μ-loop
-link-list-add-number-3 t c = let w = turn-arms _ _ _ _ _ _ _ _ _ _ _ _ (c .before .before .before .before .before .before .before .before .before .before .before .before .before .before .before .before .before .before .before .before .before .before .before .before .loop .inv .0 (c .before .before .before .before .before .before .before .before .before .before .before .before .before .before .before .before .before .before .before .before .before .before .before .before .before .before .before .before .pre .1 .2 .code) (c .before .before .before .before .before .before .before .before .before .before .before .before .before .before .before .before .before .before .before .before .before .before .before .before .before .before .before .before .pre .1 .2 .reads)) _ _ _ _ _ (parted-as _ _ (c .before .before .before .before .before .before .before .before .before .before .before .before .before .before .before .before .before .before .before .before .before .arm .given .1) (c .before .before .before .before .before .before .before .before .before .before .before .before .before .before .before .before .before .before .before .before .before .before .before .parts-at .ensures ((c .before .before .before .before .before .before .before .before .before .before .before .before .before .before .before .before .before .before .before .before .before .before .before .before .loop .inv .0 (c .before .before .before .before .before .before .before .before .before .before .before .before .before .before .before .before .before .before .before .before .before .before .before .before .before .before .before .before .pre .1 .2 .code) (c .before .before .before .before .before .before .before .before .before .before .before .before .before .before .before .before .before .before .before .before .before .before .before .before .before .before .before .before .pre .1 .2 .reads)) .rest) ((c .before .before .before .before .before .before .before .before .before .before .before .before .before .before .before .before .before .before .before .before .before .before .before .before .loop .inv .0 (c .before .before .before .before .before .before .before .before .before .before .before .before .before .before .before .before .before .before .before .before .before .before .before .before .before .before .before .before .pre .1 .2 .code) (c .before .before .before .before .before .before .before .before .before .before .before .before .before .before .before .before .before .before .before .before .before .before .before .before .before .before .before .before .pre .1 .2 .reads)) .reads))) in omega (arith, w .below-64)
+link-list-add-number-3 t c =
+    let pre = c .before .before .before .before .before .before .before .before .before .before .before .before .before .before .before .before .before
+    .before .before .before .before .before .before .before .before .before .before .before .pre in
+    let loop = c .before .before .before .before .before .before .before .before .before .before .before .before .before .before .before .before .before
+    .before .before .before .before .before .before .before .loop in
+    let parts-at = c .before .before .before .before .before .before .before .before .before .before .before .before .before .before .before .before .before
+    .before .before .before .before .before .before .parts-at in
+    let arm = c .before .before .before .before .before .before .before .before .before .before .before .before .before .before .before .before .before
+    .before .before .before .before .arm in
+    let w = turn-arms _ _ _ _ _ _ _ _ _ _ _ _ (loop .inv .0 (pre .1 .2 .code) (pre .1 .2 .reads)) _ _ _ _ _
+    (parted-as _ _ (arm .given .1) (parts-at .ensures ((loop .inv .0 (pre .1 .2 .code) (pre .1 .2 .reads)) .rest)
+    ((loop .inv .0 (pre .1 .2 .code) (pre .1 .2 .reads)) .reads))) in
+    omega (arith, w .below-64)
 
 link-list-add-number-4 : (t : ℕ) → link-list-lts.Need-add-number-4 (inner t) (link-list-at t) link-list.Post link-list-Inv-loop link-list-μ-loop
-link-list-add-number-4 t c = let w = turn-arms _ _ _ _ _ _ _ _ _ _ _ _ (c .before .before .before .before .before .before .before .before .before .before .before .before .before .before .before .before .before .before .before .before .before .before .before .before .loop .inv .0 (c .before .before .before .before .before .before .before .before .before .before .before .before .before .before .before .before .before .before .before .before .before .before .before .before .before .before .before .before .pre .1 .2 .code) (c .before .before .before .before .before .before .before .before .before .before .before .before .before .before .before .before .before .before .before .before .before .before .before .before .before .before .before .before .pre .1 .2 .reads)) _ _ _ _ _ (parted-as _ _ (c .before .before .before .before .before .before .before .before .before .before .before .before .before .before .before .before .before .before .before .before .before .arm .given .1) (c .before .before .before .before .before .before .before .before .before .before .before .before .before .before .before .before .before .before .before .before .before .before .before .parts-at .ensures ((c .before .before .before .before .before .before .before .before .before .before .before .before .before .before .before .before .before .before .before .before .before .before .before .before .loop .inv .0 (c .before .before .before .before .before .before .before .before .before .before .before .before .before .before .before .before .before .before .before .before .before .before .before .before .before .before .before .before .pre .1 .2 .code) (c .before .before .before .before .before .before .before .before .before .before .before .before .before .before .before .before .before .before .before .before .before .before .before .before .before .before .before .before .pre .1 .2 .reads)) .rest) ((c .before .before .before .before .before .before .before .before .before .before .before .before .before .before .before .before .before .before .before .before .before .before .before .before .loop .inv .0 (c .before .before .before .before .before .before .before .before .before .before .before .before .before .before .before .before .before .before .before .before .before .before .before .before .before .before .before .before .pre .1 .2 .code) (c .before .before .before .before .before .before .before .before .before .before .before .before .before .before .before .before .before .before .before .before .before .before .before .before .before .before .before .before .pre .1 .2 .reads)) .reads))) in omega (arith, w .below-64)
+link-list-add-number-4 t c =
+    let pre = c .before .before .before .before .before .before .before .before .before .before .before .before .before .before .before .before .before
+    .before .before .before .before .before .before .before .before .before .before .before .pre in
+    let loop = c .before .before .before .before .before .before .before .before .before .before .before .before .before .before .before .before .before
+    .before .before .before .before .before .before .before .loop in
+    let parts-at = c .before .before .before .before .before .before .before .before .before .before .before .before .before .before .before .before .before
+    .before .before .before .before .before .before .parts-at in
+    let arm = c .before .before .before .before .before .before .before .before .before .before .before .before .before .before .before .before .before
+    .before .before .before .before .arm in
+    let w = turn-arms _ _ _ _ _ _ _ _ _ _ _ _ (loop .inv .0 (pre .1 .2 .code) (pre .1 .2 .reads)) _ _ _ _ _
+    (parted-as _ _ (arm .given .1) (parts-at .ensures ((loop .inv .0 (pre .1 .2 .code) (pre .1 .2 .reads)) .rest)
+    ((loop .inv .0 (pre .1 .2 .code) (pre .1 .2 .reads)) .reads))) in
+    omega (arith, w .below-64)
 
 link-list-loop-less-3 : (t : ℕ) → link-list-lts.Need-loop-less-3 (inner t) (link-list-at t) link-list.Post link-list-Inv-loop link-list-μ-loop
-link-list-loop-less-3 t c = let w = turn-arms _ _ _ _ _ _ _ _ _ _ _ _ (c .before .before .before .before .before .before .before .before .before .before .before .before .before .before .before .before .before .before .before .before .before .before .before .before .loop .inv .0 (c .before .before .before .before .before .before .before .before .before .before .before .before .before .before .before .before .before .before .before .before .before .before .before .before .before .before .before .before .pre .1 .2 .code) (c .before .before .before .before .before .before .before .before .before .before .before .before .before .before .before .before .before .before .before .before .before .before .before .before .before .before .before .before .pre .1 .2 .reads)) _ _ _ _ _ (parted-as _ _ (c .before .before .before .before .before .before .before .before .before .before .before .before .before .before .before .before .before .before .before .before .before .arm .given .1) (c .before .before .before .before .before .before .before .before .before .before .before .before .before .before .before .before .before .before .before .before .before .before .before .parts-at .ensures ((c .before .before .before .before .before .before .before .before .before .before .before .before .before .before .before .before .before .before .before .before .before .before .before .before .loop .inv .0 (c .before .before .before .before .before .before .before .before .before .before .before .before .before .before .before .before .before .before .before .before .before .before .before .before .before .before .before .before .pre .1 .2 .code) (c .before .before .before .before .before .before .before .before .before .before .before .before .before .before .before .before .before .before .before .before .before .before .before .before .before .before .before .before .pre .1 .2 .reads)) .rest) ((c .before .before .before .before .before .before .before .before .before .before .before .before .before .before .before .before .before .before .before .before .before .before .before .before .loop .inv .0 (c .before .before .before .before .before .before .before .before .before .before .before .before .before .before .before .before .before .before .before .before .before .before .before .before .before .before .before .before .pre .1 .2 .code) (c .before .before .before .before .before .before .before .before .before .before .before .before .before .before .before .before .before .before .before .before .before .before .before .before .before .before .before .before .pre .1 .2 .reads)) .reads))) in omega (arith, w .past, w .within)
+link-list-loop-less-3 t c =
+    let pre = c .before .before .before .before .before .before .before .before .before .before .before .before .before .before .before .before .before
+    .before .before .before .before .before .before .before .before .before .before .before .pre in
+    let loop = c .before .before .before .before .before .before .before .before .before .before .before .before .before .before .before .before .before
+    .before .before .before .before .before .before .before .loop in
+    let parts-at = c .before .before .before .before .before .before .before .before .before .before .before .before .before .before .before .before .before
+    .before .before .before .before .before .before .parts-at in
+    let arm = c .before .before .before .before .before .before .before .before .before .before .before .before .before .before .before .before .before
+    .before .before .before .before .arm in
+    let w = turn-arms _ _ _ _ _ _ _ _ _ _ _ _ (loop .inv .0 (pre .1 .2 .code) (pre .1 .2 .reads)) _ _ _ _ _
+    (parted-as _ _ (arm .given .1) (parts-at .ensures ((loop .inv .0 (pre .1 .2 .code) (pre .1 .2 .reads)) .rest)
+    ((loop .inv .0 (pre .1 .2 .code) (pre .1 .2 .reads)) .reads))) in
+    omega (arith, w .past, w .within)
 
 link-list-loop-again-3 : (t : ℕ) → link-list-lts.Need-loop-again-3 (inner t) (link-list-at t) link-list.Post link-list-Inv-loop link-list-μ-loop
-link-list-loop-again-3 t c = let w = turn-arms _ _ _ _ _ _ _ _ _ _ _ _ (c .before .before .before .before .before .before .before .before .before .before .before .before .before .before .before .before .before .before .before .before .before .before .before .before .loop .inv .0 (c .before .before .before .before .before .before .before .before .before .before .before .before .before .before .before .before .before .before .before .before .before .before .before .before .before .before .before .before .pre .1 .2 .code) (c .before .before .before .before .before .before .before .before .before .before .before .before .before .before .before .before .before .before .before .before .before .before .before .before .before .before .before .before .pre .1 .2 .reads)) _ _ _ _ _ (parted-as _ _ (c .before .before .before .before .before .before .before .before .before .before .before .before .before .before .before .before .before .before .before .before .before .arm .given .1) (c .before .before .before .before .before .before .before .before .before .before .before .before .before .before .before .before .before .before .before .before .before .before .before .parts-at .ensures ((c .before .before .before .before .before .before .before .before .before .before .before .before .before .before .before .before .before .before .before .before .before .before .before .before .loop .inv .0 (c .before .before .before .before .before .before .before .before .before .before .before .before .before .before .before .before .before .before .before .before .before .before .before .before .before .before .before .before .pre .1 .2 .code) (c .before .before .before .before .before .before .before .before .before .before .before .before .before .before .before .before .before .before .before .before .before .before .before .before .before .before .before .before .pre .1 .2 .reads)) .rest) ((c .before .before .before .before .before .before .before .before .before .before .before .before .before .before .before .before .before .before .before .before .before .before .before .before .loop .inv .0 (c .before .before .before .before .before .before .before .before .before .before .before .before .before .before .before .before .before .before .before .before .before .before .before .before .before .before .before .before .pre .1 .2 .code) (c .before .before .before .before .before .before .before .before .before .before .before .before .before .before .before .before .before .before .before .before .before .before .before .before .before .before .before .before .pre .1 .2 .reads)) .reads))) in ((λ d h. turn-arms _ _ _ _ _ _ _ _ _ _ _ _ (c .before .before .before .before .before .before .before .before .before .before .before .before .before .before .before .before .before .before .before .before .before .before .before .before .loop .inv .0 d h) _ _ _ _ _ (parted-as _ _ (c .before .before .before .before .before .before .before .before .before .before .before .before .before .before .before .before .before .before .before .before .before .arm .given .1) (c .before .before .before .before .before .before .before .before .before .before .before .before .before .before .before .before .before .before .before .before .before .before .before .parts-at .ensures ((c .before .before .before .before .before .before .before .before .before .before .before .before .before .before .before .before .before .before .before .before .before .before .before .before .loop .inv .0 d h) .rest) ((c .before .before .before .before .before .before .before .before .before .before .before .before .before .before .before .before .before .before .before .before .before .before .before .before .loop .inv .0 d h) .reads))) .left _ (c .before .before .before .before .before .before .before .before .before .before .before .before .before .before .before .before .before .before .before .follow-of .ensures) _ _ _ _ _ (c .before .before .before .before .before .before .before .before .before .before .before .before .before .before .before .before .put-link3 .ensures ∙ ap (λ n. link (c .before .before .before .before .before .before .before .before .before .before .before .before .before .before .before .before .before .before .before .before .before .before .before .before .loop .links) (c .before .before .before .before .before .before .before .before .before .before .before .before .before .before .before .before .before .before .before .before .before .before .before .before .loop .here .0) n) (c .before .before .before .before .before .before .before .before .before .before .before .before .before .before .before .before .before .number3 .ensures)) (c .before .before .before .before .before .before .before .before .before .before .before .link-list2 .ensures) (c .before .before .before .before .link-list3 .ensures)), c .before .before .before .before .link-list3 .kept .1 .0 ∙ c .before .before .before .before .before .before .before .before .before .before .before .link-list2 .kept .1 .0 ∙ c .before .before .before .before .before .before .before .before .before .before .before .before .before .before .before .before .put-link3 .kept .0 ∙ c .before .before .before .before .before .before .before .before .before .before .before .before .before .before .before .before .before .before .before .before .before .before .before .before .loop .inv .1, c .before .before .before .before .link-list3 .kept .1 .1 .0 ∙ c .before .before .before .before .before .before .before .before .before .before .before .link-list2 .kept .1 .1 .0 ∙ c .before .before .before .before .before .before .before .before .before .before .before .before .before .before .before .before .before .before .before .before .before .before .before .before .loop .inv .2, c .before .before .before .before .before .before .before .before .before .before .before .before .before .before .before .before .before .before .before .before .before .before .before .before .loop .inv .3, omega (arith, w .past, c .before .before .before .before .before .before .before .before .before .before .before .before .before .before .before .before .before .before .before .before .before .before .before .before .loop .inv .4))
+link-list-loop-again-3 t c =
+    let pre = c .before .before .before .before .before .before .before .before .before .before .before .before .before .before .before .before .before
+    .before .before .before .before .before .before .before .before .before .before .before .pre in
+    let loop = c .before .before .before .before .before .before .before .before .before .before .before .before .before .before .before .before .before
+    .before .before .before .before .before .before .before .loop in
+    let parts-at = c .before .before .before .before .before .before .before .before .before .before .before .before .before .before .before .before .before
+    .before .before .before .before .before .before .parts-at in
+    let arm = c .before .before .before .before .before .before .before .before .before .before .before .before .before .before .before .before .before
+    .before .before .before .before .arm in
+    let follow-of = c .before .before .before .before .before .before .before .before .before .before .before .before .before .before .before .before .before
+    .before .before .follow-of in
+    let number3 = c .before .before .before .before .before .before .before .before .before .before .before .before .before .before .before .before .before
+    .number3 in
+    let put-link3 = c .before .before .before .before .before .before .before .before .before .before .before .before .before .before .before .before
+    .put-link3 in
+    let link-list2 = c .before .before .before .before .before .before .before .before .before .before .before .link-list2 in
+    let link-list3 = c .before .before .before .before .link-list3 in
+    let w = turn-arms _ _ _ _ _ _ _ _ _ _ _ _ (loop .inv .0 (pre .1 .2 .code) (pre .1 .2 .reads)) _ _ _ _ _
+    (parted-as _ _ (arm .given .1) (parts-at .ensures ((loop .inv .0 (pre .1 .2 .code) (pre .1 .2 .reads)) .rest)
+    ((loop .inv .0 (pre .1 .2 .code) (pre .1 .2 .reads)) .reads))) in (
+      (λ d h. turn-arms _ _ _ _ _ _ _ _ _ _ _ _ (loop .inv .0 d h) _ _ _ _ _
+          (parted-as _ _ (arm .given .1) (parts-at .ensures ((loop .inv .0 d h) .rest) ((loop .inv .0 d h) .reads))) .left _ (follow-of .ensures) _ _ _ _ _
+          (put-link3 .ensures ∙ ap (λ n. link (loop .links) (loop .here .0) n) (number3 .ensures)) (link-list2 .ensures) (link-list3 .ensures)),
+      link-list3 .kept .1 .0 ∙ link-list2 .kept .1 .0 ∙ put-link3 .kept .0 ∙ loop .inv .1,
+      link-list3 .kept .1 .1 .0 ∙ link-list2 .kept .1 .1 .0 ∙ loop .inv .2,
+      loop .inv .3,
+      omega (arith, w .past, loop .inv .4),
+    )
 
 link-list-enum-known-list-2 : (t : ℕ) → link-list-lts.Need-enum-known-list-2 (inner t) (link-list-at t) link-list.Post link-list-Inv-loop link-list-μ-loop
 link-list-enum-known-list-2 t c = search needs
@@ -154,19 +400,72 @@ link-list-number-requires-4 : (t : ℕ) → link-list-lts.Need-number-requires-4
 link-list-number-requires-4 t c κs = search needs
 
 link-list-put-link-requires-4 : (t : ℕ) → link-list-lts.Need-put-link-requires-4 (inner t) (link-list-at t) link-list.Post link-list-Inv-loop link-list-μ-loop
-link-list-put-link-requires-4 t c κs = let w = turn-saved _ _ _ _ _ _ _ _ _ _ _ _ (c .before .before .before .before .before .before .loop .inv .0 (c .before .before .before .before .before .before .before .before .before .before .pre .1 .2 .code) (c .before .before .before .before .before .before .before .before .before .before .pre .1 .2 .reads)) _ _ _ (parted-as _ _ (c .before .before .before .list2 .given .1) (c .before .before .before .before .before .parts-at .ensures ((c .before .before .before .before .before .before .loop .inv .0 (c .before .before .before .before .before .before .before .before .before .before .pre .1 .2 .code) (c .before .before .before .before .before .before .before .before .before .before .pre .1 .2 .reads)) .rest) ((c .before .before .before .before .before .before .loop .inv .0 (c .before .before .before .before .before .before .before .before .before .before .pre .1 .2 .code) (c .before .before .before .before .before .before .before .before .before .before .pre .1 .2 .reads)) .reads))) in omega (arith, c .number4 .ensures, w .within, c .before .before .before .before .before .before .before .before .before .before .pre .1 .0)
+link-list-put-link-requires-4 t c κs =
+    let pre = c .before .before .before .before .before .before .before .before .before .before .pre in
+    let loop = c .before .before .before .before .before .before .loop in
+    let parts-at = c .before .before .before .before .before .parts-at in
+    let list2 = c .before .before .before .list2 in
+    let w = turn-saved _ _ _ _ _ _ _ _ _ _ _ _ (loop .inv .0 (pre .1 .2 .code) (pre .1 .2 .reads)) _ _ _
+    (parted-as _ _ (list2 .given .1) (parts-at .ensures ((loop .inv .0 (pre .1 .2 .code) (pre .1 .2 .reads)) .rest)
+    ((loop .inv .0 (pre .1 .2 .code) (pre .1 .2 .reads)) .reads))) in
+    omega (arith, c .number4 .ensures, w .within, pre .1 .0)
 
 link-list-link-list-requires-4 : (t : ℕ) → link-list-lts.Need-link-list-requires-4 (inner t) (link-list-at t) link-list.Post link-list-Inv-loop link-list-μ-loop
-link-list-link-list-requires-4 t c κs = let w = turn-saved _ _ _ _ _ _ _ _ _ _ _ _ (c .before .before .before .before .before .before .before .before .before .before .before .loop .inv .0 (c .before .before .before .before .before .before .before .before .before .before .before .before .before .before .before .pre .1 .2 .code) (c .before .before .before .before .before .before .before .before .before .before .before .before .before .before .before .pre .1 .2 .reads)) _ _ _ (parted-as _ _ (c .before .before .before .before .before .before .before .before .list2 .given .1) (c .before .before .before .before .before .before .before .before .before .before .parts-at .ensures ((c .before .before .before .before .before .before .before .before .before .before .before .loop .inv .0 (c .before .before .before .before .before .before .before .before .before .before .before .before .before .before .before .pre .1 .2 .code) (c .before .before .before .before .before .before .before .before .before .before .before .before .before .before .before .pre .1 .2 .reads)) .rest) ((c .before .before .before .before .before .before .before .before .before .before .before .loop .inv .0 (c .before .before .before .before .before .before .before .before .before .before .before .before .before .before .before .pre .1 .2 .code) (c .before .before .before .before .before .before .before .before .before .before .before .before .before .before .before .pre .1 .2 .reads)) .reads))) in (omega (arith, w .on, w .past, w .within, c .before .before .before .before .before .before .before .before .before .before .before .before .before .before .before .pre .1 .0, c .before .before .before .before .before .before .before .before .before .before .before .loop .inv .4, c .before .before .before .before .before .before .before .before .before .before .before .before .before .before .before .pre .0), (c .before .before .before .before .before .before .before .before .before .before .before .before .before .before .before .pre .1 .0, c .before .before .before .before .before .before .before .before .before .before .before .loop .inv .3, w .fresh))
+link-list-link-list-requires-4 t c κs =
+    let pre = c .before .before .before .before .before .before .before .before .before .before .before .before .before .before .before .pre in
+    let loop = c .before .before .before .before .before .before .before .before .before .before .before .loop in
+    let parts-at = c .before .before .before .before .before .before .before .before .before .before .parts-at in
+    let list2 = c .before .before .before .before .before .before .before .before .list2 in
+    let w = turn-saved _ _ _ _ _ _ _ _ _ _ _ _ (loop .inv .0 (pre .1 .2 .code) (pre .1 .2 .reads)) _ _ _
+    (parted-as _ _ (list2 .given .1) (parts-at .ensures ((loop .inv .0 (pre .1 .2 .code) (pre .1 .2 .reads)) .rest)
+    ((loop .inv .0 (pre .1 .2 .code) (pre .1 .2 .reads)) .reads))) in
+    (omega (arith, w .on, w .past, w .within, pre .1 .0, loop .inv .4, pre .0), (pre .1 .0, loop .inv .3, w .fresh))
 
 link-list-add-number-5 : (t : ℕ) → link-list-lts.Need-add-number-5 (inner t) (link-list-at t) link-list.Post link-list-Inv-loop link-list-μ-loop
-link-list-add-number-5 t c = let w = turn-saved _ _ _ _ _ _ _ _ _ _ _ _ (c .before .before .before .before .before .before .before .before .before .before .before .before .before .before .before .before .loop .inv .0 (c .before .before .before .before .before .before .before .before .before .before .before .before .before .before .before .before .before .before .before .before .pre .1 .2 .code) (c .before .before .before .before .before .before .before .before .before .before .before .before .before .before .before .before .before .before .before .before .pre .1 .2 .reads)) _ _ _ (parted-as _ _ (c .before .before .before .before .before .before .before .before .before .before .before .before .before .list2 .given .1) (c .before .before .before .before .before .before .before .before .before .before .before .before .before .before .before .parts-at .ensures ((c .before .before .before .before .before .before .before .before .before .before .before .before .before .before .before .before .loop .inv .0 (c .before .before .before .before .before .before .before .before .before .before .before .before .before .before .before .before .before .before .before .before .pre .1 .2 .code) (c .before .before .before .before .before .before .before .before .before .before .before .before .before .before .before .before .before .before .before .before .pre .1 .2 .reads)) .rest) ((c .before .before .before .before .before .before .before .before .before .before .before .before .before .before .before .before .loop .inv .0 (c .before .before .before .before .before .before .before .before .before .before .before .before .before .before .before .before .before .before .before .before .pre .1 .2 .code) (c .before .before .before .before .before .before .before .before .before .before .before .before .before .before .before .before .before .before .before .before .pre .1 .2 .reads)) .reads))) in omega (arith, w .below-64)
+link-list-add-number-5 t c =
+    let pre = c .before .before .before .before .before .before .before .before .before .before .before .before .before .before .before .before .before
+    .before .before .before .pre in
+    let loop = c .before .before .before .before .before .before .before .before .before .before .before .before .before .before .before .before .loop in
+    let parts-at = c .before .before .before .before .before .before .before .before .before .before .before .before .before .before .before .parts-at in
+    let list2 = c .before .before .before .before .before .before .before .before .before .before .before .before .before .list2 in
+    let w = turn-saved _ _ _ _ _ _ _ _ _ _ _ _ (loop .inv .0 (pre .1 .2 .code) (pre .1 .2 .reads)) _ _ _
+    (parted-as _ _ (list2 .given .1) (parts-at .ensures ((loop .inv .0 (pre .1 .2 .code) (pre .1 .2 .reads)) .rest)
+    ((loop .inv .0 (pre .1 .2 .code) (pre .1 .2 .reads)) .reads))) in
+    omega (arith, w .below-64)
 
 link-list-loop-less-4 : (t : ℕ) → link-list-lts.Need-loop-less-4 (inner t) (link-list-at t) link-list.Post link-list-Inv-loop link-list-μ-loop
-link-list-loop-less-4 t c = let w = turn-saved _ _ _ _ _ _ _ _ _ _ _ _ (c .before .before .before .before .before .before .before .before .before .before .before .before .before .before .before .before .loop .inv .0 (c .before .before .before .before .before .before .before .before .before .before .before .before .before .before .before .before .before .before .before .before .pre .1 .2 .code) (c .before .before .before .before .before .before .before .before .before .before .before .before .before .before .before .before .before .before .before .before .pre .1 .2 .reads)) _ _ _ (parted-as _ _ (c .before .before .before .before .before .before .before .before .before .before .before .before .before .list2 .given .1) (c .before .before .before .before .before .before .before .before .before .before .before .before .before .before .before .parts-at .ensures ((c .before .before .before .before .before .before .before .before .before .before .before .before .before .before .before .before .loop .inv .0 (c .before .before .before .before .before .before .before .before .before .before .before .before .before .before .before .before .before .before .before .before .pre .1 .2 .code) (c .before .before .before .before .before .before .before .before .before .before .before .before .before .before .before .before .before .before .before .before .pre .1 .2 .reads)) .rest) ((c .before .before .before .before .before .before .before .before .before .before .before .before .before .before .before .before .loop .inv .0 (c .before .before .before .before .before .before .before .before .before .before .before .before .before .before .before .before .before .before .before .before .pre .1 .2 .code) (c .before .before .before .before .before .before .before .before .before .before .before .before .before .before .before .before .before .before .before .before .pre .1 .2 .reads)) .reads))) in omega (arith, w .past, w .within)
+link-list-loop-less-4 t c =
+    let pre = c .before .before .before .before .before .before .before .before .before .before .before .before .before .before .before .before .before
+    .before .before .before .pre in
+    let loop = c .before .before .before .before .before .before .before .before .before .before .before .before .before .before .before .before .loop in
+    let parts-at = c .before .before .before .before .before .before .before .before .before .before .before .before .before .before .before .parts-at in
+    let list2 = c .before .before .before .before .before .before .before .before .before .before .before .before .before .list2 in
+    let w = turn-saved _ _ _ _ _ _ _ _ _ _ _ _ (loop .inv .0 (pre .1 .2 .code) (pre .1 .2 .reads)) _ _ _
+    (parted-as _ _ (list2 .given .1) (parts-at .ensures ((loop .inv .0 (pre .1 .2 .code) (pre .1 .2 .reads)) .rest)
+    ((loop .inv .0 (pre .1 .2 .code) (pre .1 .2 .reads)) .reads))) in
+    omega (arith, w .past, w .within)
 
 link-list-loop-again-4 : (t : ℕ) → link-list-lts.Need-loop-again-4 (inner t) (link-list-at t) link-list.Post link-list-Inv-loop link-list-μ-loop
-link-list-loop-again-4 t c = let w = turn-saved _ _ _ _ _ _ _ _ _ _ _ _ (c .before .before .before .before .before .before .before .before .before .before .before .before .before .before .before .before .loop .inv .0 (c .before .before .before .before .before .before .before .before .before .before .before .before .before .before .before .before .before .before .before .before .pre .1 .2 .code) (c .before .before .before .before .before .before .before .before .before .before .before .before .before .before .before .before .before .before .before .before .pre .1 .2 .reads)) _ _ _ (parted-as _ _ (c .before .before .before .before .before .before .before .before .before .before .before .before .before .list2 .given .1) (c .before .before .before .before .before .before .before .before .before .before .before .before .before .before .before .parts-at .ensures ((c .before .before .before .before .before .before .before .before .before .before .before .before .before .before .before .before .loop .inv .0 (c .before .before .before .before .before .before .before .before .before .before .before .before .before .before .before .before .before .before .before .before .pre .1 .2 .code) (c .before .before .before .before .before .before .before .before .before .before .before .before .before .before .before .before .before .before .before .before .pre .1 .2 .reads)) .rest) ((c .before .before .before .before .before .before .before .before .before .before .before .before .before .before .before .before .loop .inv .0 (c .before .before .before .before .before .before .before .before .before .before .before .before .before .before .before .before .before .before .before .before .pre .1 .2 .code) (c .before .before .before .before .before .before .before .before .before .before .before .before .before .before .before .before .before .before .before .before .pre .1 .2 .reads)) .reads))) in ((λ d h. turn-saved _ _ _ _ _ _ _ _ _ _ _ _ (c .before .before .before .before .before .before .before .before .before .before .before .before .before .before .before .before .loop .inv .0 d h) _ _ _ (parted-as _ _ (c .before .before .before .before .before .before .before .before .before .before .before .before .before .list2 .given .1) (c .before .before .before .before .before .before .before .before .before .before .before .before .before .before .before .parts-at .ensures ((c .before .before .before .before .before .before .before .before .before .before .before .before .before .before .before .before .loop .inv .0 d h) .rest) ((c .before .before .before .before .before .before .before .before .before .before .before .before .before .before .before .before .loop .inv .0 d h) .reads))) .left _ _ _ (c .before .before .before .before .before .before .before .before .before .put-link4 .ensures ∙ ap (λ n. link (c .before .before .before .before .before .before .before .before .before .before .before .before .before .before .before .before .loop .links) (c .before .before .before .before .before .before .before .before .before .before .before .before .before .before .before .before .loop .here .0) n) (c .before .before .before .before .before .before .before .before .before .before .number4 .ensures)) (c .before .before .before .before .link-list4 .ensures)), search needs, search needs, omega arith, omega (arith, w .past, c .before .before .before .before .before .before .before .before .before .before .before .before .before .before .before .before .loop .inv .4))
+link-list-loop-again-4 t c =
+    let pre = c .before .before .before .before .before .before .before .before .before .before .before .before .before .before .before .before .before
+    .before .before .before .pre in
+    let loop = c .before .before .before .before .before .before .before .before .before .before .before .before .before .before .before .before .loop in
+    let parts-at = c .before .before .before .before .before .before .before .before .before .before .before .before .before .before .before .parts-at in
+    let list2 = c .before .before .before .before .before .before .before .before .before .before .before .before .before .list2 in
+    let number4 = c .before .before .before .before .before .before .before .before .before .before .number4 in
+    let put-link4 = c .before .before .before .before .before .before .before .before .before .put-link4 in
+    let link-list4 = c .before .before .before .before .link-list4 in
+    let w = turn-saved _ _ _ _ _ _ _ _ _ _ _ _ (loop .inv .0 (pre .1 .2 .code) (pre .1 .2 .reads)) _ _ _
+    (parted-as _ _ (list2 .given .1) (parts-at .ensures ((loop .inv .0 (pre .1 .2 .code) (pre .1 .2 .reads)) .rest)
+    ((loop .inv .0 (pre .1 .2 .code) (pre .1 .2 .reads)) .reads))) in (
+      (λ d h. turn-saved _ _ _ _ _ _ _ _ _ _ _ _ (loop .inv .0 d h) _ _ _
+          (parted-as _ _ (list2 .given .1) (parts-at .ensures ((loop .inv .0 d h) .rest) ((loop .inv .0 d h) .reads))) .left _ _ _
+          (put-link4 .ensures ∙ ap (λ n. link (loop .links) (loop .here .0) n) (number4 .ensures)) (link-list4 .ensures)),
+      search needs,
+      search needs,
+      omega arith,
+      omega (arith, w .past, loop .inv .4),
+    )
 
 link-list-enum-told-2 : (t : ℕ) → link-list-lts.Need-enum-told-2 (inner t) (link-list-at t) link-list.Post link-list-Inv-loop link-list-μ-loop
 link-list-enum-told-2 t c = search needs
@@ -178,7 +477,10 @@ link-list-same-length-4 : (t : ℕ) → link-list-lts.Need-same-length-4 (inner 
 link-list-same-length-4 t c = search needs
 
 link-list-returns-2 : (t : ℕ) → link-list-lts.Need-returns-2 (inner t) (link-list-at t) link-list.Post link-list-Inv-loop link-list-μ-loop
-link-list-returns-2 t c = λ d h. absurd (turn-bad _ _ _ _ _ _ _ _ _ _ _ _ (c .before .before .before .loop .inv .0 d h) (parted-as _ _ (c .enum-told2 .given .1) (c .before .before .parts-at .ensures ((c .before .before .before .loop .inv .0 d h) .rest) ((c .before .before .before .loop .inv .0 d h) .reads))))
+link-list-returns-2 t c =
+    let loop = c .before .before .before .loop in
+    λ d h. absurd (turn-bad _ _ _ _ _ _ _ _ _ _ _ _ (loop .inv .0 d h)
+    (parted-as _ _ (c .enum-told2 .given .1) (c .before .before .parts-at .ensures ((loop .inv .0 d h) .rest) ((loop .inv .0 d h) .reads))))
 
 pub +link-list-spec : {M : Type 1} → statement M
 +link-list-spec =

@@ -61,13 +61,20 @@ returns-5 : tie.Need-returns-5
 returns-5 c = λ d h. carries-parted _ _ d h _ (is-global _ _ _ _ (turned (c .before .next4 .given .1) (c .before .before .before .read-token .ensures)))
 
 returns-6 : tie.Need-returns-6
-returns-6 c = λ d h. c .closure-parts .ensures _ d (is-closure _ _ (turned (c .before .before .list .given .1) (c .before .before .before .before .read-token .ensures))) h
+returns-6 c =
+    let read-token = c .before .before .before .before .read-token in
+    λ d h. c .closure-parts .ensures _ d (is-closure _ _ (turned (c .before .before .list .given .1) (read-token .ensures))) h
 
 returns-7 : tie.Need-returns-7
-returns-7 c = λ d h. c .arms-parts .ensures _ d (is-branch _ _ (turned (c .before .before .first .given .1) (c .before .before .before .before .read-token .ensures))) h
+returns-7 c =
+    let read-token = c .before .before .before .before .read-token in
+    λ d h. c .arms-parts .ensures _ d (is-branch _ _ (turned (c .before .before .first .given .1) (read-token .ensures))) h
 
 returns-8 : tie.Need-returns-8
-returns-8 c = let w = is-save _ _ (turned (c .before .before .list2 .given .1) (c .before .before .before .before .read-token .ensures)) in λ d h. c .saved-parts .ensures _ (w .0) d (w .1) h
+returns-8 c =
+    let read-token = c .before .before .before .before .read-token in
+    let w = is-save _ _ (turned (c .before .before .list2 .given .1) (read-token .ensures)) in
+    λ d h. c .saved-parts .ensures _ (w .0) d (w .1) h
 
 returns-9 : tie.Need-returns-9
 returns-9 c = λ d h. none-refused _ _ d h (is-refused _ _ _ (turned (c .enum-told2 .given .1) (c .before .before .read-token .ensures)))

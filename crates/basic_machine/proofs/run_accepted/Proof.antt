@@ -7,7 +7,10 @@ use Rattle.basic_machine.proofs.run_accepted.Statement.{statement}
 use Rattle.basic_machine.proofs.run_accepted.Tie as tie
 
 link-list-requires : tie.Need-link-list-requires
-link-list-requires c κs = let w = c .before .before .before .before .before .before .before .before .before .pre .1 in (file-short _ w, omega arith, file-fresh _ w)
+link-list-requires c κs =
+    let pre = c .before .before .before .before .before .before .before .before .before .pre in
+    let w = pre .1 in
+    (file-short _ w, omega arith, file-fresh _ w)
 
 slot-at-requires : tie.Need-slot-at-requires
 slot-at-requires c κs = search needs
@@ -16,7 +19,10 @@ from-slot-requires : tie.Need-from-slot-requires
 from-slot-requires c κs = search needs
 
 run-code-requires : tie.Need-run-code-requires
-run-code-requires c κs = (file-short _ (c .before .before .before .before .before .before .before .before .before .before .before .before .before .before .before .before .before .before .before .before .before .before .before .pre .1), search needs, search needs, search needs, search needs)
+run-code-requires c κs =
+    let pre = c .before .before .before .before .before .before .before .before .before .before .before .before .before .before .before .before .before
+    .before .before .before .before .before .before .pre in
+    (file-short _ (pre .1), search needs, search needs, search needs, search needs)
 
 same-length : tie.Need-same-length
 same-length c = search needs
@@ -38,8 +44,14 @@ same-length-6 c = search needs
 
 returns : tie.Need-returns
 returns c =
-    let p = c .before .before .before .before .before .before .before .before .before .before .before .before .before .before .before .before .before .before .before .before .before .before .before .before .before .before .before .before .before .before .before .before .pre in
-    linked-ran _ (p .1) _ _ _ _ _ _ _ _ _ (p .3) (p .2) (c .before .before .before .before .before .before .before .before .before .before .before .before .before .before .before .before .before .before .before .before .before .before .link-list .ensures) (c .before .before .before .before .before .before .before .before .before .before .before .before .before .before .before .from-slot .ensures ∙ c .before .before .before .before .before .before .before .before .before .before .before .before .before .before .before .before .slot-at .ensures) (c .before .before .before .before .before .before .before .before .run-code .ensures)
+    let p = c .before .before .before .before .before .before .before .before .before .before .before .before .before .before .before .before .before
+    .before .before .before .before .before .before .before .before .before .before .before .before .before .before .before .pre in
+    let link-list = c .before .before .before .before .before .before .before .before .before .before .before .before .before .before .before .before .before
+    .before .before .before .before .before .link-list in
+    let slot-at = c .before .before .before .before .before .before .before .before .before .before .before .before .before .before .before .before .slot-at in
+    let from-slot = c .before .before .before .before .before .before .before .before .before .before .before .before .before .before .before .from-slot in
+    let run-code = c .before .before .before .before .before .before .before .before .run-code in
+    linked-ran _ (p .1) _ _ _ _ _ _ _ _ _ (p .3) (p .2) (link-list .ensures) (from-slot .ensures ∙ slot-at .ensures) (run-code .ensures)
 
 pub run-accepted-spec : {M : Type 1} → statement M
 run-accepted-spec =

@@ -21,7 +21,10 @@ slice-aggregate-run-file c = search needs
 
 run-file-requires : tie.Need-run-file-requires
 unfolding zeros
-run-file-requires c κs = (may-start _ _ _ _ _ (c .before .before .before .before .before .before .before .before .start-refusal .ensures) (c .before .before .before .before .before .before .enum-told .given .1), refl)
+run-file-requires c κs =
+    let start-refusal = c .before .before .before .before .before .before .before .before .start-refusal in
+    let enum-told = c .before .before .before .before .before .before .enum-told in
+    (may-start _ _ _ _ _ (start-refusal .ensures) (enum-told .given .1), refl)
 
 enum-known-number : tie.Need-enum-known-number
 enum-known-number c = search needs
@@ -42,7 +45,14 @@ same-length-4 : tie.Need-same-length-4
 same-length-4 c = search needs
 
 returns : tie.Need-returns
-returns c = run-goes _ _ _ _ _ (c .before .before .before .before .before .before .before .before .before .before .before .before .before .before .before .before .before .before .start-refusal .ensures) _ _ (c .before .before .before .before .before .before .before .before .before .before .before .before .before .before .before .before .enum-told .given .1) (c .before .before .before .before .before .before .before .before .before .before .before .before .before .before .before .owner-of .ensures) (c .before .before .before .before .before .before .before .before .before .run-file .ensures)
+returns c =
+    let start-refusal = c .before .before .before .before .before .before .before .before .before .before .before .before .before .before .before .before
+    .before .before .start-refusal in
+    let enum-told = c .before .before .before .before .before .before .before .before .before .before .before .before .before .before .before .before
+    .enum-told in
+    let owner-of = c .before .before .before .before .before .before .before .before .before .before .before .before .before .before .before .owner-of in
+    let run-file = c .before .before .before .before .before .before .before .before .before .run-file in
+    run-goes _ _ _ _ _ (start-refusal .ensures) _ _ (enum-told .given .1) (owner-of .ensures) (run-file .ensures)
 
 same-length-5 : tie.Need-same-length-5
 same-length-5 c = search needs
@@ -57,7 +67,9 @@ same-length-8 : tie.Need-same-length-8
 same-length-8 c = search needs
 
 returns-2 : tie.Need-returns-2
-returns-2 c = run-refused _ _ _ _ _ (c .before .before .before .before .start-refusal .ensures) _ _ _ (c .before .before .number .given .1) (c .refused .ensures)
+returns-2 c =
+    let start-refusal = c .before .before .before .before .start-refusal in
+    run-refused _ _ _ _ _ (start-refusal .ensures) _ _ _ (c .before .before .number .given .1) (c .refused .ensures)
 
 pub run-basic-spec : {M : Type 1} → statement M
 run-basic-spec =

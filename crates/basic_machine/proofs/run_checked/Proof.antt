@@ -15,8 +15,12 @@ enum-told c = search needs
 
 run-accepted-requires : tie.Need-run-accepted-requires
 run-accepted-requires c κs =
-    let w = file-accepted _ _ (c .before .before .before .before .before .before .before .before .before .check-basic .ensures .0) _ _ _ (c .before .before .before .before .before .before .enum-told .given .1) in
-    (c .before .before .before .before .before .before .before .before .before .before .before .before .before .before .before .before .before .before .pre .0, w, c .before .before .before .before .before .before .before .before .before .before .before .before .before .before .before .before .before .before .pre .1, c .before .before .before .before .before .before .before .before .before .before .before .before .before .before .before .before .before .before .pre .2 (file-short _ w))
+    let pre = c .before .before .before .before .before .before .before .before .before .before .before .before .before .before .before .before .before
+    .before .pre in
+    let check-basic = c .before .before .before .before .before .before .before .before .before .check-basic in
+    let enum-told = c .before .before .before .before .before .before .enum-told in
+    let w = file-accepted _ _ (check-basic .ensures .0) _ _ _ (enum-told .given .1) in
+    (pre .0, w, pre .1, pre .2 (file-short _ w))
 
 enum-known-number : tie.Need-enum-known-number
 enum-known-number c = search needs
@@ -46,7 +50,9 @@ returns : tie.Need-returns
 returns c = c .before .before .before .before .before .before .before .before .before .before .before .before .run-accepted .ensures
 
 returns-2 : tie.Need-returns-2
-returns-2 c = file-refused _ _ _ _ _ _ _ _ (c .before .before .before .before .before .check-basic .ensures .0) (c .before .before .number .given .1) (c .refused .ensures)
+returns-2 c =
+    let check-basic = c .before .before .before .before .before .check-basic in
+    file-refused _ _ _ _ _ _ _ _ (check-basic .ensures .0) (c .before .before .number .given .1) (c .refused .ensures)
 
 pub run-checked-spec : {M : Type 1} → statement M
 run-checked-spec =

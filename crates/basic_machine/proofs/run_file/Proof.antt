@@ -7,7 +7,10 @@ use Rattle.basic_machine.proofs.run_file.Statement.{statement}
 use Rattle.basic_machine.proofs.run_file.Tie as tie
 
 run-checked-requires-2 : tie.Need-run-checked-requires-2
-run-checked-requires-2 c κs = (c .before .before .before .before .before .before .before .before .before .before .before .before .before .pre .0, c .before .before .before .before .before .before .before .before .before .before .before .before .before .pre .1, λ (h : length (c .before .before .before .before .before .before .before .before .before .before .before .before .before .args .file .now) ≤ 65536). omega arith)
+run-checked-requires-2 c κs =
+    let pre = c .before .before .before .before .before .before .before .before .before .before .before .before .before .pre in
+    let args = c .before .before .before .before .before .before .before .before .before .before .before .before .before .args in
+    (pre .0, pre .1, λ (h : length (args .file .now) ≤ 65536). omega arith)
 
 slice-aggregate-run-checked : tie.Need-slice-aggregate-run-checked
 slice-aggregate-run-checked c = search needs

@@ -17,7 +17,9 @@ mul-result : tie.Need-mul-result
 mul-result c = search needs
 
 returns : tie.Need-returns
-returns c = rw (c .int-cell .ensures, c .before .int-of .ensures) (starting-integer _ _ (c .before .before .before .tag-of .ensures) (c .before .before .match .keys1))
+returns c =
+    let tag-of = c .before .before .before .tag-of in
+    rw (c .int-cell .ensures, c .before .int-of .ensures) (starting-integer _ _ (tag-of .ensures) (c .before .before .match .keys1))
 
 returns-2 : tie.Need-returns-2
 returns-2 c = starting-constant _ _ (c .before .before .before .tag-of .ensures) (c .before .if1 .left) (c .if2 .taken)

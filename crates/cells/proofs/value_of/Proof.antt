@@ -56,7 +56,9 @@ unfolding valueOf
 returns-7 c = rw (c .before .pair-first .ensures, c .pair-second .ensures, sym (c .before .before .before .tag-of .ensures) ∙ c .before .before .match .keys7)
 
 returns-8 : tie.Need-returns-8
-returns-8 c = let r = c .match .rest in no-value _ _ (c .before .tag-of .ensures) (r .0 .0 .0 .0 .0 .0 .1) (r .0 .0 .0 .0 .0 .1) (r .0 .0 .0 .0 .1) (r .0 .0 .0 .1) (r .0 .0 .1) (r .0 .1) (r .1)
+returns-8 c =
+    let r = c .match .rest in
+    no-value _ _ (c .before .tag-of .ensures) (r .0 .0 .0 .0 .0 .0 .1) (r .0 .0 .0 .0 .0 .1) (r .0 .0 .0 .0 .1) (r .0 .0 .0 .1) (r .0 .0 .1) (r .0 .1) (r .1)
 
 pub value-of-spec : {M : Type 1} → statement M
 value-of-spec =

@@ -151,11 +151,17 @@ write-conditional-add-end t c =
 
 write-conditional-add-end-2 : (t : ℕ) → write-conditional-lts.Need-add-end-2 (write-conditional-calls t) (write-conditional-at t) write-conditional.Post
 write-conditional-add-end-2 t c =
-    let good = c .before .before .before .before .before .before .before .before .before .before .before .before .before .before .before .before .before .good in
-    let pre = c .before .before .before .before .before .before .before .before .before .before .before .before .before .before .before .before .before .pre in
-    let measure = c .before .before .before .before .before .before .before .before .before .before .before .before .before .measure in
-    let gap = c .before .before .before .before .before .before .before .before .before .before .before .before .gap in
+    let pre′ = c .before .before .before .before .before .before .before .before .before .before .before .before .before .before .before .before .before .pre in
+    let good′ = c .before .before .before .before .before .before .before .before .before .before .before .before .before .before .before .before .before
+    .good in
+    let measure′ = c .before .before .before .before .before .before .before .before .before .before .before .before .before .measure in
+    let gap′ = c .before .before .before .before .before .before .before .before .before .before .before .before .gap in
     let write-list′ = c .before .before .before .before .write-list in
+    let good = good′ in
+    let pre = pre′ in
+    let measure = measure′ in
+    let gap = gap′ in
+    let write-list′ = write-list′ in
     omega (
       arith,
       arms-room (pre .1 .2) _ _ (measure .ensures) (gap .ensures)
@@ -210,11 +216,13 @@ write-conditional-write-list-requires t c κs =
 write-conditional-put-jump-requires : (t : ℕ) → write-conditional-lts.Need-put-jump-requires (write-conditional-calls t) (write-conditional-at t)
     write-conditional.Post
 write-conditional-put-jump-requires t c κs =
-    let pre = c .before .before .before .before .before .before .before .before .before .before .before .before .before .before .before .before .before .before .pre in
+    let pre = c .before .before .before .before .before .before .before .before .before .before .before .before .before .before .before .before .before
+    .before .pre in
     let measure = c .before .before .before .before .before .before .before .before .before .before .before .before .before .before .measure in
     let gap = c .before .before .before .before .before .before .before .before .before .before .before .before .before .gap in
     let put-offset = c .before .before .before .before .before .before .before .before .before .put-offset in
     let write-list′ = c .before .before .before .before .before .write-list in
+    let write-list′ = write-list′ in
     let measure2 = c .before .before .measure2 in (
       omega (
         arith,
@@ -233,12 +241,16 @@ write-conditional-put-jump-requires t c κs =
 write-conditional-add-write-list-2 : (t : ℕ) → write-conditional-lts.Need-add-write-list-2 (write-conditional-calls t) (write-conditional-at t)
     write-conditional.Post
 write-conditional-add-write-list-2 t c =
-    let pre = c .before .before .before .before .before .before .before .before .before .before .before .before .before .before .before .before .before .before .before .before .before .before .pre in
-    let good = c .before .before .before .before .before .before .before .before .before .before .before .before .before .before .before .before .before .before .before .before .before .before .good in
-    let measure = c .before .before .before .before .before .before .before .before .before .before .before .before .before .before .before .before .before .before .measure in
+    let pre = c .before .before .before .before .before .before .before .before .before .before .before .before .before .before .before .before .before
+    .before .before .before .before .before .pre in
+    let good = c .before .before .before .before .before .before .before .before .before .before .before .before .before .before .before .before .before
+    .before .before .before .before .before .good in
+    let measure = c .before .before .before .before .before .before .before .before .before .before .before .before .before .before .before .before .before
+    .before .measure in
     let gap = c .before .before .before .before .before .before .before .before .before .before .before .before .before .before .before .before .before .gap in
     let write-list′ = c .before .before .before .before .before .before .before .before .before .write-list in
     let measure2 = c .before .before .before .before .before .before .measure2 in
+    let write-list′ = write-list′ in
     omega (
       arith,
       arms-room (pre .1 .2) _ _ (measure .ensures) (gap .ensures)
@@ -251,13 +263,16 @@ write-conditional-add-write-list-2 t c =
 write-conditional-write-list-requires-2 : (t : ℕ) → write-conditional-lts.Need-write-list-requires-2 (write-conditional-calls t) (write-conditional-at t)
     write-conditional.Post
 write-conditional-write-list-requires-2 t c κs =
-    let pre = c .before .before .before .before .before .before .before .before .before .before .before .before .before .before .before .before .before .before .before .before .before .before .pre in
-    let measure = c .before .before .before .before .before .before .before .before .before .before .before .before .before .before .before .before .before .before .measure in
+    let pre = c .before .before .before .before .before .before .before .before .before .before .before .before .before .before .before .before .before
+    .before .before .before .before .before .pre in
+    let measure = c .before .before .before .before .before .before .before .before .before .before .before .before .before .before .before .before .before
+    .before .measure in
     let gap = c .before .before .before .before .before .before .before .before .before .before .before .before .before .before .before .before .before .gap in
     let put-offset = c .before .before .before .before .before .before .before .before .before .before .before .before .before .put-offset in
     let write-list′ = c .before .before .before .before .before .before .before .before .before .write-list in
     let measure2 = c .before .before .before .before .before .before .measure2 in
-    let put-jump = c .before .before .before .put-jump in (
+    let put-jump = c .before .before .before .put-jump in
+    let write-list′ = write-list′ in (
       omega (arith, pre .0),
       (
         pre .1 .0,
@@ -286,13 +301,19 @@ write-conditional-same-length t c =
 
 write-conditional-returns : (t : ℕ) → write-conditional-lts.Need-returns (write-conditional-calls t) (write-conditional-at t) write-conditional.Post
 write-conditional-returns t c =
-    let measure = c .before .before .before .before .before .before .before .before .before .before .before .before .before .before .before .before .before .before .before .before .before .measure in
-    let gap = c .before .before .before .before .before .before .before .before .before .before .before .before .before .before .before .before .before .before .before .before .gap in
-    let put-offset = c .before .before .before .before .before .before .before .before .before .before .before .before .before .before .before .before
+    let measure = c .before .before .before .before .before .before .before .before .before .before .before .before .before .before .before .before .before
+    .before .before .before .before .measure in
+    let gap = c .before .before .before .before .before .before .before .before .before .before .before .before .before .before .before .before .before
+    .before .before .before .gap in
+    let put-offset′ = c .before .before .before .before .before .before .before .before .before .before .before .before .before .before .before .before
     .put-offset in
     let write-list′ = c .before .before .before .before .before .before .before .before .before .before .before .before .write-list in
-    let measure2 = c .before .before .before .before .before .before .before .before .before .measure2 in
-    let put-jump = c .before .before .before .before .before .before .put-jump in
+    let measure2′ = c .before .before .before .before .before .before .before .before .before .measure2 in
+    let put-jump′ = c .before .before .before .before .before .before .put-jump in
+    let put-offset = put-offset′ in
+    let write-list′ = write-list′ in
+    let measure2 = measure2′ in
+    let put-jump = put-jump′ in
     λ w. arms-done w _ _ (measure .ensures) (gap .ensures) (write-list′ .ensures (first-to-write w _ _ (measure .ensures) (gap .ensures)) .0) _
     (measure2 .ensures) _ (put-offset .ensures) (write-list′ .ensures (first-to-write w _ _ (measure .ensures) (gap .ensures)) .1) (put-jump .ensures)
     (c .before .before .write-list2 .ensures
@@ -502,7 +523,8 @@ write-list-returns t c =
     let loop = c .before .before .before .before .loop in
     let line-at = c .before .before .before .line-at in
     λ w. let l = left-none _ _ _ _ _ _ _ _ _ _ _ (loop .inv .2)
-    (sym (c .before .before .shape-of .ensures ∙ ap shapeOf (line-code _ _ _ (line-at .ensures .0))) ∙ c .before .if1 .taken) w in (c .past .ensures ∙ l .0, l .1)
+    (sym (c .before .before .shape-of .ensures ∙ ap shapeOf (line-code _ _ _ (line-at .ensures .0))) ∙ c .before .if1 .taken) w in
+    (c .past .ensures ∙ l .0, l .1)
 
 write-list-write-instr-requires : (t : ℕ) → write-list-lts.Need-write-instr-requires (write-list-calls t) (write-list-at t) write-list.Post
     write-list-Inv-loop write-list-μ-loop

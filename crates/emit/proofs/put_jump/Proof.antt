@@ -11,7 +11,11 @@ returns c = rw (c .if1 .taken) refl
 
 put-offset-requires : tie.Need-put-offset-requires
 unfolding gap
-put-offset-requires c κs = let h = rw (c .before .if1 .left) at (c .before .before .before .pre .0) in (h, c .before .before .before .pre .1 (c .before .if1 .left))
+put-offset-requires c κs =
+    let pre = c .before .before .before .pre in
+    let if1 = c .before .if1 in
+    let h = rw (if1 .left) at (pre .0) in
+    (h, pre .1 (if1 .left))
 
 same-length : tie.Need-same-length
 same-length c = search needs

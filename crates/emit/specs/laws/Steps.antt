@@ -25,7 +25,8 @@ use Rattle.emit.specs.declared.Measured.{Measured}
 use Rattle.emit.specs.declared.Wrote.{Wrote}
 use Rattle.emit.specs.Written.{gap, jumpBytes, armsBytes, savedBytes, frontBytes, backBytes, measuredOf, wroteAs, lineBytes}
 use Rattle.emit.specs.ToWrite.{ToWrite, ArmsToWrite, SavedToWrite, ItemToWrite, ArmsDone, SavedDone, ItemDone, itemBytes, restFront, restBack}
-use Rattle.emit.specs.laws.Stores.{sets-four, operands-length, jump-length, arms-length, put-length, simple-bytes, fits-jumps, fits-arms, fits-saved, line-bytes}
+use Rattle.emit.specs.laws.Stores.{sets-four, operands-length, jump-length, arms-length, put-length, simple-bytes, fits-jumps, fits-arms, fits-saved}
+use Rattle.emit.specs.laws.Stores.{line-bytes}
 use Rattle.emit.specs.laws.Stores.{fits-rest, rest-written}
 
 -- ---- the size of a list, by its mark

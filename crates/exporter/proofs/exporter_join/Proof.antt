@@ -23,7 +23,11 @@ same-length-2 c = search needs
 
 returns-2 : tie.Need-returns-2
 unfolding outcomeOutput outcomeResult
-returns-2 c = let h = le-leb 2 _ (c .before .before .before .before .before .before .before .before .if1 .left) in (rw h (c .before .before .before .before .before .before .join .ensures .1), rw (h, ← c .before .before .before .before .before .before .join .ensures .0) (c .before .before .put-outcome .ensures))
+returns-2 c =
+    let if1 = c .before .before .before .before .before .before .before .before .if1 in
+    let join = c .before .before .before .before .before .before .join in
+    let h = le-leb 2 _ (if1 .left) in
+    (rw h (join .ensures .1), rw (h, ← join .ensures .0) (c .before .before .put-outcome .ensures))
 
 pub exporter-join-spec : {M : Type 1} → statement M
 exporter-join-spec =

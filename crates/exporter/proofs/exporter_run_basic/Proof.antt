@@ -12,7 +12,9 @@ run-basic-requires : tie.Need-run-basic-requires
 run-basic-requires c κs = search needs
 
 put-run-requires : tie.Need-put-run-requires
-put-run-requires c κs = (search needs, answer-fits (c .before .before .before .before .before .before .before .before .before .run-basic .ensures) (basic-fits _ _ _ _))
+put-run-requires c κs =
+    let run-basic = c .before .before .before .before .before .before .before .before .before .run-basic in
+    (search needs, answer-fits (run-basic .ensures) (basic-fits _ _ _ _))
 
 same-length : tie.Need-same-length
 same-length c = search needs
@@ -30,7 +32,10 @@ same-length-5 : tie.Need-same-length-5
 same-length-5 c = search needs
 
 returns-2 : tie.Need-returns-2
-returns-2 c = run-told _ _ _ _ _ _ (c .before .before .before .before .before .before .before .before .before .before .before .before .before .before .before .before .before .if1 .left) (c .before .before .before .before .before .before .before .before .before .before .before .before .run-basic .ensures) (c .before .before .put-run .ensures)
+returns-2 c =
+    let if1 = c .before .before .before .before .before .before .before .before .before .before .before .before .before .before .before .before .before .if1 in
+    let run-basic = c .before .before .before .before .before .before .before .before .before .before .before .before .run-basic in
+    run-told _ _ _ _ _ _ (if1 .left) (run-basic .ensures) (c .before .before .put-run .ensures)
 
 pub exporter-run-basic-spec : {M : Type 1} → statement M
 exporter-run-basic-spec =

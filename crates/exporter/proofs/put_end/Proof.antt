@@ -45,7 +45,10 @@ same-length c = search needs
 
 returns : tie.Need-returns
 unfolding endSlot numberOf placeSlot answerCell
-returns c = rw (c .before .before .before .before .before .before .end .given .1, ← c .before .before .before .answer-cell .ensures) (c .before .before .put-four .ensures)
+returns c =
+    let end = c .before .before .before .before .before .before .end in
+    let answer-cell = c .before .before .before .answer-cell in
+    rw (end .given .1, ← answer-cell .ensures) (c .before .before .put-four .ensures)
 
 same-length-2 : tie.Need-same-length-2
 same-length-2 c = search needs

@@ -42,8 +42,7 @@ rem-result c = let w = c .before .before .before .before .args .width in rw (shl
 returns : tie.Need-returns
 returns c =
     let pre = c .before .before .before .before .pre in
-    let args = c .before .before .before .before .args in
-    let a = args in
+    let a = c .before .before .before .before .args in
     let s = a .s .now in
     let e = c .before .two-at .ensures in
     let y = c .before .before .byte .ensures in

@@ -10,15 +10,13 @@ within-requires c κs = search needs
 
 bits-at-requires : tie.Need-bits-at-requires
 bits-at-requires c κs =
-    let args = c .before .before .before .args in
-    let a = args in
+    let a = c .before .before .before .args in
     let h = lies (a .s .now) (a .at .0) (a .width) (c .before .within .ensures) (c .if1 .taken) in
     (search needs, (search needs, h))
 
 past-requires : tie.Need-past-requires
 past-requires c κs =
-    let args = c .before .before .before .before .args in
-    let a = args in
+    let a = c .before .before .before .before .args in
     let h = lies (a .s .now) (a .at .0) (a .width) (c .before .before .within .ensures) (c .before .if1 .taken) in
     omega (arith, h)
 

@@ -13,8 +13,7 @@ within-requires c κs = search needs
 
 bits-at-requires : tie.Need-bits-at-requires
 bits-at-requires c κs =
-    let args = c .before .before .before .args in
-    let a = args in
+    let a = c .before .before .before .args in
     let h = lies (a .s .now) (a .at .0) 24 (c .before .within .ensures) (c .if1 .taken) in
     (search needs, (search needs, omega (arith, h)))
 
@@ -23,16 +22,14 @@ mul-three c = search needs
 
 past-requires : tie.Need-past-requires
 past-requires c κs =
-    let args = c .before .before .before .before .args in
-    let a = args in
+    let a = c .before .before .before .before .args in
     let h = lies (a .s .now) (a .at .0) 24 (c .before .before .within .ensures) (c .before .if1 .taken) in
     omega (arith, h)
 
 half-word-at-requires : tie.Need-half-word-at-requires
 half-word-at-requires c κs =
-    let args = c .before .before .before .before .before .args in
+    let a = c .before .before .before .before .before .args in
     let within = c .before .before .before .within in
-    let a = args in
     let h = lies (a .s .now) (a .at .0) 24 (within .ensures) (c .before .before .if1 .taken) in
     (search needs, omega (arith, h))
 
@@ -41,10 +38,9 @@ add-three c = search needs
 
 past-requires-2 : tie.Need-past-requires-2
 past-requires-2 c κs =
-    let args = c .before .before .before .before .before .before .args in
+    let a = c .before .before .before .before .before .before .args in
     let within = c .before .before .before .before .within in
     let if1 = c .before .before .before .if1 in
-    let a = args in
     let h = lies (a .s .now) (a .at .0) 24 (within .ensures) (if1 .taken) in
     omega (arith, h)
 

@@ -21,7 +21,10 @@ enum-told : tie.Need-enum-told
 enum-told c = search needs
 
 returns-2 : tie.Need-returns-2
-returns-2 c = count-is _ (c .before .before .before .before .if1 .left) (field-read _ _ _ (c .before .before .before .read-field .ensures) (c .before .count .given .1))
+returns-2 c =
+    let if1 = c .before .before .before .before .if1 in
+    let read-field = c .before .before .before .read-field in
+    count-is _ (if1 .left) (field-read _ _ _ (read-field .ensures) (c .before .count .given .1))
 
 returns-3 : tie.Need-returns-3
 returns-3 c = count-cut _ (c .before .before .before .if1 .left) (field-cut _ _ _ (c .before .before .read-field .ensures) (c .enum-told .given .1))

@@ -12,10 +12,14 @@ ends-requires : tie.Need-ends-requires
 ends-requires c κs = search needs
 
 returns : tie.Need-returns
-returns c = let a = c .before .before .before .args in at-end _ _ (eqb-true (a .at .0) (8 * length (a .s .now)) (sym (c .before .ends .ensures) ∙ c .if1 .taken))
+returns c =
+    let a = c .before .before .before .args in
+    at-end _ _ (eqb-true (a .at .0) (8 * length (a .s .now)) (sym (c .before .ends .ensures) ∙ c .if1 .taken))
 
 returns-2 : tie.Need-returns-2
-returns-2 c = let a = c .before .before .before .args in not-at-end _ _ (eqb-false (a .at .0) (8 * length (a .s .now)) (sym (c .before .ends .ensures) ∙ c .if1 .left))
+returns-2 c =
+    let a = c .before .before .before .args in
+    not-at-end _ _ (eqb-false (a .at .0) (8 * length (a .s .now)) (sym (c .before .ends .ensures) ∙ c .if1 .left))
 
 pub nothing-more-spec : {M : Type 1} → statement M
 nothing-more-spec = tie.close (tie.spec ends-requires returns returns-2)

@@ -51,8 +51,14 @@ same-length c = search needs
 
 returns : tie.Need-returns Inv-loop μ-loop
 returns c =
-    let i = c .before .before .before .before .before .loop .inv in
-    (entries-stop _ _ _ _ _ _ (c .before .before .before .before .loop-test .taken) (c .before .before .before .read-entry .ensures) (c .before .no .given .1) ∙ sym (i .3), sym (i .4 ∙ ap (sets _ _) (slots-stop _ _ _ _ _ _ (c .before .before .before .before .loop-test .taken) (c .before .before .before .read-entry .ensures) (c .before .no .given .1))))
+    let loop = c .before .before .before .before .before .loop in
+    let loop-test = c .before .before .before .before .loop-test in
+    let read-entry = c .before .before .before .read-entry in
+    let no = c .before .no in
+    let i = loop .inv in (
+      entries-stop _ _ _ _ _ _ (loop-test .taken) (read-entry .ensures) (no .given .1) ∙ sym (i .3),
+      sym (i .4 ∙ ap (sets _ _) (slots-stop _ _ _ _ _ _ (loop-test .taken) (read-entry .ensures) (no .given .1))),
+    )
 
 add-slot-2 : tie.Need-add-slot-2 Inv-loop μ-loop
 add-slot-2 c = search needs
@@ -62,8 +68,17 @@ loop-less c = search needs
 
 loop-again : tie.Need-loop-again Inv-loop μ-loop
 loop-again c =
-    let i = c .before .before .before .before .before .loop .inv in
-    (search needs, search needs, search needs, i .3 ∙ entries-on _ _ _ _ _ _ (c .before .before .before .before .loop-test .taken) (c .before .before .before .read-entry .ensures) (c .before .x .given .1), i .4 ∙ slots-on _ _ _ _ _ _ (c .before .before .before .before .loop-test .taken) (c .before .before .before .read-entry .ensures) (c .before .x .given .1) _)
+    let loop = c .before .before .before .before .before .loop in
+    let loop-test = c .before .before .before .before .loop-test in
+    let read-entry = c .before .before .before .read-entry in
+    let x = c .before .x in
+    let i = loop .inv in (
+      search needs,
+      search needs,
+      search needs,
+      i .3 ∙ entries-on _ _ _ _ _ _ (loop-test .taken) (read-entry .ensures) (x .given .1),
+      i .4 ∙ slots-on _ _ _ _ _ _ (loop-test .taken) (read-entry .ensures) (x .given .1) _,
+    )
 
 same-length-2 : tie.Need-same-length-2 Inv-loop μ-loop
 same-length-2 c = search needs

@@ -21,7 +21,9 @@ read-kind-requires : tie.Need-read-kind-requires
 read-kind-requires c κs = (search needs, field-below _ _ _ (c .before .before .before .read-field .ensures) (c .before .k .given .1))
 
 returns-2 : tie.Need-returns-2
-returns-2 c = c .read-kind .ensures ∙ entry-kind _ _ _ _ (field-read _ _ _ (c .before .before .before .before .read-field .ensures) (c .before .before .k .given .1))
+returns-2 c =
+    let read-field = c .before .before .before .before .read-field in
+    c .read-kind .ensures ∙ entry-kind _ _ _ _ (field-read _ _ _ (read-field .ensures) (c .before .before .k .given .1))
 
 pub read-entry-spec : {M : Type 1} → statement M
 read-entry-spec =

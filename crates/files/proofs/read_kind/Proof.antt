@@ -16,7 +16,9 @@ enum-told : tie.Need-enum-told
 enum-told c = search needs
 
 returns : tie.Need-returns
-returns c = constant-cut _ _ _ _ _ _ (c .before .before .before .match .keys1) (field-cut _ _ _ (c .before .before .read-field .ensures) (c .enum-told .given .1))
+returns c =
+    let match = c .before .before .before .match in
+    constant-cut _ _ _ _ _ _ (match .keys1) (field-cut _ _ _ (c .before .before .read-field .ensures) (c .enum-told .given .1))
 
 read-constant-requires : tie.Need-read-constant-requires
 read-constant-requires c κs = (search needs, field-within _ _ _ (c .before .before .before .read-field .ensures) (c .before .t .given .1))
@@ -31,7 +33,9 @@ enum-told-2 : tie.Need-enum-told-2
 enum-told-2 c = search needs
 
 returns-2 : tie.Need-returns-2
-returns-2 c = global-cut _ _ _ _ _ _ (c .before .before .before .match .keys2) (field-cut _ _ _ (c .before .before .read-field2 .ensures) (c .enum-told2 .given .1))
+returns-2 c =
+    let match = c .before .before .before .match in
+    global-cut _ _ _ _ _ _ (match .keys2) (field-cut _ _ _ (c .before .before .read-field2 .ensures) (c .enum-told2 .given .1))
 
 cast-slot : tie.Need-cast-slot
 cast-slot c = search needs
@@ -49,19 +53,28 @@ enum-told-3 : tie.Need-enum-told-3
 enum-told-3 c = search needs
 
 returns-3 : tie.Need-returns-3
-returns-3 c = template-cut _ _ _ _ _ _ (c .before .before .before .match .keys3) (field-cut _ _ _ (c .before .before .read-field3 .ensures) (c .enum-told3 .given .1))
+returns-3 c =
+    let match = c .before .before .before .match in
+    template-cut _ _ _ _ _ _ (match .keys3) (field-cut _ _ _ (c .before .before .read-field3 .ensures) (c .enum-told3 .given .1))
 
 cast-if1 : tie.Need-cast-if1
 cast-if1 c = search needs
 
 returns-4 : tie.Need-returns-4
-returns-4 c = template-low _ _ _ _ _ _ (c .before .before .before .before .before .match .keys3) (field-read _ _ _ (c .before .before .before .before .read-field3 .ensures) (c .before .before .t2 .given .1)) (omega arith)
+returns-4 c =
+    let match = c .before .before .before .before .before .match in
+    let read-field3 = c .before .before .before .before .read-field3 in
+    template-low _ _ _ _ _ _ (match .keys3) (field-read _ _ _ (read-field3 .ensures) (c .before .before .t2 .given .1)) (omega arith)
 
 cast-if2 : tie.Need-cast-if2
 cast-if2 c = search needs
 
 returns-5 : tie.Need-returns-5
-returns-5 c = template-high _ _ _ _ _ _ (c .before .before .before .before .before .before .match .keys3) (field-read _ _ _ (c .before .before .before .before .before .read-field3 .ensures) (c .before .before .before .t2 .given .1)) (omega arith) (omega arith)
+returns-5 c =
+    let match = c .before .before .before .before .before .before .match in
+    let read-field3 = c .before .before .before .before .before .read-field3 in
+    let t2 = c .before .before .before .t2 in
+    template-high _ _ _ _ _ _ (match .keys3) (field-read _ _ _ (read-field3 .ensures) (t2 .given .1)) (omega arith) (omega arith)
 
 cast-slot-2 : tie.Need-cast-slot-2
 cast-slot-2 c = search needs
@@ -70,13 +83,23 @@ add-slot-2 : tie.Need-add-slot-2
 add-slot-2 c = search needs
 
 returns-6 : tie.Need-returns-6
-returns-6 c = c .read-constant .ensures ∙ constant-read _ _ _ _ _ _ (c .before .before .before .before .before .match .keys1) (field-read _ _ _ (c .before .before .before .before .read-field .ensures) (c .before .before .t .given .1))
+returns-6 c =
+    let match = c .before .before .before .before .before .match in
+    let read-field = c .before .before .before .before .read-field in
+    c .read-constant .ensures ∙ constant-read _ _ _ _ _ _ (match .keys1) (field-read _ _ _ (read-field .ensures) (c .before .before .t .given .1))
 
 returns-7 : tie.Need-returns-7
-returns-7 c = global-read _ _ _ _ _ _ (c .before .before .before .before .match .keys2) (field-read _ _ _ (c .before .before .before .read-field2 .ensures) (c .before .g .given .1))
+returns-7 c =
+    let match = c .before .before .before .before .match in
+    let read-field2 = c .before .before .before .read-field2 in
+    global-read _ _ _ _ _ _ (match .keys2) (field-read _ _ _ (read-field2 .ensures) (c .before .g .given .1))
 
 returns-8 : tie.Need-returns-8
-returns-8 c = template-read _ _ _ _ _ _ (c .before .before .before .before .before .before .match .keys3) (field-read _ _ _ (c .before .before .before .before .before .read-field3 .ensures) (c .before .before .before .t2 .given .1)) (omega arith) (omega arith)
+returns-8 c =
+    let match = c .before .before .before .before .before .before .match in
+    let read-field3 = c .before .before .before .before .before .read-field3 in
+    let t2 = c .before .before .before .t2 in
+    template-read _ _ _ _ _ _ (match .keys3) (field-read _ _ _ (read-field3 .ensures) (t2 .given .1)) (omega arith) (omega arith)
 
 returns-9 : tie.Need-returns-9
 returns-9 c = bad-kind _ _ _ _ _ _ (c .before .before .pre .1) (c .match .rest .0 .0 .1) (c .match .rest .0 .1) (c .match .rest .1)

@@ -40,9 +40,12 @@ loop-less c = search needs
 
 loop-again : tie.Need-loop-again Inv-loop μ-loop
 loop-again c =
-    let i = c .before .before .before .before .loop .inv in
     let a = c .before .before .before .before .before .before .args in
-    let on = bits-on (a .s .now) (a .at .0 + a .n) (c .before .before .before .before .loop .here .0) _ (omega (arith, i .0, c .before .before .before .loop-test .taken)) (c .before .before .bits-at .ensures .0) (c .before .if1 .left) in
+    let loop = c .before .before .before .before .loop in
+    let loop-test = c .before .before .before .loop-test in
+    let i = loop .inv in
+    let on = bits-on (a .s .now) (a .at .0 + a .n) (loop .here .0) _ (omega (arith, i .0, loop-test .taken)) (c .before .before .bits-at .ensures .0)
+    (c .before .if1 .left) in
     (search needs, search needs, i .2 ∙ on ∙ ap (λ (p : ℕ). paddingTold (zeroBits (a .s .now) (a .at .0 + a .n - p) p (tt {0}))) (sym (c .past .ensures)))
 
 returns-2 : tie.Need-returns-2 Inv-loop μ-loop

@@ -15,7 +15,10 @@ slice-aggregate-flatten-marked-2 : tie.Need-slice-aggregate-flatten-marked-2
 slice-aggregate-flatten-marked-2 c = search needs
 
 flatten-marked-requires : tie.Need-flatten-marked-requires
-flatten-marked-requires c κs = (all-rows _ refl, λ (h : length (c .before .before .before .before .before .args .s .now) ≤ 65536). omega (arith, c .before .before .before .before .before .pre))
+flatten-marked-requires c κs =
+    let pre = c .before .before .before .before .before .pre in
+    let args = c .before .before .before .before .before .args in
+    (all-rows _ refl, λ (h : length (args .s .now) ≤ 65536). omega (arith, pre))
 
 same-length : tie.Need-same-length
 same-length c = search needs

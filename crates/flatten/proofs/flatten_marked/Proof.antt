@@ -28,9 +28,13 @@ returns-2 c =
 
 slice-write-out : tie.Need-slice-write-out
 slice-write-out c =
-    let read = c .before .before .before .before .before .before .before .before .before .before .read-accepted .ensures in
-    let told = sym (read .0) ∙ c .before .before .before .before .sum .given .1 in
-    let out = c .before .before .before .before .before .before .before .before .before .before .before .before .before .before .before .before .before .args .out .now in
+    let args = c .before .before .before .before .before .before .before .before .before .before .before .before .before .before .before .before .before
+    .args in
+    let read-accepted = c .before .before .before .before .before .before .before .before .before .before .read-accepted in
+    let sum = c .before .before .before .before .sum in
+    let read = read-accepted .ensures in
+    let told = sym (read .0) ∙ sum .given .1 in
+    let out = args .out .now in
     omega (arith, c .if2 .left, some-bytes _ out told)
 
 cast-write-templates : tie.Need-cast-write-templates
@@ -38,12 +42,20 @@ cast-write-templates c = search needs
 
 write-templates-requires : tie.Need-write-templates-requires
 write-templates-requires c κs =
-    let read = c .before .before .before .before .before .before .before .before .before .before .before .before .before .read-accepted .ensures in
-    let told = sym (read .0) ∙ c .before .before .before .before .before .before .before .sum .given .1 in
-    let out = c .before .before .before .before .before .before .before .before .before .before .before .before .before .before .before .before .before .before .before .before .args .out .now in (
+    let pre = c .before .before .before .before .before .before .before .before .before .before .before .before .before .before .before .before .before
+    .before .before .before .pre in
+    let args = c .before .before .before .before .before .before .before .before .before .before .before .before .before .before .before .before .before
+    .before .before .before .args in
+    let read-accepted = c .before .before .before .before .before .before .before .before .before .before .before .before .before .read-accepted in
+    let sum = c .before .before .before .before .before .before .before .sum in
+    let if1 = c .before .before .before .before .if1 in
+    let if2 = c .before .before .before .if2 in
+    let read = read-accepted .ensures in
+    let told = sym (read .0) ∙ sum .given .1 in
+    let out = args .out .now in (
       file-short _ out told,
-      rw (c .before .before .before .before .before .before .before .before .before .before .before .before .before .read-accepted .kept .1 .0) (file-rows _ out told (c .before .before .before .before .before .before .before .before .before .before .before .before .before .before .before .before .before .before .before .before .pre .0)),
-      file-to-write _ out told (c .before .before .before .before .if1 .left) (c .before .before .before .before .before .before .before .before .before .before .before .before .before .before .before .before .before .before .before .before .pre .0) (read .1 .0) _ _ (read .1 .1) (c .before .before .before .before .before .before .before .before .before .before .before .before .before .before .before .before .before .before .before .before .pre .1) _ (simp length-set (c .before .before .before .if2 .left)),
+      omega (arith, file-rows _ out told (pre .0), read-accepted .kept .1 .0),
+      file-to-write _ out told (if1 .left) (pre .0) (read .1 .0) _ _ (read .1 .1) (pre .1) _ (simp length-set (if2 .left)),
     )
 
 enum-known-no : tie.Need-enum-known-no
@@ -54,13 +66,22 @@ same-length-7 c = c .before .before .write-templates .kept .1 .1 .1 .1 .0 ∙ si
 
 returns-3 : tie.Need-returns-3
 returns-3 c =
-    let read = c .before .before .before .before .before .before .before .before .before .before .before .before .before .before .before .before .read-accepted .ensures in
-    let told = sym (read .0) ∙ c .before .before .before .before .before .before .before .before .before .before .sum .given .1 in
-    flatten-written _ _ told (c .before .before .before .before .before .before .before .if1 .left) (c .before .before .before .before .before .before .before .before .before .before .before .before .before .before .before .before .before .before .before .before .before .before .before .pre .0) (read .1 .0) _ _ (read .1 .1) (c .before .before .before .before .before .before .before .before .before .before .before .before .before .before .before .before .before .before .before .before .before .before .before .pre .1) _ (simp length-set (c .before .before .before .before .before .before .if2 .left)) (simp length-set)
+    let pre = c .before .before .before .before .before .before .before .before .before .before .before .before .before .before .before .before .before
+    .before .before .before .before .before .before .pre in
+    let read-accepted = c .before .before .before .before .before .before .before .before .before .before .before .before .before .before .before .before
+    .read-accepted in
+    let sum = c .before .before .before .before .before .before .before .before .before .before .sum in
+    let if1 = c .before .before .before .before .before .before .before .if1 in
+    let if2 = c .before .before .before .before .before .before .if2 in
+    let read = read-accepted .ensures in
+    let told = sym (read .0) ∙ sum .given .1 in
+    flatten-written _ _ told (if1 .left) (pre .0) (read .1 .0) _ _ (read .1 .1) (pre .1) _ (simp length-set (if2 .left)) (simp length-set)
     (c .before .before .write-templates .ensures)
 
 returns-4 : tie.Need-returns-4
-returns-4 c = flatten-refused _ _ (judged-refused _ (sym (c .before .before .before .before .before .before .before .read-accepted .ensures .0) ∙ c .before .no .given .1))
+returns-4 c =
+    let read-accepted = c .before .before .before .before .before .before .before .read-accepted in
+    flatten-refused _ _ (judged-refused _ (sym (read-accepted .ensures .0) ∙ c .before .no .given .1))
 
 cast-t18 : tie.Need-cast-t18
 cast-t18 c = search needs

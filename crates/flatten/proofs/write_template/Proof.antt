@@ -58,10 +58,13 @@ add-write-bits c =
 write-bits-requires : tie.Need-write-bits-requires
 write-bits-requires c κs =
     let w = c .before .before .before .before .before .before .before .before .before .before .pre in
-    let m = c .before .before .before .before .from-slot .ensures in
-    let r = room-enough (w .3) m _ (c .before .before .before .measure .ensures) in
-    let p = places (w .3) m _ (c .before .before .before .measure .ensures) in
-    (w .0, p .1, simp length-set (omega (arith, r, p, m, w .0, c .before .before .before .before .before .before .before .before .before .before .good, c .before .past .ensures)))
+    let good = c .before .before .before .before .before .before .before .before .before .before .good in
+    let from-slot = c .before .before .before .before .from-slot in
+    let measure = c .before .before .before .measure in
+    let m = from-slot .ensures in
+    let r = room-enough (w .3) m _ (measure .ensures) in
+    let p = places (w .3) m _ (measure .ensures) in
+    (w .0, p .1, simp length-set (omega (arith, r, p, m, w .0, good, c .before .past .ensures)))
 
 add-f : tie.Need-add-f
 add-f c =
@@ -74,78 +77,125 @@ add-f c =
 since-requires : tie.Need-since-requires
 since-requires c κs =
     let w = c .before .before .before .before .before .before .before .before .before .before .before .before .before .pre in
-    let m = c .before .before .before .before .before .before .before .from-slot .ensures in
-    let r = room-enough (w .3) m _ (c .before .before .before .before .before .before .measure .ensures) in
-    let p = places (w .3) m _ (c .before .before .before .before .before .before .measure .ensures) in
-    omega (arith, r, p, m, w .0, c .before .before .before .before .before .before .before .before .before .before .before .before .before .good, c .before .before .before .before .past .ensures)
+    let good = c .before .before .before .before .before .before .before .before .before .before .before .before .before .good in
+    let from-slot = c .before .before .before .before .before .before .before .from-slot in
+    let measure = c .before .before .before .before .before .before .measure in
+    let past = c .before .before .before .before .past in
+    let m = from-slot .ensures in
+    let r = room-enough (w .3) m _ (measure .ensures) in
+    let p = places (w .3) m _ (measure .ensures) in
+    omega (arith, r, p, m, w .0, good, past .ensures)
 
 add-f-2 : tie.Need-add-f-2
 add-f-2 c =
     let w = c .before .before .before .before .before .before .before .before .before .before .before .before .before .before .pre in
-    let m = c .before .before .before .before .before .before .before .before .from-slot .ensures in
-    let r = room-enough (w .3) m _ (c .before .before .before .before .before .before .before .measure .ensures) in
-    let p = places (w .3) m _ (c .before .before .before .before .before .before .before .measure .ensures) in
-    omega (arith, r, p, m, w .0, c .before .before .before .before .before .before .before .before .before .before .before .before .before .before .good, c .before .before .before .before .before .past .ensures, c .since .ensures)
+    let good = c .before .before .before .before .before .before .before .before .before .before .before .before .before .before .good in
+    let from-slot = c .before .before .before .before .before .before .before .before .from-slot in
+    let measure = c .before .before .before .before .before .before .before .measure in
+    let past = c .before .before .before .before .before .past in
+    let m = from-slot .ensures in
+    let r = room-enough (w .3) m _ (measure .ensures) in
+    let p = places (w .3) m _ (measure .ensures) in
+    omega (arith, r, p, m, w .0, good, past .ensures, c .since .ensures)
 
 add-f-3 : tie.Need-add-f-3
 add-f-3 c =
     let w = c .before .before .before .before .before .before .before .before .before .before .before .before .before .before .pre in
-    let m = c .before .before .before .before .before .before .before .before .from-slot .ensures in
-    let r = room-enough (w .3) m _ (c .before .before .before .before .before .before .before .measure .ensures) in
-    let p = places (w .3) m _ (c .before .before .before .before .before .before .before .measure .ensures) in
-    omega (arith, r, p, m, w .0, c .before .before .before .before .before .before .before .before .before .before .before .before .before .before .good, c .before .before .before .before .before .past .ensures, c .since .ensures)
+    let good = c .before .before .before .before .before .before .before .before .before .before .before .before .before .before .good in
+    let from-slot = c .before .before .before .before .before .before .before .before .from-slot in
+    let measure = c .before .before .before .before .before .before .before .measure in
+    let past = c .before .before .before .before .before .past in
+    let m = from-slot .ensures in
+    let r = room-enough (w .3) m _ (measure .ensures) in
+    let p = places (w .3) m _ (measure .ensures) in
+    omega (arith, r, p, m, w .0, good, past .ensures, c .since .ensures)
 
 put-length-requires : tie.Need-put-length-requires
 put-length-requires c κs =
     let w = c .before .before .before .before .before .before .before .before .before .before .before .before .before .before .before .pre in
-    let m = c .before .before .before .before .before .before .before .before .before .from-slot .ensures in
-    let r = room-enough (w .3) m _ (c .before .before .before .before .before .before .before .before .measure .ensures) in
-    let p = places (w .3) m _ (c .before .before .before .before .before .before .before .before .measure .ensures) in
-    let a = c .before .before .before .before .before .before .past .ensures in
+    let good = c .before .before .before .before .before .before .before .before .before .before .before .before .before .before .before .good in
+    let from-slot = c .before .before .before .before .before .before .before .before .before .from-slot in
+    let measure = c .before .before .before .before .before .before .before .before .measure in
+    let past = c .before .before .before .before .before .before .past in
+    let write-bits = c .before .before .before .before .write-bits in
+    let m = from-slot .ensures in
+    let r = room-enough (w .3) m _ (measure .ensures) in
+    let p = places (w .3) m _ (measure .ensures) in
+    let a = past .ensures in
     let b = c .before .since .ensures in
-    let o = simp length-set at (c .before .before .before .before .write-bits .kept .1 .1 .1 .0) in
-    (omega (arith, r, p, m, w .0, c .before .before .before .before .before .before .before .before .before .before .before .before .before .before .before .good), size-small (w .3) m _ (c .before .before .before .before .before .before .before .before .measure .ensures) (w .0))
+    let o = simp length-set at (write-bits .kept .1 .1 .1 .0) in
+    (omega (arith, r, p, m, w .0, good), size-small (w .3) m _ (measure .ensures) (w .0))
 
 add-end : tie.Need-add-end
 add-end c =
-    let w = c .before .before .before .before .before .before .before .before .before .before .before .before .before .before .before .before .before .before .pre in
-    let m = c .before .before .before .before .before .before .before .before .before .before .before .before .from-slot .ensures in
-    let r = room-enough (w .3) m _ (c .before .before .before .before .before .before .before .before .before .before .before .measure .ensures) in
-    let p = places (w .3) m _ (c .before .before .before .before .before .before .before .before .before .before .before .measure .ensures) in
-    let a = c .before .before .before .before .before .before .before .before .before .past .ensures in
-    let b = c .before .before .before .before .since .ensures in
-    omega (arith, r, p, m, w .0, c .before .before .before .before .before .before .before .before .before .before .before .before .before .before .before .before .before .before .good)
+    let w = c .before .before .before .before .before .before .before .before .before .before .before .before .before .before .before .before .before
+    .before .pre in
+    let good = c .before .before .before .before .before .before .before .before .before .before .before .before .before .before .before .before .before
+    .before .good in
+    let from-slot = c .before .before .before .before .before .before .before .before .before .before .before .before .from-slot in
+    let measure = c .before .before .before .before .before .before .before .before .before .before .before .measure in
+    let past = c .before .before .before .before .before .before .before .before .before .past in
+    let since = c .before .before .before .before .since in
+    let m = from-slot .ensures in
+    let r = room-enough (w .3) m _ (measure .ensures) in
+    let p = places (w .3) m _ (measure .ensures) in
+    let a = past .ensures in
+    let b = since .ensures in
+    omega (arith, r, p, m, w .0, good)
 
 add-end-2 : tie.Need-add-end-2
 add-end-2 c =
-    let w = c .before .before .before .before .before .before .before .before .before .before .before .before .before .before .before .before .before .before .pre in
-    let m = c .before .before .before .before .before .before .before .before .before .before .before .before .from-slot .ensures in
-    let r = room-enough (w .3) m _ (c .before .before .before .before .before .before .before .before .before .before .before .measure .ensures) in
-    let p = places (w .3) m _ (c .before .before .before .before .before .before .before .before .before .before .before .measure .ensures) in
-    let a = c .before .before .before .before .before .before .before .before .before .past .ensures in
-    let b = c .before .before .before .before .since .ensures in
-    omega (arith, r, p, m, w .0, c .before .before .before .before .before .before .before .before .before .before .before .before .before .before .before .before .before .before .good)
+    let w = c .before .before .before .before .before .before .before .before .before .before .before .before .before .before .before .before .before
+    .before .pre in
+    let good = c .before .before .before .before .before .before .before .before .before .before .before .before .before .before .before .before .before
+    .before .good in
+    let from-slot = c .before .before .before .before .before .before .before .before .before .before .before .before .from-slot in
+    let measure = c .before .before .before .before .before .before .before .before .before .before .before .measure in
+    let past = c .before .before .before .before .before .before .before .before .before .past in
+    let since = c .before .before .before .before .since in
+    let m = from-slot .ensures in
+    let r = room-enough (w .3) m _ (measure .ensures) in
+    let p = places (w .3) m _ (measure .ensures) in
+    let a = past .ensures in
+    let b = since .ensures in
+    omega (arith, r, p, m, w .0, good)
 
 add-write-list : tie.Need-add-write-list
 add-write-list c =
-    let w = c .before .before .before .before .before .before .before .before .before .before .before .before .before .before .before .before .before .before .before .pre in
-    let m = c .before .before .before .before .before .before .before .before .before .before .before .before .before .from-slot .ensures in
-    let r = room-enough (w .3) m _ (c .before .before .before .before .before .before .before .before .before .before .before .before .measure .ensures) in
-    let p = places (w .3) m _ (c .before .before .before .before .before .before .before .before .before .before .before .before .measure .ensures) in
-    let a = c .before .before .before .before .before .before .before .before .before .before .past .ensures in
-    let b = c .before .before .before .before .before .since .ensures in
-    omega (arith, r, p, m, w .0, c .before .before .before .before .before .before .before .before .before .before .before .before .before .before .before .before .before .before .before .good)
+    let w = c .before .before .before .before .before .before .before .before .before .before .before .before .before .before .before .before .before
+    .before .before .pre in
+    let good = c .before .before .before .before .before .before .before .before .before .before .before .before .before .before .before .before .before
+    .before .before .good in
+    let from-slot = c .before .before .before .before .before .before .before .before .before .before .before .before .before .from-slot in
+    let measure = c .before .before .before .before .before .before .before .before .before .before .before .before .measure in
+    let past = c .before .before .before .before .before .before .before .before .before .before .past in
+    let since = c .before .before .before .before .before .since in
+    let m = from-slot .ensures in
+    let r = room-enough (w .3) m _ (measure .ensures) in
+    let p = places (w .3) m _ (measure .ensures) in
+    let a = past .ensures in
+    let b = since .ensures in
+    omega (arith, r, p, m, w .0, good)
 
 write-list-requires : tie.Need-write-list-requires
 write-list-requires c κs =
-    let w = c .before .before .before .before .before .before .before .before .before .before .before .before .before .before .before .before .before .before .before .pre in
-    let m = c .before .before .before .before .before .before .before .before .before .before .before .before .before .from-slot .ensures in
-    let r = room-enough (w .3) m _ (c .before .before .before .before .before .before .before .before .before .before .before .before .measure .ensures) in
-    let p = places (w .3) m _ (c .before .before .before .before .before .before .before .before .before .before .before .before .measure .ensures) in
-    let a = c .before .before .before .before .before .before .before .before .before .before .past .ensures in
-    let b = c .before .before .before .before .before .since .ensures in
-    let o = simp length-set at (c .before .before .before .before .before .before .before .before .write-bits .kept .1 .1 .1 .0) in
-    (w .0, omega (arith, r, p, m, w .0, c .before .before .before .before .before .before .before .before .before .before .before .before .before .before .before .before .before .before .before .good, c .before .before .before .put-length .kept .0), listToWrite (w .3) m _ (c .before .before .before .before .before .before .before .before .before .before .before .before .measure .ensures) _)
+    let w = c .before .before .before .before .before .before .before .before .before .before .before .before .before .before .before .before .before
+    .before .before .pre in
+    let good = c .before .before .before .before .before .before .before .before .before .before .before .before .before .before .before .before .before
+    .before .before .good in
+    let from-slot = c .before .before .before .before .before .before .before .before .before .before .before .before .before .from-slot in
+    let measure = c .before .before .before .before .before .before .before .before .before .before .before .before .measure in
+    let past = c .before .before .before .before .before .before .before .before .before .before .past in
+    let write-bits = c .before .before .before .before .before .before .before .before .write-bits in
+    let since = c .before .before .before .before .before .since in
+    let put-length = c .before .before .before .put-length in
+    let m = from-slot .ensures in
+    let r = room-enough (w .3) m _ (measure .ensures) in
+    let p = places (w .3) m _ (measure .ensures) in
+    let a = past .ensures in
+    let b = since .ensures in
+    let o = simp length-set at (write-bits .kept .1 .1 .1 .0) in
+    (w .0, omega (arith, r, p, m, w .0, good, put-length .kept .0), listToWrite (w .3) m _ (measure .ensures) _)
 
 same-length : tie.Need-same-length
 same-length c =
@@ -154,15 +204,17 @@ same-length c =
 
 returns : tie.Need-returns
 returns c =
-    λ w.
-    let m = c .before .before .before .before .before .before .before .before .before .before .before .before .before .before .before .before .from-slot .ensures in
-    let first = c .before .before .before .before .before .before .before .before .before .before .before .before .before .past .ensures in
-    let gap = c .before .before .before .before .before .before .before .before .since .ensures in
-    let count = c .before .before .before .before .before .before .before .before .before .before .before .before .before .before .bits-at .ensures .0 in
-    let entries = c .before .before .before .before .before .before .before .before .before .before .before .write-bits .ensures in
-    let size = c .before .before .before .before .before .before .put-length .ensures in
-    let list = c .before .before .write-list .ensures (listToWrite w m _ (c .before .before .before .before .before .before .before .before .before .before .before .before .before .before .before .measure .ensures) _) in
-    template-done w m _ (c .before .before .before .before .before .before .before .before .before .before .before .before .before .before .before .measure .ensures) first gap _ count entries size list
+    let from-slot = c .before .before .before .before .before .before .before .before .before .before .before .before .before .before .before .before
+    .from-slot in
+    let measure = c .before .before .before .before .before .before .before .before .before .before .before .before .before .before .before .measure in
+    let bits-at = c .before .before .before .before .before .before .before .before .before .before .before .before .before .before .bits-at in
+    let past = c .before .before .before .before .before .before .before .before .before .before .before .before .before .past in
+    let write-bits = c .before .before .before .before .before .before .before .before .before .before .before .write-bits in
+    let since = c .before .before .before .before .before .before .before .before .since in
+    let put-length = c .before .before .before .before .before .before .put-length in
+    λ w. let m = from-slot .ensures in let first = past .ensures in let gap = since .ensures in let count = bits-at .ensures .0 in let entries =
+    write-bits .ensures in let size = put-length .ensures in let list = c .before .before .write-list .ensures (listToWrite w m _ (measure .ensures) _) in
+    template-done w m _ (measure .ensures) first gap _ count entries size list
 
 pub write-template-spec : {M : Type 1} → statement M
 write-template-spec =

@@ -18,7 +18,15 @@ loop-holds : tie.Need-loop-holds Inv-loop μ-loop
 loop-holds c = (search needs, refl, left-all _ _ _ _ _ _ (c .before .before .before .before .pre .2))
 
 write-template-requires : tie.Need-write-template-requires Inv-loop μ-loop
-write-template-requires c κs = let p = c .before .before .before .before .before .before .before .pre in (p .0, omega (arith, p .1, c .before .loop-test .taken), omega (arith, c .before .loop-test .taken, c .before .before .loop .inv .2 .now .few), leftTemplate _ _ _ _ _ _ _ _ _ _ (c .before .before .loop .inv .2) (c .before .loop-test .taken) _ (omega (arith, c .before .before .loop .inv .1)))
+write-template-requires c κs =
+    let p = c .before .before .before .before .before .before .before .pre in
+    let loop = c .before .before .loop in
+    let loop-test = c .before .loop-test in (
+      p .0,
+      omega (arith, p .1, loop-test .taken),
+      omega (arith, loop-test .taken, loop .inv .2 .now .few),
+      leftTemplate _ _ _ _ _ _ _ _ _ _ (loop .inv .2) (loop-test .taken) _ (omega (arith, loop .inv .1)),
+    )
 
 add-own : tie.Need-add-own Inv-loop μ-loop
 add-own c = search needs
@@ -27,7 +35,15 @@ loop-less : tie.Need-loop-less Inv-loop μ-loop
 loop-less c = search needs
 
 loop-again : tie.Need-loop-again Inv-loop μ-loop
-loop-again c = (search needs, c .before .before .before .write-template .kept .1 .1 .1 .1 .1 .0 ∙ c .before .before .before .before .before .before .loop .inv .1, left-next _ _ _ _ _ _ _ _ _ _ (c .before .before .before .before .before .before .loop .inv .2) (c .before .before .before .before .before .loop-test .taken) (length (c .before .before .before .before .before .before .loop .out)) (omega (arith, c .before .before .before .before .before .before .loop .inv .1)) (c .before .before .before .write-template .ensures (leftTemplate _ _ _ _ _ _ _ _ _ _ (c .before .before .before .before .before .before .loop .inv .2) (c .before .before .before .before .before .loop-test .taken) (length (c .before .before .before .before .before .before .loop .out)) (omega (arith, c .before .before .before .before .before .before .loop .inv .1)))))
+loop-again c =
+    let loop = c .before .before .before .before .before .before .loop in
+    let loop-test = c .before .before .before .before .before .loop-test in
+    let write-template = c .before .before .before .write-template in (
+      search needs,
+      write-template .kept .1 .1 .1 .1 .1 .0 ∙ loop .inv .1,
+      left-next _ _ _ _ _ _ _ _ _ _ (loop .inv .2) (loop-test .taken) (length (loop .out)) (omega (arith, loop .inv .1))
+          (write-template .ensures (leftTemplate _ _ _ _ _ _ _ _ _ _ (loop .inv .2) (loop-test .taken) (length (loop .out)) (omega (arith, loop .inv .1)))),
+    )
 
 same-length : tie.Need-same-length Inv-loop μ-loop
 same-length c = c .before .loop .inv .1

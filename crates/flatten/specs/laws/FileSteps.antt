@@ -198,11 +198,11 @@ module _ (s old : List ℕ) where
     pub file-short : length s ≤ 65536
     file-short = parts .short
 
-    pub file-rows : {table : List ℕ} → ZerosFor s table → 256 * m .count ≤ length table
-    file-rows z = rw count-is (tree-rows-there s read z)
-
     counts : m .count ≡ parts .count
     counts = count-is ∙ templates-count s (parts .count) (parts .count) 0 (parts .first) (parts .read)
+
+    pub file-rows : {table : List ℕ} → ZerosFor s table → (1 ≤ m .count) × (256 * m .count ≤ length table)
+    file-rows z = (omega (arith, counts, parts .some), rw count-is (tree-rows-there s read z))
 
     module _ (close : 64 ≤ m .far) {table₀ table : List ℕ} (zeros : ZerosFor s table₀) (filled : table ≡ treeFilled s table₀)
         (M M′ : List ℕ) (marks : templatesMarked Sizes M M′ (treeRead s))

@@ -47,9 +47,8 @@ same-length-2 c = search needs
 returns-2 : tie.Need-returns-2
 unfolding toldKept
 returns-2 c =
-    let before = c .before .before .before .before .before .before .before .before .before in
+    let b = c .before .before .before .before .before .before .before .before .before in
     let copy-up = c .before .before .before .before .before .before .copy-up in
-    let b = before in
     let e : b .before .before .before .before .args .r .sp ≡ b .before .before .before .before .args .n = omega (arith, b .before .if1 .left) in
     ((λ g s. rw (copy-up .ensures, c .before .before .clear .ensures, ← e, eq-eqb _ _ refl, le-leb _ _ (b .if2 .taken))), omega (arith, b .if2 .taken))
 

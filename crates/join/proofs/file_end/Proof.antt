@@ -22,7 +22,10 @@ from-slot-requires : tie.Need-from-slot-requires
 from-slot-requires c κs = search needs
 
 past-list-requires : tie.Need-past-list-requires
-past-list-requires c κs = let k = operand-count (c .before .before .before .before .pre .1) in (operand-short (c .before .before .before .before .pre .1), c .before .before .before .before .pre .0, omega (arith, k))
+past-list-requires c κs =
+    let pre = c .before .before .before .before .pre in
+    let k = operand-count (pre .1) in
+    (operand-short (pre .1), pre .0, omega (arith, k))
 
 returns : tie.Need-returns
 returns c = λ w. end-is w _ _ (c .past-list .ensures) _ refl (c .before .from-slot .ensures)

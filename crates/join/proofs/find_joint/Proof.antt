@@ -28,28 +28,56 @@ sub-t9 : tie.Need-sub-t9 Inv-loop μ-loop
 sub-t9 c = omega (arith, c .before .before .before .loop .inv .0)
 
 returns : tie.Need-returns Inv-loop μ-loop
-returns c = λ w. let k = c .before .before .before .loop .inv .1 w in walked-there _ _ _ k (sym (c .enum-told .given .1) ∙ c .before .before .turn-at .ensures (k .now)) _ refl refl
+returns c =
+    let loop = c .before .before .before .loop in
+    λ w. let k = loop .inv .1 w in walked-there _ _ _ k (sym (c .enum-told .given .1) ∙ c .before .before .turn-at .ensures (k .now)) _ refl refl
 
 enum-known-next : tie.Need-enum-known-next Inv-loop μ-loop
 enum-known-next c = search needs
 
 loop-less : tie.Need-loop-less Inv-loop μ-loop
-loop-less c = omega (arith, walked-past _ _ _ (c .before .before .before .before .loop .inv .1 (c .before .before .before .before .before .before .before .pre .2)) _ (sym (c .before .next .given .1) ∙ c .before .before .before .turn-at .ensures ((c .before .before .before .before .loop .inv .1 (c .before .before .before .before .before .before .before .pre .2)) .now)) .1, code-five ((c .before .before .before .before .loop .inv .1 (c .before .before .before .before .before .before .before .pre .2)) .now))
+loop-less c =
+    let pre = c .before .before .before .before .before .before .before .pre in
+    let loop = c .before .before .before .before .loop in
+    let turn-at = c .before .before .before .turn-at in
+    omega (
+      arith,
+      walked-past _ _ _ (loop .inv .1 (pre .2)) _ (sym (c .before .next .given .1) ∙ turn-at .ensures ((loop .inv .1 (pre .2)) .now)) .1,
+      code-five ((loop .inv .1 (pre .2)) .now),
+    )
 
 loop-again : tie.Need-loop-again Inv-loop μ-loop
-loop-again c = (c .before .before .before .before .loop .inv .0, λ w. let k = c .before .before .before .before .loop .inv .1 w in walked-past _ _ _ (k) _ (sym (c .before .next .given .1) ∙ c .before .before .before .turn-at .ensures ((k) .now)) .0)
+loop-again c =
+    let loop = c .before .before .before .before .loop in
+    let turn-at = c .before .before .before .turn-at in
+    (loop .inv .0, λ w. let k = loop .inv .1 w in walked-past _ _ _ (k) _ (sym (c .before .next .given .1) ∙ turn-at .ensures ((k) .now)) .0)
 
 enum-known-next-2 : tie.Need-enum-known-next-2 Inv-loop μ-loop
 enum-known-next-2 c = search needs
 
 sub-levels : tie.Need-sub-levels Inv-loop μ-loop
-sub-levels c = walked-within _ _ _ (c .before .before .before .before .loop .inv .1 (c .before .before .before .before .before .before .before .pre .2)) _ (sym (c .before .next2 .given .1) ∙ c .before .before .before .turn-at .ensures ((c .before .before .before .before .loop .inv .1 (c .before .before .before .before .before .before .before .pre .2)) .now)) .0
+sub-levels c =
+    let pre = c .before .before .before .before .before .before .before .pre in
+    let loop = c .before .before .before .before .loop in
+    let turn-at = c .before .before .before .turn-at in
+    walked-within _ _ _ (loop .inv .1 (pre .2)) _ (sym (c .before .next2 .given .1) ∙ turn-at .ensures ((loop .inv .1 (pre .2)) .now)) .0
 
 loop-less-2 : tie.Need-loop-less-2 Inv-loop μ-loop
-loop-less-2 c = omega (arith, walked-within _ _ _ (c .before .before .before .before .loop .inv .1 (c .before .before .before .before .before .before .before .pre .2)) _ (sym (c .before .next2 .given .1) ∙ c .before .before .before .turn-at .ensures ((c .before .before .before .before .loop .inv .1 (c .before .before .before .before .before .before .before .pre .2)) .now)) .2, code-five ((c .before .before .before .before .loop .inv .1 (c .before .before .before .before .before .before .before .pre .2)) .now))
+loop-less-2 c =
+    let pre = c .before .before .before .before .before .before .before .pre in
+    let loop = c .before .before .before .before .loop in
+    let turn-at = c .before .before .before .turn-at in
+    omega (
+      arith,
+      walked-within _ _ _ (loop .inv .1 (pre .2)) _ (sym (c .before .next2 .given .1) ∙ turn-at .ensures ((loop .inv .1 (pre .2)) .now)) .2,
+      code-five ((loop .inv .1 (pre .2)) .now),
+    )
 
 loop-again-2 : tie.Need-loop-again-2 Inv-loop μ-loop
-loop-again-2 c = (omega (arith, c .before .before .before .before .loop .inv .0), λ w. let k = c .before .before .before .before .loop .inv .1 w in walked-within _ _ _ (k) _ (sym (c .before .next2 .given .1) ∙ c .before .before .before .turn-at .ensures ((k) .now)) .1)
+loop-again-2 c =
+    let loop = c .before .before .before .before .loop in
+    let turn-at = c .before .before .before .turn-at in
+    (omega (arith, loop .inv .0), λ w. let k = loop .inv .1 w in walked-within _ _ _ (k) _ (sym (c .before .next2 .given .1) ∙ turn-at .ensures ((k) .now)) .1)
 
 pub find-joint-spec : {M : Type 1} → statement M
 find-joint-spec =

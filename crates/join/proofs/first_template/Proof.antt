@@ -16,7 +16,9 @@ past-list-requires : tie.Need-past-list-requires
 past-list-requires c κs = (operand-short (c .before .before .before .before .pre .1), c .before .before .before .before .pre .0, omega arith)
 
 bits-at-requires : tie.Need-bits-at-requires
-bits-at-requires c κs = (omega (arith, operand-short (c .before .before .before .before .before .pre .1)), (omega arith, operand-two (c .before .before .before .before .before .pre .1)))
+bits-at-requires c κs =
+    let pre = c .before .before .before .before .before .pre in
+    (omega (arith, operand-short (pre .1)), (omega arith, operand-two (pre .1)))
 
 cast-entries : tie.Need-cast-entries
 cast-entries c = search needs

@@ -24,10 +24,18 @@ enum-told : tie.Need-enum-told
 enum-told c = search needs
 
 returns-2 : tie.Need-returns-2
-returns-2 c = λ w. prologue-class w (c .before .before .before .before .before .before .before .before .before .if1 .left) _ (c .before .before .before .before .before .before .before .from-slot .ensures) _ _ (sym (c .before .before .before .before .before .read-list .ensures .0) ∙ c .before .before .facts .given .1)
+returns-2 c =
+    let if1 = c .before .before .before .before .before .before .before .before .before .if1 in
+    let from-slot = c .before .before .before .before .before .before .before .from-slot in
+    let read-list = c .before .before .before .before .before .read-list in
+    λ w. prologue-class w (if1 .left) _ (from-slot .ensures) _ _ (sym (read-list .ensures .0) ∙ c .before .before .facts .given .1)
 
 returns-3 : tie.Need-returns-3
-returns-3 c = λ w. prologue-refused w (c .before .before .before .before .before .before .before .if1 .left) _ (c .before .before .before .before .before .from-slot .ensures) _ _ (sym (c .before .before .before .read-list .ensures .0) ∙ c .enum-told .given .1)
+returns-3 c =
+    let if1 = c .before .before .before .before .before .before .before .if1 in
+    let from-slot = c .before .before .before .before .before .from-slot in
+    let read-list = c .before .before .before .read-list in
+    λ w. prologue-refused w (if1 .left) _ (from-slot .ensures) _ _ (sym (read-list .ensures .0) ∙ c .enum-told .given .1)
 
 slice-aggregate-read-list : tie.Need-slice-aggregate-read-list
 slice-aggregate-read-list c = search needs

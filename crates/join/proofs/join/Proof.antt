@@ -21,7 +21,12 @@ slice-aggregate-join-second : tie.Need-slice-aggregate-join-second
 slice-aggregate-join-second c = search needs
 
 join-second-requires : tie.Need-join-second-requires
-join-second-requires c κs = (c .before .before .before .before .before .read-prologue .kept .1 .0, prologue-at _ (sym (c .before .before .before .before .before .read-prologue .ensures .0) ∙ c .before .before .enum-told .given .1) (all-rows _ refl) (c .before .before .before .before .before .read-prologue .ensures .1))
+join-second-requires c κs =
+    let read-prologue = c .before .before .before .before .before .read-prologue in (
+      read-prologue .kept .1 .0,
+      prologue-at _ (sym (read-prologue .ensures .0) ∙ c .before .before .enum-told .given .1) (all-rows _ refl)
+          (read-prologue .ensures .1),
+    )
 
 enum-known-no : tie.Need-enum-known-no
 enum-known-no c = search needs

@@ -21,7 +21,11 @@ slice-aggregate-join-both : tie.Need-slice-aggregate-join-both
 slice-aggregate-join-both c = search needs
 
 join-both-requires : tie.Need-join-both-requires
-join-both-requires c κs = (c .before .before .before .before .before .before .before .before .before .before .before .before .pre .0, c .before .before .before .before .before .before .read-second .kept .1 .0, to-join (c .before .before .before .before .before .before .before .before .before .before .before .before .pre .1) _ (sym (c .before .before .before .before .before .before .read-second .ensures .0) ∙ c .before .before .before .sum .given .1) (all-rows _ refl) (c .before .before .before .before .before .before .read-second .ensures .1))
+join-both-requires c κs =
+    let pre = c .before .before .before .before .before .before .before .before .before .before .before .before .pre in
+    let read-second = c .before .before .before .before .before .before .read-second in
+    let sum = c .before .before .before .sum in
+    (pre .0, read-second .kept .1 .0, to-join (pre .1) _ (sym (read-second .ensures .0) ∙ sum .given .1) (all-rows _ refl) (read-second .ensures .1))
 
 enum-known-no : tie.Need-enum-known-no
 enum-known-no c = search needs
@@ -33,7 +37,10 @@ returns : tie.Need-returns
 returns c = search needs
 
 returns-2 : tie.Need-returns-2
-returns-2 c = second-refused _ _ _ (c .before .before .before .before .before .before .before .before .before .before .pre .1) (judged-refused _ (sym (c .before .before .before .before .read-second .ensures .0) ∙ c .before .no .given .1))
+returns-2 c =
+    let pre = c .before .before .before .before .before .before .before .before .before .before .pre in
+    let read-second = c .before .before .before .before .read-second in
+    second-refused _ _ _ (pre .1) (judged-refused _ (sym (read-second .ensures .0) ∙ c .before .no .given .1))
 
 pub join-second-spec : {M : Type 1} → statement M
 join-second-spec =

@@ -16,10 +16,16 @@ enum-told-2 : tie.Need-enum-told-2
 enum-told-2 c = search needs
 
 returns : tie.Need-returns
-returns c = λ w. let l = listed-done _ _ _ _ _ (sym (c .before .before .before .read-list .ensures .0) ∙ c .enum-told .given .1) in levels-read _ _ _ (c .before .before .before .before .before .before .before .pre .2) w (l .0) _ (l .1)
+returns c =
+    let pre = c .before .before .before .before .before .before .before .pre in
+    let read-list = c .before .before .before .read-list in
+    λ w. let l = listed-done _ _ _ _ _ (sym (read-list .ensures .0) ∙ c .enum-told .given .1) in levels-read _ _ _ (pre .2) w (l .0) _ (l .1)
 
 returns-2 : tie.Need-returns-2
-returns-2 c = λ w. levels-refused _ _ _ (c .before .before .before .before .before .before .before .pre .2) w _ _ (listed-refused _ _ _ _ _ (sym (c .before .before .before .read-list .ensures .0) ∙ c .enum-told2 .given .1))
+returns-2 c =
+    let pre = c .before .before .before .before .before .before .before .pre in
+    let read-list = c .before .before .before .read-list in
+    λ w. levels-refused _ _ _ (pre .2) w _ _ (listed-refused _ _ _ _ _ (sym (read-list .ensures .0) ∙ c .enum-told2 .given .1))
 
 slice-aggregate-read-list : tie.Need-slice-aggregate-read-list
 slice-aggregate-read-list c = search needs

@@ -36,7 +36,13 @@ loop-less : tie.Need-loop-less Inv-loop μ-loop
 loop-less c = search needs
 
 loop-again : tie.Need-loop-again Inv-loop μ-loop
-loop-again c = let v = c .before .loop .inv in (omega (arith, c .loop-test .taken), simp length-set (v .1), one-more (c .before .loop .indices) (c .before .before .args .n) (c .before .loop .i) _ (omega (arith, v .1, c .loop-test .taken)) refl (v .2))
+loop-again c =
+    let loop = c .before .loop in
+    let v = loop .inv in (
+      omega (arith, c .loop-test .taken),
+      simp length-set (v .1),
+      one-more (loop .indices) (c .before .before .args .n) (loop .i) _ (omega (arith, v .1, c .loop-test .taken)) refl (v .2),
+    )
 
 same-length : tie.Need-same-length Inv-loop μ-loop
 same-length c = search needs

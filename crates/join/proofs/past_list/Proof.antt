@@ -7,10 +7,14 @@ use Rattle.join.proofs.past_list.Statement.{statement}
 use Rattle.join.proofs.past_list.Tie as tie
 
 returns : tie.Need-returns
-returns c = λ k q e. let l = listed-done _ _ _ _ _ (sym (c .before .before .before .before .read-list .ensures .0) ∙ c .before .next .given .1) in got-value (sym (l .1) ∙ e) .1
+returns c =
+    let read-list = c .before .before .before .before .read-list in
+    λ k q e. let l = listed-done _ _ _ _ _ (sym (read-list .ensures .0) ∙ c .before .next .given .1) in got-value (sym (l .1) ∙ e) .1
 
 returns-2 : tie.Need-returns-2
-returns-2 c = λ k q e. let l = listed-refused _ _ _ _ _ (sym (c .before .before .before .before .read-list .ensures .0) ∙ c .before .next2 .given .1) in refused-got (sym l ∙ e)
+returns-2 c =
+    let read-list = c .before .before .before .before .read-list in
+    λ k q e. let l = listed-refused _ _ _ _ _ (sym (read-list .ensures .0) ∙ c .before .next2 .given .1) in refused-got (sym l ∙ e)
 
 slice-aggregate-read-list : tie.Need-slice-aggregate-read-list
 slice-aggregate-read-list c = search needs

@@ -16,19 +16,43 @@ enum-known-sum : tie.Need-enum-known-sum
 enum-known-sum c = search needs
 
 is-prologue-requires : tie.Need-is-prologue-requires
-is-prologue-requires c κs = (file-short _ _ _ (operand-read _ (sym (c .before .before .before .before .before .before .before .read-tree .ensures .0) ∙ c .before .before .sum .given .1) (all-rows _ (c .before .before .before .before .before .before .before .before .before .before .before .before .pre)) (c .before .before .before .before .before .before .before .read-tree .ensures .1 .0) .read), c .before .before .before .before .before .before .before .read-tree .kept .1 .0 ∙ ap length (c .before .before .before .before .before .before .before .before .before .before .before .before .pre) ∙ zeros-length 16384)
+is-prologue-requires c κs =
+    let pre = c .before .before .before .before .before .before .before .before .before .before .before .before .pre in
+    let read-tree = c .before .before .before .before .before .before .before .read-tree in (
+      file-short _ _ _ (operand-read _ (sym (read-tree .ensures .0) ∙ c .before .before .sum .given .1) (all-rows _ (pre)) (read-tree .ensures .1 .0) .read),
+      read-tree .kept .1 .0 ∙ ap length (pre) ∙ zeros-length 16384,
+    )
 
 same-length : tie.Need-same-length
 same-length c = search needs
 
 returns : tie.Need-returns
-returns c = (prologue-misnamed _ (sym (c .before .before .before .before .before .before .before .before .before .before .before .before .read-tree .ensures .0) ∙ c .before .before .before .before .before .before .before .sum .given .1) ((prologue-told _ (sym (c .before .before .before .before .before .before .before .before .before .before .before .before .read-tree .ensures .0) ∙ c .before .before .before .before .before .before .before .sum .given .1) (all-rows _ (c .before .before .before .before .before .before .before .before .before .before .before .before .before .before .before .before .before .pre)) (c .before .before .before .before .before .before .before .before .before .before .before .before .read-tree .ensures .1 .0) (c .before .before .before .before .is-prologue .ensures)) ∙ c .before .before .before .if1 .taken) (c .before .if2 .taken), c .before .before .before .before .before .before .before .before .before .before .before .before .read-tree .ensures .1 .0)
+returns c =
+    let pre = c .before .before .before .before .before .before .before .before .before .before .before .before .before .before .before .before .before .pre in
+    let read-tree = c .before .before .before .before .before .before .before .before .before .before .before .before .read-tree in
+    let sum = c .before .before .before .before .before .before .before .sum in
+    let is-prologue = c .before .before .before .before .is-prologue in
+    let if1 = c .before .before .before .if1 in (
+      prologue-misnamed _ (sym (read-tree .ensures .0) ∙ sum .given .1)
+          ((prologue-told _ (sym (read-tree .ensures .0) ∙ sum .given .1) (all-rows _ (pre)) (read-tree .ensures .1 .0) (is-prologue .ensures)) ∙ if1 .taken)
+          (c .before .if2 .taken),
+      read-tree .ensures .1 .0,
+    )
 
 same-length-2 : tie.Need-same-length-2
 same-length-2 c = search needs
 
 returns-2 : tie.Need-returns-2
-returns-2 c = (prologue-good _ (sym (c .before .before .before .before .before .before .before .before .before .before .before .read-tree .ensures .0) ∙ c .before .before .before .before .before .before .sum .given .1) ((prologue-told _ (sym (c .before .before .before .before .before .before .before .before .before .before .before .read-tree .ensures .0) ∙ c .before .before .before .before .before .before .sum .given .1) (all-rows _ (c .before .before .before .before .before .before .before .before .before .before .before .before .before .before .before .before .pre)) (c .before .before .before .before .before .before .before .before .before .before .before .read-tree .ensures .1 .0) (c .before .before .before .is-prologue .ensures)) ∙ c .before .before .if1 .taken) (c .if2 .left), c .before .before .before .before .before .before .before .before .before .before .before .read-tree .ensures .1 .0)
+returns-2 c =
+    let pre = c .before .before .before .before .before .before .before .before .before .before .before .before .before .before .before .before .pre in
+    let read-tree = c .before .before .before .before .before .before .before .before .before .before .before .read-tree in
+    let sum = c .before .before .before .before .before .before .sum in
+    let is-prologue = c .before .before .before .is-prologue in (
+      prologue-good _ (sym (read-tree .ensures .0) ∙ sum .given .1)
+          ((prologue-told _ (sym (read-tree .ensures .0) ∙ sum .given .1) (all-rows _ (pre)) (read-tree .ensures .1 .0) (is-prologue .ensures)) ∙
+          c .before .before .if1 .taken) (c .if2 .left),
+      read-tree .ensures .1 .0,
+    )
 
 enum-known-no : tie.Need-enum-known-no
 enum-known-no c = search needs
@@ -40,13 +64,23 @@ same-length-3 : tie.Need-same-length-3
 same-length-3 c = search needs
 
 returns-3 : tie.Need-returns-3
-returns-3 c = (prologue-other _ (sym (c .before .before .before .before .before .before .before .before .before .read-tree .ensures .0) ∙ c .before .before .before .before .sum .given .1) ((prologue-told _ (sym (c .before .before .before .before .before .before .before .before .before .read-tree .ensures .0) ∙ c .before .before .before .before .sum .given .1) (all-rows _ (c .before .before .before .before .before .before .before .before .before .before .before .before .before .before .pre)) (c .before .before .before .before .before .before .before .before .before .read-tree .ensures .1 .0) (c .before .is-prologue .ensures)) ∙ c .if1 .left), c .before .before .before .before .before .before .before .before .before .read-tree .ensures .1 .0)
+returns-3 c =
+    let pre = c .before .before .before .before .before .before .before .before .before .before .before .before .before .before .pre in
+    let read-tree = c .before .before .before .before .before .before .before .before .before .read-tree in
+    let sum = c .before .before .before .before .sum in (
+      prologue-other _ (sym (read-tree .ensures .0) ∙ sum .given .1)
+          ((prologue-told _ (sym (read-tree .ensures .0) ∙ sum .given .1) (all-rows _ (pre)) (read-tree .ensures .1 .0) (c .before .is-prologue .ensures)) ∙
+          c .if1 .left),
+      read-tree .ensures .1 .0,
+    )
 
 same-length-4 : tie.Need-same-length-4
 same-length-4 c = search needs
 
 returns-4 : tie.Need-returns-4
-returns-4 c = (prologue-unread _ _ _ (sym (c .before .before .before .before .before .before .before .read-tree .ensures .0) ∙ c .before .before .no .given .1) _ (c .number .ensures), c .before .before .before .before .before .before .before .read-tree .ensures .1 .0)
+returns-4 c =
+    let read-tree = c .before .before .before .before .before .before .before .read-tree in
+    (prologue-unread _ _ _ (sym (read-tree .ensures .0) ∙ c .before .before .no .given .1) _ (c .number .ensures), read-tree .ensures .1 .0)
 
 slice-aggregate-read-tree : tie.Need-slice-aggregate-read-tree
 slice-aggregate-read-tree c = search needs

@@ -28,25 +28,66 @@ same-length : tie.Need-same-length
 same-length c = search needs
 
 returns : tie.Need-returns
-returns c = (second-open-misnamed _ (sym (c .before .before .before .before .before .before .before .before .before .before .before .before .read-tree .ensures .0) ∙ c .before .before .before .before .before .before .before .sum .given .1) ((prologue-told _ (sym (c .before .before .before .before .before .before .before .before .before .before .before .before .read-tree .ensures .0) ∙ c .before .before .before .before .before .before .before .sum .given .1) (all-rows _ (c .before .before .before .before .before .before .before .before .before .before .before .before .before .before .before .before .before .pre)) (c .before .before .before .before .before .before .before .before .before .before .before .before .read-tree .ensures .1 .0) (c .before .before .before .before .is-open .ensures)) ∙ c .before .before .before .if1 .taken) (c .before .if2 .taken), c .before .before .before .before .before .before .before .before .before .before .before .before .read-tree .ensures .1 .0)
+returns c =
+    let pre = c .before .before .before .before .before .before .before .before .before .before .before .before .before .before .before .before .before .pre in
+    let read-tree = c .before .before .before .before .before .before .before .before .before .before .before .before .read-tree in
+    let sum = c .before .before .before .before .before .before .before .sum in
+    let is-open = c .before .before .before .before .is-open in
+    let if1 = c .before .before .before .if1 in (
+      second-open-misnamed _ (sym (read-tree .ensures .0) ∙ sum .given .1)
+          ((prologue-told _ (sym (read-tree .ensures .0) ∙ sum .given .1) (all-rows _ (pre)) (read-tree .ensures .1 .0) (is-open .ensures)) ∙ if1 .taken)
+          (c .before .if2 .taken),
+      read-tree .ensures .1 .0,
+    )
 
 same-length-2 : tie.Need-same-length-2
 same-length-2 c = search needs
 
 returns-2 : tie.Need-returns-2
-returns-2 c = (second-open-good _ (sym (c .before .before .before .before .before .before .before .before .before .before .before .read-tree .ensures .0) ∙ c .before .before .before .before .before .before .sum .given .1) ((prologue-told _ (sym (c .before .before .before .before .before .before .before .before .before .before .before .read-tree .ensures .0) ∙ c .before .before .before .before .before .before .sum .given .1) (all-rows _ (c .before .before .before .before .before .before .before .before .before .before .before .before .before .before .before .before .pre)) (c .before .before .before .before .before .before .before .before .before .before .before .read-tree .ensures .1 .0) (c .before .before .before .is-open .ensures)) ∙ c .before .before .if1 .taken) (c .if2 .left), c .before .before .before .before .before .before .before .before .before .before .before .read-tree .ensures .1 .0)
+returns-2 c =
+    let pre = c .before .before .before .before .before .before .before .before .before .before .before .before .before .before .before .before .pre in
+    let read-tree = c .before .before .before .before .before .before .before .before .before .before .before .read-tree in
+    let sum = c .before .before .before .before .before .before .sum in
+    let is-open = c .before .before .before .is-open in (
+      second-open-good _ (sym (read-tree .ensures .0) ∙ sum .given .1)
+          ((prologue-told _ (sym (read-tree .ensures .0) ∙ sum .given .1) (all-rows _ (pre)) (read-tree .ensures .1 .0) (is-open .ensures)) ∙
+          c .before .before .if1 .taken) (c .if2 .left),
+      read-tree .ensures .1 .0,
+    )
 
 same-length-3 : tie.Need-same-length-3
 same-length-3 c = search needs
 
 returns-3 : tie.Need-returns-3
-returns-3 c = (second-unclosed _ (sym (c .before .before .before .before .before .before .before .before .before .before .before .before .read-tree .ensures .0) ∙ c .before .before .before .before .before .before .before .sum .given .1) ((prologue-told _ (sym (c .before .before .before .before .before .before .before .before .before .before .before .before .read-tree .ensures .0) ∙ c .before .before .before .before .before .before .before .sum .given .1) (all-rows _ (c .before .before .before .before .before .before .before .before .before .before .before .before .before .before .before .before .before .pre)) (c .before .before .before .before .before .before .before .before .before .before .before .before .read-tree .ensures .1 .0) (c .before .before .before .before .is-open .ensures)) ∙ c .before .before .before .if1 .left) (c .before .if3 .taken), c .before .before .before .before .before .before .before .before .before .before .before .before .read-tree .ensures .1 .0)
+returns-3 c =
+    let pre = c .before .before .before .before .before .before .before .before .before .before .before .before .before .before .before .before .before .pre in
+    let read-tree = c .before .before .before .before .before .before .before .before .before .before .before .before .read-tree in
+    let sum = c .before .before .before .before .before .before .before .sum in
+    let is-open = c .before .before .before .before .is-open in
+    let if1 = c .before .before .before .if1 in (
+      second-unclosed _ (sym (read-tree .ensures .0) ∙ sum .given .1)
+          ((prologue-told _ (sym (read-tree .ensures .0) ∙ sum .given .1) (all-rows _ (pre)) (read-tree .ensures .1 .0) (is-open .ensures)) ∙ if1 .left)
+          (c .before .if3 .taken),
+      read-tree .ensures .1 .0,
+    )
 
 same-length-4 : tie.Need-same-length-4
 same-length-4 c = search needs
 
 returns-4 : tie.Need-returns-4
-returns-4 c = (second-misnamed _ (sym (c .before .before .before .before .before .before .before .before .before .before .before .before .before .before .read-tree .ensures .0) ∙ c .before .before .before .before .before .before .before .before .before .sum .given .1) ((prologue-told _ (sym (c .before .before .before .before .before .before .before .before .before .before .before .before .before .before .read-tree .ensures .0) ∙ c .before .before .before .before .before .before .before .before .before .sum .given .1) (all-rows _ (c .before .before .before .before .before .before .before .before .before .before .before .before .before .before .before .before .before .before .before .pre)) (c .before .before .before .before .before .before .before .before .before .before .before .before .before .before .read-tree .ensures .1 .0) (c .before .before .before .before .before .before .is-open .ensures)) ∙ c .before .before .before .before .before .if1 .left) (c .before .before .before .if3 .left) (c .before .if4 .taken), c .before .before .before .before .before .before .before .before .before .before .before .before .before .before .read-tree .ensures .1 .0)
+returns-4 c =
+    let pre = c .before .before .before .before .before .before .before .before .before .before .before .before .before .before .before .before .before
+    .before .before .pre in
+    let read-tree = c .before .before .before .before .before .before .before .before .before .before .before .before .before .before .read-tree in
+    let sum = c .before .before .before .before .before .before .before .before .before .sum in
+    let is-open = c .before .before .before .before .before .before .is-open in
+    let if1 = c .before .before .before .before .before .if1 in
+    let if3 = c .before .before .before .if3 in (
+      second-misnamed _ (sym (read-tree .ensures .0) ∙ sum .given .1)
+          ((prologue-told _ (sym (read-tree .ensures .0) ∙ sum .given .1) (all-rows _ (pre)) (read-tree .ensures .1 .0) (is-open .ensures)) ∙ if1 .left) (if3 .left)
+          (c .before .if4 .taken),
+      read-tree .ensures .1 .0,
+    )
 
 enum-known-no : tie.Need-enum-known-no
 enum-known-no c = search needs
@@ -58,13 +99,26 @@ same-length-5 : tie.Need-same-length-5
 same-length-5 c = search needs
 
 returns-5 : tie.Need-returns-5
-returns-5 c = (second-good _ (sym (c .before .before .before .before .before .before .before .before .before .before .before .before .before .read-tree .ensures .0) ∙ c .before .before .before .before .before .before .before .before .sum .given .1) ((prologue-told _ (sym (c .before .before .before .before .before .before .before .before .before .before .before .before .before .read-tree .ensures .0) ∙ c .before .before .before .before .before .before .before .before .sum .given .1) (all-rows _ (c .before .before .before .before .before .before .before .before .before .before .before .before .before .before .before .before .before .before .pre)) (c .before .before .before .before .before .before .before .before .before .before .before .before .before .read-tree .ensures .1 .0) (c .before .before .before .before .before .is-open .ensures)) ∙ c .before .before .before .before .if1 .left) (c .before .before .if3 .left) (c .if4 .left), c .before .before .before .before .before .before .before .before .before .before .before .before .before .read-tree .ensures .1 .0)
+returns-5 c =
+    let pre = c .before .before .before .before .before .before .before .before .before .before .before .before .before .before .before .before .before
+    .before .pre in
+    let read-tree = c .before .before .before .before .before .before .before .before .before .before .before .before .before .read-tree in
+    let sum = c .before .before .before .before .before .before .before .before .sum in
+    let is-open = c .before .before .before .before .before .is-open in
+    let if1 = c .before .before .before .before .if1 in (
+      second-good _ (sym (read-tree .ensures .0) ∙ sum .given .1)
+          ((prologue-told _ (sym (read-tree .ensures .0) ∙ sum .given .1) (all-rows _ (pre)) (read-tree .ensures .1 .0) (is-open .ensures)) ∙ if1 .left)
+          (c .before .before .if3 .left) (c .if4 .left),
+      read-tree .ensures .1 .0,
+    )
 
 same-length-6 : tie.Need-same-length-6
 same-length-6 c = search needs
 
 returns-6 : tie.Need-returns-6
-returns-6 c = (second-unread _ _ _ (sym (c .before .before .before .before .before .before .before .read-tree .ensures .0) ∙ c .before .before .no .given .1) _ (c .number .ensures), c .before .before .before .before .before .before .before .read-tree .ensures .1 .0)
+returns-6 c =
+    let read-tree = c .before .before .before .before .before .before .before .read-tree in
+    (second-unread _ _ _ (sym (read-tree .ensures .0) ∙ c .before .before .no .given .1) _ (c .number .ensures), read-tree .ensures .1 .0)
 
 slice-aggregate-read-tree : tie.Need-slice-aggregate-read-tree
 slice-aggregate-read-tree c = search needs

@@ -18,13 +18,20 @@ past-requires : tie.Need-past-requires
 past-requires c κs = search needs
 
 sub-past-list : tie.Need-sub-past-list
-sub-past-list c = omega (arith, arms-below (c .before .before .before .before .before .before .pre .2) _ (c .before .before .shape-of .ensures ∙ ap shapeOf (c .before .before .before .bits-at .ensures .0)) (c .before .match .keys2))
+sub-past-list c =
+    let pre = c .before .before .before .before .before .before .pre in
+    let bits-at = c .before .before .before .bits-at in
+    omega (arith, arms-below (pre .2) _ (c .before .before .shape-of .ensures ∙ ap shapeOf (bits-at .ensures .0)) (c .before .match .keys2))
 
 past-list-requires : tie.Need-past-list-requires
 past-list-requires c κs = search needs
 
 sub-past-list-2 : tie.Need-sub-past-list-2
-sub-past-list-2 c = omega (arith, arms-below (c .before .before .before .before .before .before .before .pre .2) _ (c .before .before .before .shape-of .ensures ∙ ap shapeOf (c .before .before .before .before .bits-at .ensures .0)) (c .before .before .match .keys2))
+sub-past-list-2 c =
+    let pre = c .before .before .before .before .before .before .before .pre in
+    let bits-at = c .before .before .before .before .bits-at in
+    let shape-of = c .before .before .before .shape-of in
+    omega (arith, arms-below (pre .2) _ (shape-of .ensures ∙ ap shapeOf (bits-at .ensures .0)) (c .before .before .match .keys2))
 
 past-list-requires-2 : tie.Need-past-list-requires-2
 past-list-requires-2 c κs = search needs
@@ -51,13 +58,23 @@ returns : tie.Need-returns
 returns c = λ w. code-there w _ (c .before .shape-of .ensures ∙ ap shapeOf (c .before .before .bits-at .ensures .0)) (c .match .keys1)
 
 returns-2 : tie.Need-returns-2
-returns-2 c = λ w. code-arms w _ (c .before .before .before .before .shape-of .ensures ∙ ap shapeOf (c .before .before .before .before .before .bits-at .ensures .0)) (c .before .before .before .match .keys2) _ _ _ (c .before .before .past .ensures) (c .before .past-list .ensures) (c .past-list2 .ensures)
+returns-2 c =
+    let bits-at = c .before .before .before .before .before .bits-at in
+    let shape-of = c .before .before .before .before .shape-of in
+    let match = c .before .before .before .match in
+    λ w. code-arms w _ (shape-of .ensures ∙ ap shapeOf (bits-at .ensures .0)) (match .keys2) _ _ _ (c .before .before .past .ensures)
+    (c .before .past-list .ensures) (c .past-list2 .ensures)
 
 returns-3 : tie.Need-returns-3
-returns-3 c = λ w. code-within w _ (c .before .before .shape-of .ensures ∙ ap shapeOf (c .before .before .before .bits-at .ensures .0)) (c .before .match .keys3) _ (c .past2 .ensures)
+returns-3 c =
+    let bits-at = c .before .before .before .bits-at in
+    λ w. code-within w _ (c .before .before .shape-of .ensures ∙ ap shapeOf (bits-at .ensures .0)) (c .before .match .keys3) _ (c .past2 .ensures)
 
 returns-4 : tie.Need-returns-4
-returns-4 c = let r = c .before .match .rest in λ w. code-plain w _ (c .before .before .shape-of .ensures ∙ ap shapeOf (c .before .before .before .bits-at .ensures .0)) (r .0 .0 .1) (r .0 .1) (r .1) _ (c .past3 .ensures)
+returns-4 c =
+    let bits-at = c .before .before .before .bits-at in
+    let r = c .before .match .rest in
+    λ w. code-plain w _ (c .before .before .shape-of .ensures ∙ ap shapeOf (bits-at .ensures .0)) (r .0 .0 .1) (r .0 .1) (r .1) _ (c .past3 .ensures)
 
 pub turn-at-spec : {M : Type 1} → statement M
 turn-at-spec =

@@ -31,11 +31,13 @@ same-length c = search needs
 returns : tie.Need-returns
 returns c =
     let p = c .before .before .before .before .before .before .before .before .before .before .before .before .before .before .before .before .pre in
+    let a = c .before .before .before .before .before .before .before .before .before .before .before .before .before .before .before .before .args in
+    let put-entries = c .before .before .before .before .before .before .put-entries in
     let x = p .1 .0 in
     let y = p .1 .1 .0 in
-    let e = c .before .before .before .before .before .before .put-entries .ensures in
-    let a = c .before .before .before .before .before .before .before .before .before .before .before .before .before .before .before .before .args in
-    λ w. both-put (a .a .now) (a .b .now) (a .out .now) _ _ _ (a .x .start .0) (a .y .start .0) (a .count) (a .x .entries + a .y .entries) _ (x .0) (y .0) (omega (arith, x, y, p .1 .1 .1 .0)) (e .1) (e .0) (c .before .before .put-lists .ensures w)
+    let e = put-entries .ensures in
+    λ w. both-put (a .a .now) (a .b .now) (a .out .now) _ _ _ (a .x .start .0) (a .y .start .0) (a .count) (a .x .entries + a .y .entries) _ (x .0) (y .0)
+    (omega (arith, x, y, p .1 .1 .1 .0)) (e .1) (e .0) (c .before .before .put-lists .ensures w)
 
 pub write-joined-spec : {M : Type 1} → statement M
 write-joined-spec =

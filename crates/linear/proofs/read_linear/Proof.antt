@@ -69,10 +69,9 @@ same-length c = search needs
 
 returns-5 : tie.Need-returns-5
 returns-5 c =
-    let before = c .before .before .before .before .before .before .before .before .before .before in
+    let k = c .before .before .before .before .before .before .before .before .before .before in
     let read-templates = c .before .before .before .before .before .before .before .before .read-templates in
     let past = c .before .before .before .before .past in
-    let k = before in
     file-done _ _ (k .before .before .before .before .before .before .if1 .left)
     (field-read _ _ _ (k .before .before .before .before .before .read-field .ensures) (k .before .before .before .count .given .1)) (k .before .if2 .left)
     (k .if3 .left) (read-templates .ensures) (past .given .1) (c .before .before .nothing-more .ensures) (c .enum-told2 .given .1)
@@ -82,11 +81,10 @@ same-length-2 c = search needs
 
 returns-6 : tie.Need-returns-6
 returns-6 c =
-    let before = c .before .before .before .before .before .before .before .before .before .before .before in
+    let k = c .before .before .before .before .before .before .before .before .before .before .before in
     let read-templates = c .before .before .before .before .before .before .before .before .before .read-templates in
     let past = c .before .before .before .before .before .past in
     let nothing-more = c .before .before .before .nothing-more in
-    let k = before in
     more-stop _ _ (k .before .before .before .before .before .before .if1 .left)
     (field-read _ _ _ (k .before .before .before .before .before .read-field .ensures) (k .before .before .before .count .given .1)) (k .before .if2 .left)
     (k .if3 .left) (read-templates .ensures) (past .given .1) (nothing-more .ensures) (c .before .place .given .1)
@@ -96,9 +94,8 @@ same-length-3 c = search needs
 
 returns-7 : tie.Need-returns-7
 returns-7 c =
-    let before = c .before .before .before .before .before .before .before in
+    let k = c .before .before .before .before .before .before .before in
     let read-templates = c .before .before .before .before .before .read-templates in
-    let k = before in
     templates-stop _ _ (k .before .before .before .before .before .before .if1 .left)
     (field-read _ _ _ (k .before .before .before .before .before .read-field .ensures) (k .before .before .before .count .given .1)) (k .before .if2 .left)
     (k .if3 .left) (read-templates .ensures) (c .before .no .given .1)

@@ -27,8 +27,7 @@ returns-2 : tie.Need-returns-2
 unfolding fetchedAs Places
 returns-2 c =
     let pre = c .before .before .before .before .before .before .pre in
-    let args = c .before .before .before .before .before .before .args in
-    let p = args in (
+    let p = c .before .before .before .before .before .before .args in (
       λ table t. fetch-absent _ table t _ (p .len) _ (pre .0) (c .before .before .if2 .left)
           (eqb-true _ 0 (sym (c .before .is-first .ensures) ∙ c .if3 .taken)),
       tt,
@@ -38,8 +37,7 @@ returns-3 : tie.Need-returns-3
 unfolding fetchedAs Places
 returns-3 c =
     let pre = c .before .before .before .before .before .before .pre in
-    let args = c .before .before .before .before .before .before .args in
-    let p = args in (
+    let p = c .before .before .before .before .before .before .args in (
       λ table t. fetch-past-absent _ table t _ (p .len) _ (pre .0) (c .before .before .if2 .left)
           (eqb-false _ 0 (sym (c .before .is-first .ensures) ∙ c .if3 .left)),
       tt,
@@ -62,10 +60,9 @@ fetch-known-requires c κs = search needs
 
 returns-4 : tie.Need-returns-4
 returns-4 c =
-    let before = c .before .before .before .before .before .before in
+    let p = c .before .before .before .before .before .before in
     let left = c .before .before .before .before .left in
     let if1 = c .before .before .before .if1 in
-    let p = before in
     let e = left .ensures in
     let i = c .before .before .index .ensures in
     let some = if1 .left in (

@@ -32,9 +32,8 @@ fetch-whole-requires c κs =
 
 returns-2 : tie.Need-returns-2
 returns-2 c =
-    let before = c .before .before .before .before .before in
-    let operand-count = c .before .before .before .operand-count in
-    let p = before in (
+    let p = c .before .before .before .before .before in
+    let operand-count = c .before .before .before .operand-count in (
       λ slot. op-whole _ _ _ (p .pre .0) slot _ _ _ (operand-count .ensures) _ _ (omega (arith, c .before .before .if1 .left)) (c .before .past .ensures)
           (c .fetch-whole .ensures .0 slot),
       c .fetch-whole .ensures .1,

@@ -8,7 +8,9 @@ slice-aggregate-run-file : tie.Need-slice-aggregate-run-file
 slice-aggregate-run-file c = search needs
 
 run-file-requires : tie.Need-run-file-requires
-run-file-requires c κs = let p = c .before .before .before .before .before .before .before .before .before .before .pre in (p .0, record { size = 1024; room = p .1; zero = refl })
+run-file-requires c κs =
+    let p = c .before .before .before .before .before .before .before .before .before .before .pre in
+    (p .0, record { size = 1024; room = p .1; zero = refl })
 
 same-length : tie.Need-same-length
 same-length c = search needs

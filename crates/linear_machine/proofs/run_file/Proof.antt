@@ -13,7 +13,11 @@ enum-told : tie.Need-enum-told
 enum-told c = search needs
 
 run-read-requires : tie.Need-run-read-requires
-run-read-requires c κs = (c .before .before .before .before .before .before .before .before .before .before .before .before .before .before .before .before .before .pre .0, file-within _ _ _ _ (c .before .before .before .before .before .before .before .before .before .read-linear .ensures .0) (c .before .before .before .before .before .before .before .before .before .before .before .before .before .before .before .before .before .pre .1) (c .before .before .before .before .before .before .before .before .before .read-linear .ensures .1) _ (c .before .before .before .before .before .enum-told .given .1))
+run-read-requires c κs =
+    let pre = c .before .before .before .before .before .before .before .before .before .before .before .before .before .before .before .before .before .pre in
+    let read-linear = c .before .before .before .before .before .before .before .before .before .read-linear in
+    let enum-told = c .before .before .before .before .before .enum-told in
+    (pre .0, file-within _ _ _ _ (read-linear .ensures .0) (pre .1) (read-linear .ensures .1) _ (enum-told .given .1))
 
 enum-known-no : tie.Need-enum-known-no
 enum-known-no c = search needs
@@ -40,13 +44,26 @@ same-length-5 : tie.Need-same-length-5
 same-length-5 c = search needs
 
 returns : tie.Need-returns
-returns c = file-ran _ _ _ _ (c .before .before .before .before .before .before .before .before .before .before .before .before .before .before .before .before .before .before .read-linear .ensures .0) (c .before .before .before .before .before .before .before .before .before .before .before .before .before .before .before .before .before .before .before .before .before .before .before .before .before .before .pre .1) (c .before .before .before .before .before .before .before .before .before .before .before .before .before .before .before .before .before .before .read-linear .ensures .1) _ (c .before .before .before .before .before .before .before .before .before .before .before .before .before .before .enum-told .given .1) _ _ _ _ (λ i. omega (arith, c .before .before .before .before .before .before .before .before .before .before .before .before .before .before .before .before .before .before .before .before .before .before .before .before .before .shared-slice-known .given i)) (c .before .before .before .before .before .before .before .before .run-read .ensures)
+returns c =
+    let pre = c .before .before .before .before .before .before .before .before .before .before .before .before .before .before .before .before .before
+    .before .before .before .before .before .before .before .before .before .pre in
+    let shared-slice-known = c .before .before .before .before .before .before .before .before .before .before .before .before .before .before .before
+    .before .before .before .before .before .before .before .before .before .before .shared-slice-known in
+    let read-linear = c .before .before .before .before .before .before .before .before .before .before .before .before .before .before .before .before
+    .before .before .read-linear in
+    let enum-told = c .before .before .before .before .before .before .before .before .before .before .before .before .before .before .enum-told in
+    let run-read = c .before .before .before .before .before .before .before .before .run-read in
+    file-ran _ _ _ _ (read-linear .ensures .0) (pre .1) (read-linear .ensures .1) _ (enum-told .given .1) _ _ _ _
+    (λ i. omega (arith, shared-slice-known .given i)) (run-read .ensures)
 
 same-length-6 : tie.Need-same-length-6
 same-length-6 c = search needs
 
 returns-2 : tie.Need-returns-2
-returns-2 c = file-refused _ _ _ _ _ _ _ _ (c .before .before .before .before .before .before .before .read-linear .ensures .0) (c .before .before .before .no .given .1) (rw (c .before .number .ensures) at (c .refused .ensures))
+returns-2 c =
+    let read-linear = c .before .before .before .before .before .before .before .read-linear in
+    let no = c .before .before .before .no in
+    file-refused _ _ _ _ _ _ _ _ (read-linear .ensures .0) (no .given .1) (rw (c .before .number .ensures) at (c .refused .ensures))
 
 pub run-file-spec : {M : Type 1} → statement M
 run-file-spec =

@@ -17,7 +17,10 @@ owner-of-requires : tie.Need-owner-of-requires
 owner-of-requires c κs = search needs
 
 run-rows-requires : tie.Need-run-rows-requires
-run-rows-requires c κs = (may-start _ _ _ _ _ (c .before .before .before .before .before .before .before .start-refusal .ensures) (c .before .before .before .before .before .enum-told .given .1), λ h. absurd (omega arith))
+run-rows-requires c κs =
+    let start-refusal = c .before .before .before .before .before .before .before .start-refusal in
+    let enum-told = c .before .before .before .before .before .enum-told in
+    (may-start _ _ _ _ _ (start-refusal .ensures) (enum-told .given .1), λ h. absurd (omega arith))
 
 enum-known-number : tie.Need-enum-known-number
 enum-known-number c = search needs
@@ -39,8 +42,15 @@ same-length-4 c = search needs
 
 returns : tie.Need-returns
 unfolding linearRun
-returns c = start-goes _ _ _ _ _ (c .before .before .before .before .before .before .before .before .before .before .before .before .before .before .before .before .start-refusal .ensures) _ _ (c .before .before .before .before .before .before .before .before .before .before .before .before .before .before .enum-told .given .1)
-    (file-owned _ (c .before .before .before .before .before .before .before .before .before .before .before .before .before .before .before .before .before .before .before .before .before .before .before .before .before .before .args .owner) _ _ _ _ (c .before .before .before .before .before .before .before .before .before .before .before .before .before .owner-of .ensures) (c .before .before .before .before .before .before .before .before .run-rows .ensures))
+returns c =
+    let args = c .before .before .before .before .before .before .before .before .before .before .before .before .before .before .before .before .before
+    .before .before .before .before .before .before .before .before .before .args in
+    let start-refusal = c .before .before .before .before .before .before .before .before .before .before .before .before .before .before .before .before
+    .start-refusal in
+    let enum-told = c .before .before .before .before .before .before .before .before .before .before .before .before .before .before .enum-told in
+    let owner-of = c .before .before .before .before .before .before .before .before .before .before .before .before .before .owner-of in
+    let run-rows = c .before .before .before .before .before .before .before .before .run-rows in
+    start-goes _ _ _ _ _ (start-refusal .ensures) _ _ (enum-told .given .1) (file-owned _ (args .owner) _ _ _ _ (owner-of .ensures) (run-rows .ensures))
 
 same-length-5 : tie.Need-same-length-5
 same-length-5 c = search needs
@@ -56,7 +66,9 @@ same-length-8 c = search needs
 
 returns-2 : tie.Need-returns-2
 unfolding linearRun
-returns-2 c = start-refused _ _ _ _ _ (c .before .before .before .before .start-refusal .ensures) _ _ _ _ (c .before .before .number .given .1) (c .refused .ensures)
+returns-2 c =
+    let start-refusal = c .before .before .before .before .start-refusal in
+    start-refused _ _ _ _ _ (start-refusal .ensures) _ _ _ _ (c .before .before .number .given .1) (c .refused .ensures)
 
 pub run-linear-spec : {M : Type 1} → statement M
 run-linear-spec =

@@ -10,7 +10,9 @@ slice-aggregate-run-code c = search needs
 
 run-code-requires : tie.Need-run-code-requires
 unfolding formOf CodeReady
-run-code-requires c κs = let p = c .before .before .before .before .before .before .before .before .before .before .before .pre in (p .1, search needs, search needs, search needs, search needs)
+run-code-requires c κs =
+    let p = c .before .before .before .before .before .before .before .before .before .before .before .pre in
+    (p .1, search needs, search needs, search needs, search needs)
 
 same-length : tie.Need-same-length
 same-length c = search needs

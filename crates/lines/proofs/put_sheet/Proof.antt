@@ -50,9 +50,8 @@ same-length c = search needs
 returns : tie.Need-returns
 returns c =
     let pre = c .before .before .before .before .before .before .before .before .before .before .before .before .before .pre in
-    let flatten = c .before .before .before .before .before .before .before .before .before .flatten in
+    let f = c .before .before .before .before .before .before .before .before .before .flatten in
     let n = c .before .before .before .before .before .before .n in
-    let f = flatten in
     (rw (accepted-lines _ (pre .1) _ (sym (n .given .1) ∙ f .ensures .0) _ _ (f .ensures .1)) (c .before .before .put-accepted .ensures .0), omega arith)
 
 same-length-2 : tie.Need-same-length-2

@@ -74,27 +74,65 @@ link-arms-set-link-requires : (t : ℕ) → link-arms-lts.Need-set-link-requires
 link-arms-set-link-requires t c κs = omega (arith, c .before .before .before .pre .1 .0, arms-room (c .before .before .before .pre .1 .1))
 
 link-arms-past-requires : (t : ℕ) → link-arms-lts.Need-past-requires (link-arms-calls t) (link-arms-at t) link-arms.Post
-link-arms-past-requires t c κs = omega (arith, c .before .before .before .before .before .before .before .pre .1 .0, arms-room (c .before .before .before .before .before .before .before .pre .1 .1))
+link-arms-past-requires t c κs =
+    let pre = c .before .before .before .before .before .before .before .pre in
+    omega (arith, pre .1 .0, arms-room (pre .1 .1))
 
 link-arms-back-requires : (t : ℕ) → link-arms-lts.Need-back-requires (link-arms-calls t) (link-arms-at t) link-arms.Post
-link-arms-back-requires t c κs = omega (arith, c .before .before .before .before .before .before .before .before .pre .1 .0, arms-room (c .before .before .before .before .before .before .before .before .pre .1 .1))
+link-arms-back-requires t c κs =
+    let pre = c .before .before .before .before .before .before .before .before .pre in
+    omega (arith, pre .1 .0, arms-room (pre .1 .1))
 
 link-arms-link-list-requires : (t : ℕ) → link-arms-lts.Need-link-list-requires (link-arms-calls t) (link-arms-at t) link-arms.Post
-link-arms-link-list-requires t c κs = let k = c .before .before .before .before .before .before .before .before .before .pre .1 in (omega arith, (k .0, omega (arith, k .0, arms-room (c .before .before .before .before .before .before .before .before .before .pre .1 .1), c .back .ensures), omega (arith, k .0, arms-room (c .before .before .before .before .before .before .before .before .before .pre .1 .1)), first-to-link (k .1) (c .before .past .ensures) (c .before .before .before .before .before .set-link .ensures)))
+link-arms-link-list-requires t c κs =
+    let pre = c .before .before .before .before .before .before .before .before .before .pre in
+    let set-link = c .before .before .before .before .before .set-link in
+    let k = pre .1 in (
+      omega arith,
+      (
+        k .0,
+        omega (arith, k .0, arms-room (pre .1 .1), c .back .ensures),
+        omega (arith, k .0, arms-room (pre .1 .1)),
+        first-to-link (k .1) (c .before .past .ensures) (set-link .ensures),
+      ),
+    )
 
 link-arms-back-requires-2 : (t : ℕ) → link-arms-lts.Need-back-requires-2 (link-arms-calls t) (link-arms-at t) link-arms.Post
-link-arms-back-requires-2 t c κs = omega (arith, c .before .before .before .before .before .before .before .before .before .before .before .before .before .pre .1 .0, arms-room (c .before .before .before .before .before .before .before .before .before .before .before .before .before .pre .1 .1))
+link-arms-back-requires-2 t c κs =
+    let pre = c .before .before .before .before .before .before .before .before .before .before .before .before .before .pre in
+    omega (arith, pre .1 .0, arms-room (pre .1 .1))
 
 link-arms-link-list-requires-2 : (t : ℕ) → link-arms-lts.Need-link-list-requires-2 (link-arms-calls t) (link-arms-at t) link-arms.Post
-link-arms-link-list-requires-2 t c κs = let k = c .before .before .before .before .before .before .before .before .before .before .before .before .before .before .pre .1 in (omega arith, (k .0, omega (arith, k .0, arms-room (c .before .before .before .before .before .before .before .before .before .before .before .before .before .before .pre .1 .1), c .back2 .ensures), omega (arith, k .0, arms-room (c .before .before .before .before .before .before .before .before .before .before .before .before .before .before .pre .1 .1)), second-to-link (k .1) (c .before .before .before .before .before .before .past .ensures) (c .before .before .before .before .before .before .before .before .before .before .set-link .ensures) _ (c .before .before .before .before .link-list .ensures)))
+link-arms-link-list-requires-2 t c κs =
+    let pre = c .before .before .before .before .before .before .before .before .before .before .before .before .before .before .pre in
+    let set-link = c .before .before .before .before .before .before .before .before .before .before .set-link in
+    let past = c .before .before .before .before .before .before .past in
+    let link-list′ = c .before .before .before .before .link-list in
+    let k = pre .1 in (
+      omega arith,
+      (
+        k .0,
+        omega (arith, k .0, arms-room (pre .1 .1), c .back2 .ensures),
+        omega (arith, k .0, arms-room (pre .1 .1)),
+        second-to-link (k .1) (past .ensures) (set-link .ensures) _ (link-list′ .ensures),
+      ),
+    )
 
 link-arms-same-length : (t : ℕ) → link-arms-lts.Need-same-length (link-arms-calls t) (link-arms-at t) link-arms.Post
 link-arms-same-length t c = search needs
 
 link-arms-returns : (t : ℕ) → link-arms-lts.Need-returns (link-arms-calls t) (link-arms-at t) link-arms.Post
 link-arms-returns t c =
-    let a = c .before .before .before .before .before .before .before .before .before .before .before .before .before .before .before .before .before .args in
-    arms-linked _ _ _ _ _ _ (a .at .0) (a .second .0) (a .past .0) (c .before .before .before .before .before .before .before .before .before .past .ensures) (c .before .before .before .before .before .before .before .before .back .ensures) (c .before .before .before .back2 .ensures) (c .before .before .before .before .before .before .before .before .before .before .before .before .before .set-link .ensures) (c .before .before .before .before .before .before .before .link-list .ensures) (c .before .before .link-list2 .ensures)
+    let args = c .before .before .before .before .before .before .before .before .before .before .before .before .before .before .before .before .before
+    .args in
+    let set-link = c .before .before .before .before .before .before .before .before .before .before .before .before .before .set-link in
+    let past = c .before .before .before .before .before .before .before .before .before .past in
+    let back = c .before .before .before .before .before .before .before .before .back in
+    let link-list′ = c .before .before .before .before .before .before .before .link-list in
+    let back2 = c .before .before .before .back2 in
+    let a = args in
+    arms-linked _ _ _ _ _ _ (a .at .0) (a .second .0) (a .past .0) (past .ensures) (back .ensures) (back2 .ensures) (set-link .ensures) (link-list′ .ensures)
+    (c .before .before .link-list2 .ensures)
 
 abbrev link-list-Inv-loop : link-list-lts.InvT-loop
 link-list-Inv-loop s links₀ end follow levels here₀ links here =
@@ -106,27 +144,34 @@ abbrev link-list-μ-loop : link-list-lts.MeasureT-loop
 link-list-μ-loop s links₀ end follow levels here₀ links here = 8 * length s - here .0
 
 -- what is left to do, by what stands here
-at-turn : (t : ℕ) (k : link-list-lts.After-parts-at (link-list-calls t) (link-list-at t) link-list.Post link-list-Inv-loop link-list-μ-loop) (x : Parts) → k .parts-at .result ≡ x
+at-turn : (t : ℕ) (k : link-list-lts.After-parts-at (link-list-calls t) (link-list-at t) link-list.Post link-list-Inv-loop link-list-μ-loop) (x : Parts) →
+    k .parts-at .result ≡ x
     → Outcome (k .before .before .before .before .before .args .s .now) (k .before .before .before .before .before .args .levels) (k .before .before .loop .here .0) (k .before .before .loop .links) (k .before .before .before .before .before .args .end .0) (k .before .before .before .before .before .args .follow .0) x
 at-turn t k x e = outcome _ _ _ (k .before .before .loop .inv .1) _ _ x (sym (k .parts-at .ensures _ (k .before .before .loop .inv .1)) ∙ e)
 
 link-list-loop-holds : (t : ℕ) → link-list-lts.Need-loop-holds (link-list-calls t) (link-list-at t) link-list.Post link-list-Inv-loop link-list-μ-loop
 link-list-loop-holds t c = (refl, c .before .before .pre .1 .3, refl)
 
-link-list-parts-at-requires : (t : ℕ) → link-list-lts.Need-parts-at-requires (link-list-calls t) (link-list-at t) link-list.Post link-list-Inv-loop link-list-μ-loop
+link-list-parts-at-requires : (t : ℕ) → link-list-lts.Need-parts-at-requires (link-list-calls t) (link-list-at t) link-list.Post link-list-Inv-loop
+    link-list-μ-loop
 link-list-parts-at-requires t c κs = (c .before .before .before .before .pre .1 .0, here-within (c .before .loop .inv .1))
 
 link-list-enum-told : (t : ℕ) → link-list-lts.Need-enum-told (link-list-calls t) (link-list-at t) link-list.Post link-list-Inv-loop link-list-μ-loop
 link-list-enum-told t c = search needs
 
-link-list-set-link-requires : (t : ℕ) → link-list-lts.Need-set-link-requires (link-list-calls t) (link-list-at t) link-list.Post link-list-Inv-loop link-list-μ-loop
+link-list-set-link-requires : (t : ℕ) → link-list-lts.Need-set-link-requires (link-list-calls t) (link-list-at t) link-list.Post link-list-Inv-loop
+    link-list-μ-loop
 link-list-set-link-requires t c κs = search needs
 
 link-list-same-length : (t : ℕ) → link-list-lts.Need-same-length (link-list-calls t) (link-list-at t) link-list.Post link-list-Inv-loop link-list-μ-loop
 link-list-same-length t c = search needs
 
 link-list-returns : (t : ℕ) → link-list-lts.Need-returns (link-list-calls t) (link-list-at t) link-list.Post link-list-Inv-loop link-list-μ-loop
-link-list-returns t c = c .before .before .set-link .ensures ∙ sym (c .before .before .before .before .before .before .before .before .loop .inv .0 ∙ at-turn t (c .before .before .before .before .before .before) _ (c .before .before .before .before .enum-told .given .1))
+link-list-returns t c =
+    let loop = c .before .before .before .before .before .before .before .before .loop in
+    let before = c .before .before .before .before .before .before in
+    let enum-told = c .before .before .before .before .enum-told in
+    c .before .before .set-link .ensures ∙ sym (loop .inv .0 ∙ at-turn t (before) _ (enum-told .given .1))
 
 link-list-enum-known-past : (t : ℕ) → link-list-lts.Need-enum-known-past (link-list-calls t) (link-list-at t) link-list.Post link-list-Inv-loop link-list-μ-loop
 link-list-enum-known-past t c = search needs
@@ -135,37 +180,75 @@ link-list-loop-less : (t : ℕ) → link-list-lts.Need-loop-less (link-list-call
 link-list-loop-less t c = let w = at-turn t (c .before .before .before) _ (c .before .past .given .1) in omega arith
 
 link-list-loop-again : (t : ℕ) → link-list-lts.Need-loop-again (link-list-calls t) (link-list-at t) link-list.Post link-list-Inv-loop link-list-μ-loop
-link-list-loop-again t c = let w = at-turn t (c .before .before .before) _ (c .before .past .given .1) in (c .before .before .before .before .before .loop .inv .0 ∙ w .links, w .rest, c .before .before .before .before .before .loop .inv .2)
+link-list-loop-again t c =
+    let loop = c .before .before .before .before .before .loop in
+    let w = at-turn t (c .before .before .before) _ (c .before .past .given .1) in
+    (loop .inv .0 ∙ w .links, w .rest, loop .inv .2)
 
-link-list-enum-known-second : (t : ℕ) → link-list-lts.Need-enum-known-second (link-list-calls t) (link-list-at t) link-list.Post link-list-Inv-loop link-list-μ-loop
+link-list-enum-known-second : (t : ℕ) → link-list-lts.Need-enum-known-second (link-list-calls t) (link-list-at t) link-list.Post link-list-Inv-loop
+    link-list-μ-loop
 link-list-enum-known-second t c = search needs
 
 link-list-sub-link-arms : (t : ℕ) → link-list-lts.Need-sub-link-arms (link-list-calls t) (link-list-at t) link-list.Post link-list-Inv-loop link-list-μ-loop
 link-list-sub-link-arms t c = let w = at-turn t (c .before .before .before .before) _ (c .before .before .second .given .1) in omega (arith, w .levels-left)
 
-link-list-link-arms-requires : (t : ℕ) → link-list-lts.Need-link-arms-requires (link-list-calls t) (link-list-at t) link-list.Post link-list-Inv-loop link-list-μ-loop
-link-list-link-arms-requires t c κs = let w = at-turn t (c .before .before .before .before) _ (c .before .before .second .given .1) in (omega (arith, w .levels-left), (c .before .before .before .before .before .before .before .before .before .pre .1 .0, w .arms))
+link-list-link-arms-requires : (t : ℕ) → link-list-lts.Need-link-arms-requires (link-list-calls t) (link-list-at t) link-list.Post link-list-Inv-loop
+    link-list-μ-loop
+link-list-link-arms-requires t c κs =
+    let pre = c .before .before .before .before .before .before .before .before .before .pre in
+    let before = c .before .before .before .before in
+    let w = at-turn t (before) _ (c .before .before .second .given .1) in
+    (omega (arith, w .levels-left), (pre .1 .0, w .arms))
 
 link-list-loop-less-2 : (t : ℕ) → link-list-lts.Need-loop-less-2 (link-list-calls t) (link-list-at t) link-list.Post link-list-Inv-loop link-list-μ-loop
-link-list-loop-less-2 t c = let w = at-turn t (c .before .before .before .before .before .before .before) _ (c .before .before .before .before .before .second .given .1) in omega arith
+link-list-loop-less-2 t c =
+    let before = c .before .before .before .before .before .before .before in
+    let second = c .before .before .before .before .before .second in
+    let w = at-turn t (before) _ (second .given .1) in
+    omega arith
 
 link-list-loop-again-2 : (t : ℕ) → link-list-lts.Need-loop-again-2 (link-list-calls t) (link-list-at t) link-list.Post link-list-Inv-loop link-list-μ-loop
-link-list-loop-again-2 t c = let w = at-turn t (c .before .before .before .before .before .before .before) _ (c .before .before .before .before .before .second .given .1) in (linked-on _ _ _ _ (c .before .before .before .before .before .before .before .before .before .loop .inv .0 ∙ w .left .links) (c .before .before .link-arms .ensures), rw (c .before .before .link-arms .ensures) (w .left .rest), c .before .before .link-arms .kept .1 .0 ∙ c .before .before .before .before .before .before .before .before .before .loop .inv .2)
+link-list-loop-again-2 t c =
+    let loop = c .before .before .before .before .before .before .before .before .before .loop in
+    let before = c .before .before .before .before .before .before .before in
+    let second = c .before .before .before .before .before .second in
+    let link-arms′ = c .before .before .link-arms in
+    let w = at-turn t (before) _ (second .given .1) in
+    (linked-on _ _ _ _ (loop .inv .0 ∙ w .left .links) (link-arms′ .ensures), rw (link-arms′ .ensures) (w .left .rest), link-arms′ .kept .1 .0 ∙ loop .inv .2)
 
-link-list-enum-known-past-2 : (t : ℕ) → link-list-lts.Need-enum-known-past-2 (link-list-calls t) (link-list-at t) link-list.Post link-list-Inv-loop link-list-μ-loop
+link-list-enum-known-past-2 : (t : ℕ) → link-list-lts.Need-enum-known-past-2 (link-list-calls t) (link-list-at t) link-list.Post link-list-Inv-loop
+    link-list-μ-loop
 link-list-enum-known-past-2 t c = search needs
 
 link-list-sub-link-saved : (t : ℕ) → link-list-lts.Need-sub-link-saved (link-list-calls t) (link-list-at t) link-list.Post link-list-Inv-loop link-list-μ-loop
 link-list-sub-link-saved t c = let w = at-turn t (c .before .before .before .before) _ (c .before .before .past2 .given .1) in omega (arith, w .levels-left)
 
-link-list-link-saved-requires : (t : ℕ) → link-list-lts.Need-link-saved-requires (link-list-calls t) (link-list-at t) link-list.Post link-list-Inv-loop link-list-μ-loop
-link-list-link-saved-requires t c κs = let w = at-turn t (c .before .before .before .before) _ (c .before .before .past2 .given .1) in (omega (arith, w .levels-left), (c .before .before .before .before .before .before .before .before .before .pre .1 .0, c .before .before .before .before .before .before .before .before .before .pre .1 .1, w .saved))
+link-list-link-saved-requires : (t : ℕ) → link-list-lts.Need-link-saved-requires (link-list-calls t) (link-list-at t) link-list.Post link-list-Inv-loop
+    link-list-μ-loop
+link-list-link-saved-requires t c κs =
+    let pre = c .before .before .before .before .before .before .before .before .before .pre in
+    let before = c .before .before .before .before in
+    let w = at-turn t (before) _ (c .before .before .past2 .given .1) in
+    (omega (arith, w .levels-left), (pre .1 .0, pre .1 .1, w .saved))
 
 link-list-loop-less-3 : (t : ℕ) → link-list-lts.Need-loop-less-3 (link-list-calls t) (link-list-at t) link-list.Post link-list-Inv-loop link-list-μ-loop
-link-list-loop-less-3 t c = let w = at-turn t (c .before .before .before .before .before .before .before) _ (c .before .before .before .before .before .past2 .given .1) in omega arith
+link-list-loop-less-3 t c =
+    let before = c .before .before .before .before .before .before .before in
+    let past2 = c .before .before .before .before .before .past2 in
+    let w = at-turn t (before) _ (past2 .given .1) in
+    omega arith
 
 link-list-loop-again-3 : (t : ℕ) → link-list-lts.Need-loop-again-3 (link-list-calls t) (link-list-at t) link-list.Post link-list-Inv-loop link-list-μ-loop
-link-list-loop-again-3 t c = let w = at-turn t (c .before .before .before .before .before .before .before) _ (c .before .before .before .before .before .past2 .given .1) in (linked-on _ _ _ _ (c .before .before .before .before .before .before .before .before .before .loop .inv .0 ∙ w .left .links) (c .before .before .link-saved .ensures), rw (c .before .before .link-saved .ensures) (w .left .rest), c .before .before .link-saved .kept .1 .0 ∙ c .before .before .before .before .before .before .before .before .before .loop .inv .2)
+link-list-loop-again-3 t c =
+    let loop = c .before .before .before .before .before .before .before .before .before .loop in
+    let before = c .before .before .before .before .before .before .before in
+    let past2 = c .before .before .before .before .before .past2 in
+    let link-saved′ = c .before .before .link-saved in
+    let w = at-turn t (before) _ (past2 .given .1) in (
+      linked-on _ _ _ _ (loop .inv .0 ∙ w .left .links) (link-saved′ .ensures),
+      rw (link-saved′ .ensures) (w .left .rest),
+      link-saved′ .kept .1 .0 ∙ loop .inv .2,
+    )
 
 link-list-enum-told-2 : (t : ℕ) → link-list-lts.Need-enum-told-2 (link-list-calls t) (link-list-at t) link-list.Post link-list-Inv-loop link-list-μ-loop
 link-list-enum-told-2 t c = search needs
@@ -180,13 +263,28 @@ link-saved-set-link-requires : (t : ℕ) → link-saved-lts.Need-set-link-requir
 link-saved-set-link-requires t c κs = omega (arith, c .before .before .before .pre .1 .0, saved-room (c .before .before .before .pre .1 .2))
 
 link-saved-past-requires : (t : ℕ) → link-saved-lts.Need-past-requires (link-saved-calls t) (link-saved-at t) link-saved.Post
-link-saved-past-requires t c κs = omega (arith, c .before .before .before .before .before .before .before .pre .1 .0, saved-room (c .before .before .before .before .before .before .before .pre .1 .2))
+link-saved-past-requires t c κs =
+    let pre = c .before .before .before .before .before .before .before .pre in
+    omega (arith, pre .1 .0, saved-room (pre .1 .2))
 
 link-saved-back-requires : (t : ℕ) → link-saved-lts.Need-back-requires (link-saved-calls t) (link-saved-at t) link-saved.Post
-link-saved-back-requires t c κs = omega (arith, c .before .before .before .before .before .before .before .before .pre .1 .0, saved-room (c .before .before .before .before .before .before .before .before .pre .1 .2))
+link-saved-back-requires t c κs =
+    let pre = c .before .before .before .before .before .before .before .before .pre in
+    omega (arith, pre .1 .0, saved-room (pre .1 .2))
 
 link-saved-link-list-requires : (t : ℕ) → link-saved-lts.Need-link-list-requires (link-saved-calls t) (link-saved-at t) link-saved.Post
-link-saved-link-list-requires t c κs = let k = c .before .before .before .before .before .before .before .before .before .pre .1 in (omega arith, (k .0, omega (arith, k .0, saved-room (c .before .before .before .before .before .before .before .before .before .pre .1 .2), c .back .ensures), k .1, saved-to-link (k .2) (c .before .past .ensures) (c .before .before .before .before .before .set-link .ensures)))
+link-saved-link-list-requires t c κs =
+    let pre = c .before .before .before .before .before .before .before .before .before .pre in
+    let set-link = c .before .before .before .before .before .set-link in
+    let k = pre .1 in (
+      omega arith,
+      (
+        k .0,
+        omega (arith, k .0, saved-room (pre .1 .2), c .back .ensures),
+        k .1,
+        saved-to-link (k .2) (c .before .past .ensures) (set-link .ensures),
+      ),
+    )
 
 link-saved-same-length : (t : ℕ) → link-saved-lts.Need-same-length (link-saved-calls t) (link-saved-at t) link-saved.Post
 link-saved-same-length t c = search needs
@@ -194,7 +292,10 @@ link-saved-same-length t c = search needs
 link-saved-returns : (t : ℕ) → link-saved-lts.Need-returns (link-saved-calls t) (link-saved-at t) link-saved.Post
 link-saved-returns t c =
     let a = c .before .before .before .before .before .before .before .before .before .before .before .before .args in
-    saved-linked _ _ _ _ _ (a .at .0) _ (a .past .0) (c .before .before .before .before .past .ensures) (c .before .before .before .back .ensures) (c .before .before .before .before .before .before .before .before .set-link .ensures) (c .before .before .link-list .ensures)
+    let set-link = c .before .before .before .before .before .before .before .before .set-link in
+    let past = c .before .before .before .before .past in
+    let back = c .before .before .before .back in
+    saved-linked _ _ _ _ _ (a .at .0) _ (a .past .0) (past .ensures) (back .ensures) (set-link .ensures) (c .before .before .link-list .ensures)
 
 pub +link-arms+link-list+link-saved-spec : {M : Type 1} → statement M
 +link-arms+link-list+link-saved-spec =

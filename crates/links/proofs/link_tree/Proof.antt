@@ -31,13 +31,20 @@ mul-from-slot-2 : tie.Need-mul-from-slot-2 Inv-loop μ-loop
 mul-from-slot-2 c = omega (arith, at-most-64 (c .before .before .before .before .before .pre .0))
 
 shared-slice-read-from-slot : tie.Need-shared-slice-read-from-slot Inv-loop μ-loop
-shared-slice-read-from-slot c = omega (arith, at-most-64 (c .before .before .before .before .before .before .pre .0), c .before .before .before .before .before .before .pre .1)
+shared-slice-read-from-slot c =
+    let pre = c .before .before .before .before .before .before .pre in
+    omega (arith, at-most-64 (pre .0), pre .1)
 
 from-slot-requires : tie.Need-from-slot-requires Inv-loop μ-loop
 from-slot-requires c κs = search needs
 
 link-list-requires : tie.Need-link-list-requires Inv-loop μ-loop
-link-list-requires c κs = let r = c .before .before .before .before .before .before .before .before .pre .0 in (ready-short r, omega arith, omega arith, rw (c .before .from-slot .ensures) (list-to-link r (c .before .before .before .before .loop .own) (c .before .before .before .loop-test .taken) _ (c .before .before .before .before .loop .inv .3 _ _ (r .read))))
+link-list-requires c κs =
+    let pre = c .before .before .before .before .before .before .before .before .pre in
+    let loop = c .before .before .before .before .loop in
+    let loop-test = c .before .before .before .loop-test in
+    let r = pre .0 in
+    (ready-short r, omega arith, omega arith, rw (c .before .from-slot .ensures) (list-to-link r (loop .own) (loop-test .taken) _ (loop .inv .3 _ _ (r .read))))
 
 add-own : tie.Need-add-own Inv-loop μ-loop
 add-own c = search needs
@@ -46,7 +53,18 @@ loop-less : tie.Need-loop-less Inv-loop μ-loop
 loop-less c = search needs
 
 loop-again : tie.Need-loop-again Inv-loop μ-loop
-loop-again c = (linked-on _ _ (c .before .before .before .before .before .before .before .loop .inv .0 ∙ template-linked (c .before .before .before .before .before .before .before .before .before .before .before .pre .0) _ (c .before .before .before .before .before .before .loop-test .taken) _) (rw (c .before .before .before .before .from-slot .ensures) at (c .before .before .link-list .ensures)), omega arith, c .before .before .link-list .kept .1 .0 ∙ c .before .before .before .before .before .before .before .loop .inv .2, templates-same (c .before .before .before .before .before .before .before .before .before .before .before .pre .0) _ _ (next-has (c .before .before .before .before .before .before .before .before .before .before .before .pre .0) (c .before .before .before .before .before .before .before .loop .own) (c .before .before .before .before .before .before .loop-test .taken) _ (c .before .before .before .before .before .before .before .loop .inv .3 _ _ (c .before .before .before .before .before .before .before .before .before .before .before .pre .0 .read)) (rw (c .before .before .before .before .from-slot .ensures) at (c .before .before .link-list .ensures))))
+loop-again c =
+    let pre = c .before .before .before .before .before .before .before .before .before .before .before .pre in
+    let loop = c .before .before .before .before .before .before .before .loop in
+    let loop-test = c .before .before .before .before .before .before .loop-test in
+    let from-slot = c .before .before .before .before .from-slot in
+    let link-list = c .before .before .link-list in (
+      linked-on _ _ (loop .inv .0 ∙ template-linked (pre .0) _ (loop-test .taken) _) (rw (from-slot .ensures) at (link-list .ensures)),
+      omega arith,
+      link-list .kept .1 .0 ∙ loop .inv .2,
+      templates-same (pre .0) _ _
+          (next-has (pre .0) (loop .own) (loop-test .taken) _ (loop .inv .3 _ _ (pre .0 .read)) (rw (from-slot .ensures) at (link-list .ensures))),
+    )
 
 same-length : tie.Need-same-length Inv-loop μ-loop
 same-length c = search needs

@@ -121,20 +121,30 @@ read-list-calls t = (begin-reads.Asked, begin-reads.Learnt, read-instr-below t, 
 abbrev read-make-cont-calls : ℕ → read-make-cont-lts.Claims
 read-make-cont-calls t = (read-field-reads.Asked, read-field-reads.Learnt, read-list-below t, read-list.Post, save-added-reads.Asked, save-added-reads.Learnt)
 
-read-conditional-read-list-requires : (t : ℕ) → read-conditional-lts.Need-read-list-requires (read-conditional-calls t) (read-conditional-at t) read-conditional.Post
+read-conditional-read-list-requires : (t : ℕ) → read-conditional-lts.Need-read-list-requires (read-conditional-calls t) (read-conditional-at t)
+    read-conditional.Post
 read-conditional-read-list-requires t c κs = search needs
 
 read-conditional-enum-known-mid : (t : ℕ) → read-conditional-lts.Need-enum-known-mid (read-conditional-calls t) (read-conditional-at t) read-conditional.Post
 read-conditional-enum-known-mid t c = search needs
 
-read-conditional-read-list-requires-2 : (t : ℕ) → read-conditional-lts.Need-read-list-requires-2 (read-conditional-calls t) (read-conditional-at t) read-conditional.Post
+read-conditional-read-list-requires-2 : (t : ℕ) → read-conditional-lts.Need-read-list-requires-2 (read-conditional-calls t) (read-conditional-at t)
+    read-conditional.Post
 read-conditional-read-list-requires-2 t c κs = search needs
 
 read-conditional-enum-known-last : (t : ℕ) → read-conditional-lts.Need-enum-known-last (read-conditional-calls t) (read-conditional-at t) read-conditional.Post
 read-conditional-enum-known-last t c = search needs
 
-read-conditional-conditional-added-requires : (t : ℕ) → read-conditional-lts.Need-conditional-added-requires (read-conditional-calls t) (read-conditional-at t) read-conditional.Post
-read-conditional-conditional-added-requires t c κs = (listed-size _ _ _ _ _ _ _ (c .before .before .before .before .before .before .before .before .before .before .before .before .before .before .before .before .before .pre .1 .0) (sym (c .before .before .before .before .before .before .before .before .before .before .before .before .read-list .ensures .0) ∙ c .before .before .before .before .before .before .before .before .mid .given .1), listed-size _ _ _ _ _ _ _ (c .before .before .before .before .before .before .before .before .before .before .before .before .before .before .before .before .before .pre .1 .0) (sym (c .before .before .before .before .before .read-list2 .ensures .0) ∙ c .before .last .given .1))
+read-conditional-conditional-added-requires : (t : ℕ) → read-conditional-lts.Need-conditional-added-requires (read-conditional-calls t)
+    (read-conditional-at t) read-conditional.Post
+read-conditional-conditional-added-requires t c κs =
+    let pre = c .before .before .before .before .before .before .before .before .before .before .before .before .before .before .before .before .before .pre in
+    let read-list′ = c .before .before .before .before .before .before .before .before .before .before .before .before .read-list in
+    let mid = c .before .before .before .before .before .before .before .before .mid in
+    let read-list2 = c .before .before .before .before .before .read-list2 in (
+      listed-size _ _ _ _ _ _ _ (pre .1 .0) (sym (read-list′ .ensures .0) ∙ mid .given .1),
+      listed-size _ _ _ _ _ _ _ (pre .1 .0) (sym (read-list2 .ensures .0) ∙ c .before .last .given .1),
+    )
 
 read-conditional-enum-known-no : (t : ℕ) → read-conditional-lts.Need-enum-known-no (read-conditional-calls t) (read-conditional-at t) read-conditional.Post
 read-conditional-enum-known-no t c = search needs
@@ -143,25 +153,46 @@ read-conditional-enum-known-no-2 : (t : ℕ) → read-conditional-lts.Need-enum-
 read-conditional-enum-known-no-2 t c = search needs
 
 read-conditional-same-length : (t : ℕ) → read-conditional-lts.Need-same-length (read-conditional-calls t) (read-conditional-at t) read-conditional.Post
-read-conditional-same-length t c = c .before .before .before .before .before .before .read-list2 .kept .1 .1 .1 .1 .1 .1 .0 ∙ c .before .before .before .before .before .before .before .before .before .before .before .before .before .read-list .kept .1 .1 .1 .1 .1 .1 .0
+read-conditional-same-length t c =
+    let read-list′ = c .before .before .before .before .before .before .before .before .before .before .before .before .before .read-list in
+    let read-list2 = c .before .before .before .before .before .before .read-list2 in
+    read-list2 .kept .1 .1 .1 .1 .1 .1 .0 ∙ read-list′ .kept .1 .1 .1 .1 .1 .1 .0
 
 read-conditional-returns : (t : ℕ) → read-conditional-lts.Need-returns (read-conditional-calls t) (read-conditional-at t) read-conditional.Post
 unfolding itemed addedBy
-read-conditional-returns t c = let x = listed-done _ _ _ _ _ (sym (c .before .before .before .before .before .before .before .before .before .before .before .before .before .read-list .ensures .0) ∙ c .before .before .before .before .before .before .before .before .before .mid .given .1) in let y = listed-done _ _ _ _ _ (sym (c .before .before .before .before .before .before .read-list2 .ensures .0) ∙ c .before .before .last .given .1) in (rw (conditional-read _ _ _ _ _ _ _ _ _ (x .1) (y .1), c .conditional-added .ensures, x .2, y .2) refl, arms-marked _ _ _ _ _ _ _ _ _ _ _ (x .1) (y .1) (c .before .before .before .before .before .before .before .before .before .before .before .before .before .read-list .ensures .1) (c .before .before .before .before .before .before .read-list2 .ensures .1))
+read-conditional-returns t c =
+    let read-list′ = c .before .before .before .before .before .before .before .before .before .before .before .before .before .read-list in
+    let mid = c .before .before .before .before .before .before .before .before .before .mid in
+    let read-list2 = c .before .before .before .before .before .before .read-list2 in
+    let x = listed-done _ _ _ _ _ (sym (read-list′ .ensures .0) ∙ mid .given .1) in
+    let y = listed-done _ _ _ _ _ (sym (read-list2 .ensures .0) ∙ c .before .before .last .given .1) in (
+      rw (conditional-read _ _ _ _ _ _ _ _ _ (x .1) (y .1), c .conditional-added .ensures, x .2, y .2) refl,
+      arms-marked _ _ _ _ _ _ _ _ _ _ _ (x .1) (y .1) (read-list′ .ensures .1) (read-list2 .ensures .1),
+    )
 
 read-conditional-same-length-2 : (t : ℕ) → read-conditional-lts.Need-same-length-2 (read-conditional-calls t) (read-conditional-at t) read-conditional.Post
-read-conditional-same-length-2 t c = c .before .before .before .before .before .read-list2 .kept .1 .1 .1 .1 .1 .1 .0 ∙ c .before .before .before .before .before .before .before .before .before .before .before .before .read-list .kept .1 .1 .1 .1 .1 .1 .0
+read-conditional-same-length-2 t c =
+    let read-list′ = c .before .before .before .before .before .before .before .before .before .before .before .before .read-list in
+    let read-list2 = c .before .before .before .before .before .read-list2 in
+    read-list2 .kept .1 .1 .1 .1 .1 .1 .0 ∙ read-list′ .kept .1 .1 .1 .1 .1 .1 .0
 
 read-conditional-returns-2 : (t : ℕ) → read-conditional-lts.Need-returns-2 (read-conditional-calls t) (read-conditional-at t) read-conditional.Post
 unfolding itemed headMarked
-read-conditional-returns-2 t c = let x = listed-done _ _ _ _ _ (sym (c .before .before .before .before .before .before .before .before .before .before .before .before .read-list .ensures .0) ∙ c .before .before .before .before .before .before .before .before .mid .given .1) in rw (second-arm-refused _ _ _ _ _ _ _ _ _ (x .1) (listed-refused _ _ _ _ _ (sym (c .before .before .before .before .before .read-list2 .ensures .0) ∙ c .before .no .given .1))) (refl, tt)
+read-conditional-returns-2 t c =
+    let read-list′ = c .before .before .before .before .before .before .before .before .before .before .before .before .read-list in
+    let mid = c .before .before .before .before .before .before .before .before .mid in
+    let read-list2 = c .before .before .before .before .before .read-list2 in
+    let x = listed-done _ _ _ _ _ (sym (read-list′ .ensures .0) ∙ mid .given .1) in
+    rw (second-arm-refused _ _ _ _ _ _ _ _ _ (x .1) (listed-refused _ _ _ _ _ (sym (read-list2 .ensures .0) ∙ c .before .no .given .1))) (refl, tt)
 
 read-conditional-same-length-3 : (t : ℕ) → read-conditional-lts.Need-same-length-3 (read-conditional-calls t) (read-conditional-at t) read-conditional.Post
 read-conditional-same-length-3 t c = c .before .before .before .before .before .read-list .kept .1 .1 .1 .1 .1 .1 .0
 
 read-conditional-returns-3 : (t : ℕ) → read-conditional-lts.Need-returns-3 (read-conditional-calls t) (read-conditional-at t) read-conditional.Post
 unfolding itemed headMarked
-read-conditional-returns-3 t c = rw (first-arm-refused _ _ _ _ _ _ _ (listed-refused _ _ _ _ _ (sym (c .before .before .before .before .before .read-list .ensures .0) ∙ c .before .no2 .given .1))) (refl, tt)
+read-conditional-returns-3 t c =
+    let read-list′ = c .before .before .before .before .before .read-list in
+    rw (first-arm-refused _ _ _ _ _ _ _ (listed-refused _ _ _ _ _ (sym (read-list′ .ensures .0) ∙ c .before .no2 .given .1))) (refl, tt)
 
 -- the code is read, and the instruction by its shape
 code-there : (t : ℕ) (k : read-instr-lts.After-past (read-instr-calls t) (read-instr-at t) read-instr.Post) →
@@ -247,7 +278,13 @@ read-instr-same-length : (t : ℕ) → read-instr-lts.Need-same-length (read-ins
 read-instr-same-length t c = c .before .before .read-conditional .kept .1 .1 .1 .1 .1 .1 .0
 
 read-instr-returns-5 : (t : ℕ) → read-instr-lts.Need-returns-5 (read-instr-calls t) (read-instr-at t) read-instr.Post
-read-instr-returns-5 t c = let e = at-code t (c .before .before .before .before .before .before .before .before .before) ∙ deep-anywhere _ _ _ _ _ _ (omega arith) (omega arith) (omega arith) ∙ ap (deepAt _ _ _) (c .before .before .before .before .if5 .taken) in (c .before .before .read-conditional .ensures .0 ∙ ap (itemed _ _) (sym e), code-marked _ _ _ _ _ _ _ (code-there t (c .before .before .before .before .before .before .before .before .before .before)) e (c .before .before .read-conditional .ensures .1))
+read-instr-returns-5 t c =
+    let before = c .before .before .before .before .before .before .before .before .before .before in
+    let before′ = c .before .before .before .before .before .before .before .before .before in
+    let if5 = c .before .before .before .before .if5 in
+    let read-conditional′ = c .before .before .read-conditional in
+    let e = at-code t (before′) ∙ deep-anywhere _ _ _ _ _ _ (omega arith) (omega arith) (omega arith) ∙ ap (deepAt _ _ _) (if5 .taken) in
+    (read-conditional′ .ensures .0 ∙ ap (itemed _ _) (sym e), code-marked _ _ _ _ _ _ _ (code-there t (before)) e (read-conditional′ .ensures .1))
 
 read-instr-same-length-2 : (t : ℕ) → read-instr-lts.Need-same-length-2 (read-instr-calls t) (read-instr-at t) read-instr.Post
 read-instr-same-length-2 t c = c .before .before .read-make-cont .kept .1 .1 .1 .1 .1 .1 .0
@@ -272,48 +309,96 @@ read-list-loop-holds : (t : ℕ) → read-list-lts.Need-loop-holds (read-list-ca
 unfolding begun
 read-list-loop-holds t c = rw (c .begin .ensures) (listed-begun _ _ _, omega arith, omega arith, marking-begun _ _ _ _ _, refl)
 
-read-list-read-instr-requires : (t : ℕ) → read-list-lts.Need-read-instr-requires (read-list-calls t) (read-list-at t) read-list.Post read-list-Inv-loop read-list-μ-loop
+read-list-read-instr-requires : (t : ℕ) → read-list-lts.Need-read-instr-requires (read-list-calls t) (read-list-at t) read-list.Post read-list-Inv-loop
+    read-list-μ-loop
 read-list-read-instr-requires t c κs = search needs
 
 read-list-enum-known-next : (t : ℕ) → read-list-lts.Need-enum-known-next (read-list-calls t) (read-list-at t) read-list.Post read-list-Inv-loop read-list-μ-loop
 read-list-enum-known-next t c = search needs
 
-read-list-finished-requires : (t : ℕ) → read-list-lts.Need-finished-requires (read-list-calls t) (read-list-at t) read-list.Post read-list-Inv-loop read-list-μ-loop
+read-list-finished-requires : (t : ℕ) → read-list-lts.Need-finished-requires (read-list-calls t) (read-list-at t) read-list.Post read-list-Inv-loop
+    read-list-μ-loop
 read-list-finished-requires t c κs = search needs
 
-read-list-mark-of-requires : (t : ℕ) → read-list-lts.Need-mark-of-requires (read-list-calls t) (read-list-at t) read-list.Post read-list-Inv-loop read-list-μ-loop
-read-list-mark-of-requires t c κs = let e = c .before .before .before .before .before .before .before .before .before .loop .inv .0 ∙ turn-end _ _ _ _ _ _ _ (sym (c .before .before .before .before .before .before .before .read-instr .ensures .0) ∙ c .before .before .before .next .given .1) ∙ ap (Done (c .before .before .before .next .given .0 .0)) (sym (c .before .finished .ensures)) in listed-near _ _ _ _ _ _ _ (c .before .before .before .before .before .before .before .before .before .before .before .before .before .before .pre .1 .0) e
+read-list-mark-of-requires : (t : ℕ) → read-list-lts.Need-mark-of-requires (read-list-calls t) (read-list-at t) read-list.Post read-list-Inv-loop
+    read-list-μ-loop
+read-list-mark-of-requires t c κs =
+    let pre = c .before .before .before .before .before .before .before .before .before .before .before .before .before .before .pre in
+    let loop = c .before .before .before .before .before .before .before .before .before .loop in
+    let read-instr′ = c .before .before .before .before .before .before .before .read-instr in
+    let next = c .before .before .before .next in
+    let e = loop .inv .0 ∙ turn-end _ _ _ _ _ _ _ (sym (read-instr′ .ensures .0) ∙ next .given .1) ∙ ap (Done (next .given .0 .0))
+    (sym (c .before .finished .ensures)) in
+    listed-near _ _ _ _ _ _ _ (pre .1 .0) e
 
-read-list-set-mark-requires : (t : ℕ) → read-list-lts.Need-set-mark-requires (read-list-calls t) (read-list-at t) read-list.Post read-list-Inv-loop read-list-μ-loop
+read-list-set-mark-requires : (t : ℕ) → read-list-lts.Need-set-mark-requires (read-list-calls t) (read-list-at t) read-list.Post read-list-Inv-loop
+    read-list-μ-loop
 read-list-set-mark-requires t c κs = search needs
 
 read-list-same-length : (t : ℕ) → read-list-lts.Need-same-length (read-list-calls t) (read-list-at t) read-list.Post read-list-Inv-loop read-list-μ-loop
-read-list-same-length t c = c .before .before .set-mark .kept .0 ∙ c .before .before .before .before .before .before .before .before .before .before .before .read-instr .kept .1 .1 .1 .1 .1 .1 .0 ∙ c .before .before .before .before .before .before .before .before .before .before .before .before .before .loop .inv .4
+read-list-same-length t c =
+    let loop = c .before .before .before .before .before .before .before .before .before .before .before .before .before .loop in
+    let read-instr′ = c .before .before .before .before .before .before .before .before .before .before .before .read-instr in
+    c .before .before .set-mark .kept .0 ∙ read-instr′ .kept .1 .1 .1 .1 .1 .1 .0 ∙ loop .inv .4
 
 read-list-returns : (t : ℕ) → read-list-lts.Need-returns (read-list-calls t) (read-list-at t) read-list.Post read-list-Inv-loop read-list-μ-loop
-read-list-returns t c = let e = c .before .before .before .before .before .before .before .before .before .before .before .before .before .loop .inv .0 ∙ turn-end _ _ _ _ _ _ _ (sym (c .before .before .before .before .before .before .before .before .before .before .before .read-instr .ensures .0) ∙ c .before .before .before .before .before .before .before .next .given .1) ∙ ap (Done (c .before .before .before .before .before .before .before .next .given .0 .0)) (sym (c .before .before .before .before .before .finished .ensures)) in (sym e, list-marked _ _ _ _ _ _ _ _ _ _ _ _ (marking-end _ _ _ _ _ _ _ (c .before .before .before .before .before .before .before .before .before .before .before .before .before .loop .inv .3) _ _ (sym (c .before .before .before .before .before .before .before .before .before .before .before .read-instr .ensures .0) ∙ c .before .before .before .before .before .before .before .next .given .1) (c .before .before .before .before .before .before .before .before .before .before .before .read-instr .ensures .1)) e (c .before .before .before .mark-of .ensures) (c .before .before .set-mark .ensures))
+read-list-returns t c =
+    let loop = c .before .before .before .before .before .before .before .before .before .before .before .before .before .loop in
+    let read-instr′ = c .before .before .before .before .before .before .before .before .before .before .before .read-instr in
+    let next = c .before .before .before .before .before .before .before .next in
+    let finished = c .before .before .before .before .before .finished in
+    let mark-of = c .before .before .before .mark-of in
+    let e = loop .inv .0 ∙ turn-end _ _ _ _ _ _ _ (sym (read-instr′ .ensures .0) ∙ next .given .1) ∙ ap (Done (next .given .0 .0)) (sym (finished .ensures)) in (
+      sym e,
+      list-marked _ _ _ _ _ _ _ _ _ _ _ _
+          (marking-end _ _ _ _ _ _ _ (loop .inv .3) _ _ (sym (read-instr′ .ensures .0) ∙ next .given .1) (read-instr′ .ensures .1)) e (mark-of .ensures)
+          (c .before .before .set-mark .ensures),
+    )
 
-read-list-enum-known-next-2 : (t : ℕ) → read-list-lts.Need-enum-known-next-2 (read-list-calls t) (read-list-at t) read-list.Post read-list-Inv-loop read-list-μ-loop
+read-list-enum-known-next-2 : (t : ℕ) → read-list-lts.Need-enum-known-next-2 (read-list-calls t) (read-list-at t) read-list.Post read-list-Inv-loop
+    read-list-μ-loop
 read-list-enum-known-next-2 t c = search needs
 
 read-list-state-after-requires : (t : ℕ) → read-list-lts.Need-state-after-requires (read-list-calls t) (read-list-at t) read-list.Post read-list-Inv-loop read-list-μ-loop
 read-list-state-after-requires t c κs = let w = turn-bits _ _ _ _ _ _ _ (sym (c .before .before .before .before .before .read-instr .ensures .0) ∙ c .before .next2 .given .1) in (omega arith, c .before .before .before .before .before .before .before .loop .inv .2)
 
 read-list-loop-less : (t : ℕ) → read-list-lts.Need-loop-less (read-list-calls t) (read-list-at t) read-list.Post read-list-Inv-loop read-list-μ-loop
-read-list-loop-less t c = let w = turn-bits _ _ _ _ _ _ _ (sym (c .before .before .before .before .before .before .read-instr .ensures .0) ∙ c .before .before .next2 .given .1) in omega arith
+read-list-loop-less t c =
+    let read-instr′ = c .before .before .before .before .before .before .read-instr in
+    let w = turn-bits _ _ _ _ _ _ _ (sym (read-instr′ .ensures .0) ∙ c .before .before .next2 .given .1) in
+    omega arith
 
 read-list-loop-again : (t : ℕ) → read-list-lts.Need-loop-again (read-list-calls t) (read-list-at t) read-list.Post read-list-Inv-loop read-list-μ-loop
-read-list-loop-again t c = let w = turn-bits _ _ _ _ _ _ _ (sym (c .before .before .before .before .before .before .read-instr .ensures .0) ∙ c .before .before .next2 .given .1) in let z = tail-size (c .before .before .before .before .before .before .before .before .loop .st) (c .before .before .next2 .given .0 .1 .0) (c .before .before .before .before .before .before .before .before .loop .inv .2) in rw (c .state-after .ensures) (c .before .before .before .before .before .before .before .before .loop .inv .0 ∙ turn-more _ _ _ _ _ _ _ _ (sym (c .before .before .before .before .before .before .read-instr .ensures .0) ∙ c .before .before .next2 .given .1), omega arith, z .0, marking-more _ _ _ _ _ _ _ (c .before .before .before .before .before .before .before .before .loop .inv .3) _ _ _ (sym (c .before .before .before .before .before .before .read-instr .ensures .0) ∙ c .before .before .next2 .given .1) (c .before .before .before .before .before .before .read-instr .ensures .1), c .before .before .before .before .before .before .read-instr .kept .1 .1 .1 .1 .1 .1 .0 ∙ c .before .before .before .before .before .before .before .before .loop .inv .4)
+read-list-loop-again t c =
+    let loop = c .before .before .before .before .before .before .before .before .loop in
+    let read-instr′ = c .before .before .before .before .before .before .read-instr in
+    let next2 = c .before .before .next2 in
+    let w = turn-bits _ _ _ _ _ _ _ (sym (read-instr′ .ensures .0) ∙ next2 .given .1) in
+    let z = tail-size (loop .st) (next2 .given .0 .1 .0) (loop .inv .2) in
+    rw (c .state-after .ensures) (
+      loop .inv .0 ∙ turn-more _ _ _ _ _ _ _ _ (sym (read-instr′ .ensures .0) ∙ next2 .given .1),
+      omega arith,
+      z .0,
+      marking-more _ _ _ _ _ _ _ (loop .inv .3) _ _ _ (sym (read-instr′ .ensures .0) ∙ next2 .given .1) (read-instr′ .ensures .1),
+      read-instr′ .kept .1 .1 .1 .1 .1 .1 .0 ∙ loop .inv .4,
+    )
 
 read-list-enum-known-no : (t : ℕ) → read-list-lts.Need-enum-known-no (read-list-calls t) (read-list-at t) read-list.Post read-list-Inv-loop read-list-μ-loop
 read-list-enum-known-no t c = search needs
 
 read-list-same-length-2 : (t : ℕ) → read-list-lts.Need-same-length-2 (read-list-calls t) (read-list-at t) read-list.Post read-list-Inv-loop read-list-μ-loop
-read-list-same-length-2 t c = c .before .before .before .before .before .read-instr .kept .1 .1 .1 .1 .1 .1 .0 ∙ c .before .before .before .before .before .before .before .loop .inv .4
+read-list-same-length-2 t c =
+    let loop = c .before .before .before .before .before .before .before .loop in
+    let read-instr′ = c .before .before .before .before .before .read-instr in
+    read-instr′ .kept .1 .1 .1 .1 .1 .1 .0 ∙ loop .inv .4
 
 read-list-returns-2 : (t : ℕ) → read-list-lts.Need-returns-2 (read-list-calls t) (read-list-at t) read-list.Post read-list-Inv-loop read-list-μ-loop
 unfolding listMarked
-read-list-returns-2 t c = let e = c .before .before .before .before .before .before .before .loop .inv .0 ∙ turn-bad _ _ _ _ _ _ _ _ (sym (c .before .before .before .before .before .read-instr .ensures .0) ∙ c .before .no .given .1) in (sym e, rw (listed-refused _ _ _ _ _ e) tt)
+read-list-returns-2 t c =
+    let loop = c .before .before .before .before .before .before .before .loop in
+    let read-instr′ = c .before .before .before .before .before .read-instr in
+    let e = loop .inv .0 ∙ turn-bad _ _ _ _ _ _ _ _ (sym (read-instr′ .ensures .0) ∙ c .before .no .given .1) in
+    (sym e, rw (listed-refused _ _ _ _ _ e) tt)
 
 read-make-cont-read-field-requires : (t : ℕ) → read-make-cont-lts.Need-read-field-requires (read-make-cont-calls t) (read-make-cont-at t) read-make-cont.Post
 read-make-cont-read-field-requires t c κs = search needs
@@ -335,7 +420,10 @@ read-make-cont-enum-known-last : (t : ℕ) → read-make-cont-lts.Need-enum-know
 read-make-cont-enum-known-last t c = search needs
 
 read-make-cont-save-added-requires : (t : ℕ) → read-make-cont-lts.Need-save-added-requires (read-make-cont-calls t) (read-make-cont-at t) read-make-cont.Post
-read-make-cont-save-added-requires t c κs = listed-size _ _ _ _ _ _ _ (c .before .before .before .before .before .before .before .before .before .before .before .before .before .before .pre .1 .0) (sym (c .before .before .before .before .before .read-list .ensures .0) ∙ c .before .last .given .1)
+read-make-cont-save-added-requires t c κs =
+    let pre = c .before .before .before .before .before .before .before .before .before .before .before .before .before .before .pre in
+    let read-list′ = c .before .before .before .before .before .read-list in
+    listed-size _ _ _ _ _ _ _ (pre .1 .0) (sym (read-list′ .ensures .0) ∙ c .before .last .given .1)
 
 read-make-cont-enum-known-no : (t : ℕ) → read-make-cont-lts.Need-enum-known-no (read-make-cont-calls t) (read-make-cont-at t) read-make-cont.Post
 read-make-cont-enum-known-no t c = search needs
@@ -345,14 +433,27 @@ read-make-cont-same-length t c = c .before .before .before .before .before .befo
 
 read-make-cont-returns-2 : (t : ℕ) → read-make-cont-lts.Need-returns-2 (read-make-cont-calls t) (read-make-cont-at t) read-make-cont.Post
 unfolding itemed addedBy
-read-make-cont-returns-2 t c = let x = listed-done _ _ _ _ _ (sym (c .before .before .before .before .before .before .read-list .ensures .0) ∙ c .before .before .last .given .1) in let n = sym (c .before .before .before .before .before .before .before .before .before .before .before .read-field .ensures) ∙ c .before .before .before .before .before .before .before .before .before .saved .given .1 in (rw (make-cont-read _ _ _ _ _ _ _ _ _ n (x .1), c .save-added .ensures, x .2) refl, saved-marked _ _ _ _ _ _ _ _ _ _ n (value-of _ _ _ _ _ n .1 .0) (x .1) (c .before .before .before .before .before .before .read-list .ensures .1))
+read-make-cont-returns-2 t c =
+    let read-field = c .before .before .before .before .before .before .before .before .before .before .before .read-field in
+    let saved = c .before .before .before .before .before .before .before .before .before .saved in
+    let read-list′ = c .before .before .before .before .before .before .read-list in
+    let x = listed-done _ _ _ _ _ (sym (read-list′ .ensures .0) ∙ c .before .before .last .given .1) in
+    let n = sym (read-field .ensures) ∙ saved .given .1 in (
+      rw (make-cont-read _ _ _ _ _ _ _ _ _ n (x .1), c .save-added .ensures, x .2) refl,
+      saved-marked _ _ _ _ _ _ _ _ _ _ n (value-of _ _ _ _ _ n .1 .0) (x .1) (read-list′ .ensures .1),
+    )
 
 read-make-cont-same-length-2 : (t : ℕ) → read-make-cont-lts.Need-same-length-2 (read-make-cont-calls t) (read-make-cont-at t) read-make-cont.Post
 read-make-cont-same-length-2 t c = c .before .before .before .before .before .read-list .kept .1 .1 .1 .1 .1 .1 .0
 
 read-make-cont-returns-3 : (t : ℕ) → read-make-cont-lts.Need-returns-3 (read-make-cont-calls t) (read-make-cont-at t) read-make-cont.Post
 unfolding itemed headMarked
-read-make-cont-returns-3 t c = rw (saved-refused _ _ _ _ _ _ _ _ _ (sym (c .before .before .before .before .before .before .before .before .before .before .read-field .ensures) ∙ c .before .before .before .before .before .before .before .before .saved .given .1) (listed-refused _ _ _ _ _ (sym (c .before .before .before .before .before .read-list .ensures .0) ∙ c .before .no .given .1))) (refl, tt)
+read-make-cont-returns-3 t c =
+    let read-field = c .before .before .before .before .before .before .before .before .before .before .read-field in
+    let saved = c .before .before .before .before .before .before .before .before .saved in
+    let read-list′ = c .before .before .before .before .before .read-list in
+    rw (saved-refused _ _ _ _ _ _ _ _ _ (sym (read-field .ensures) ∙ saved .given .1)
+    (listed-refused _ _ _ _ _ (sym (read-list′ .ensures .0) ∙ c .before .no .given .1))) (refl, tt)
 
 pub +read-conditional+read-instr+read-list+read-make-cont-spec : {M : Type 1} → statement M
 +read-conditional+read-instr+read-list+read-make-cont-spec =

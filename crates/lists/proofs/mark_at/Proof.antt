@@ -13,7 +13,10 @@ returns : tie.Need-returns
 returns c = ap (λ (i : ℕ). getD (c .before .before .before .before .args .marks .now) i 0) (c .before .before .link-index .ensures)
 
 returns-2 : tie.Need-returns-2
-returns-2 c = let L = c .before .before .before .args .marks .now in sym (List·getD-eq-default L 0 (c .if1 .left)) ∙ ap (λ (i : ℕ). getD L i 0) (c .before .link-index .ensures)
+returns-2 c =
+    let args = c .before .before .before .args in
+    let L = args .marks .now in
+    sym (List·getD-eq-default L 0 (c .if1 .left)) ∙ ap (λ (i : ℕ). getD L i 0) (c .before .link-index .ensures)
 
 mul-result : tie.Need-mul-result
 mul-result c = search needs

@@ -154,7 +154,8 @@ module _ (table : List ℕ) (own : ℕ) where
         go false true h l =
             let a : 6 ≤ v = ltb-false v 6 h in
             let b : v < 10 = ltb-true v 10 l in
-            absurd (each (λ u. shapeOf u ≡ 1 → ⊥) 6 4 (λ x. omega arith, (λ x. omega arith, (λ x. omega arith, (λ x. omega arith, tt)))) v a (omega arith) (e ∙ z))
+            absurd
+            (each (λ u. shapeOf u ≡ 1 → ⊥) 6 4 (λ x. omega arith, (λ x. omega arith, (λ x. omega arith, (λ x. omega arith, tt)))) v a (omega arith) (e ∙ z))
         go false false h l =
             let b : 10 ≤ v = ltb-false v 10 l in
             rw (h, lt-leb v 9 (omega arith), ne-eqb v 7 (λ x. omega arith)) refl

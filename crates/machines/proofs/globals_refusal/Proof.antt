@@ -31,8 +31,9 @@ starting-global-requires c κs = search needs
 returns : tie.Need-returns Inv-loop μ-loop
 unfolding globalsRefusal
 returns c =
-    ap globalsRefusal
-    (unfit-here _ _ (c .before .before .before .before .loop .inv .1) _ (c .before .before .before .loop-test .taken) (c .before .starting-global .ensures) (not-true _ (c .if1 .taken)))
+    let loop = c .before .before .before .before .loop in
+    let loop-test = c .before .before .before .loop-test in
+    ap globalsRefusal (unfit-here _ _ (loop .inv .1) _ (loop-test .taken) (c .before .starting-global .ensures) (not-true _ (c .if1 .taken)))
 
 add-i : tie.Need-add-i Inv-loop μ-loop
 add-i c = search needs
@@ -42,7 +43,9 @@ loop-less c = search needs
 
 loop-again : tie.Need-loop-again Inv-loop μ-loop
 loop-again c =
-    (search needs, unfit-later _ _ (c .before .before .before .before .loop .inv .1) _ (c .before .before .before .loop-test .taken) (c .before .starting-global .ensures) (not-false _ (c .if1 .left)))
+    let loop = c .before .before .before .before .loop in
+    let loop-test = c .before .before .before .loop-test in
+    (search needs, unfit-later _ _ (loop .inv .1) _ (loop-test .taken) (c .before .starting-global .ensures) (not-false _ (c .if1 .left)))
 
 returns-2 : tie.Need-returns-2 Inv-loop μ-loop
 unfolding globalsRefusal

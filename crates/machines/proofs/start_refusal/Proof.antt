@@ -21,11 +21,22 @@ returns-3 c = simp (eq-eqb _ _ (c .before .before .if1 .left), eq-eqb _ _ (c .be
 
 returns-4 : tie.Need-returns-4
 unfolding startRefusal rightLengths
-returns-4 c = simp (eq-eqb _ _ (c .before .before .before .if1 .left), eq-eqb _ _ (c .before .before .if2 .left), eq-eqb _ _ (c .before .if3 .left), ne-eqb _ _ (c .if4 .taken))
+returns-4 c =
+    let if1 = c .before .before .before .if1 in
+    simp (eq-eqb _ _ (if1 .left), eq-eqb _ _ (c .before .before .if2 .left), eq-eqb _ _ (c .before .if3 .left), ne-eqb _ _ (c .if4 .taken))
 
 returns-5 : tie.Need-returns-5
 unfolding startRefusal rightLengths
-returns-5 c = simp (eq-eqb _ _ (c .before .before .before .before .if1 .left), eq-eqb _ _ (c .before .before .before .if2 .left), eq-eqb _ _ (c .before .before .if3 .left), eq-eqb _ _ (c .before .if4 .left), lt-leb _ _ (c .if5 .taken))
+returns-5 c =
+    let if1 = c .before .before .before .before .if1 in
+    let if2 = c .before .before .before .if2 in
+    simp (
+      eq-eqb _ _ (if1 .left),
+      eq-eqb _ _ (if2 .left),
+      eq-eqb _ _ (c .before .before .if3 .left),
+      eq-eqb _ _ (c .before .if4 .left),
+      lt-leb _ _ (c .if5 .taken),
+    )
 
 is-owner-requires : tie.Need-is-owner-requires
 is-owner-requires c κs = search needs
@@ -33,7 +44,18 @@ is-owner-requires c κs = search needs
 returns-6 : tie.Need-returns-6
 unfolding startRefusal rightLengths
 returns-6 c =
-    simp (eq-eqb _ _ (c .before .before .before .before .before .before .if1 .left), eq-eqb _ _ (c .before .before .before .before .before .if2 .left), eq-eqb _ _ (c .before .before .before .before .if3 .left), eq-eqb _ _ (c .before .before .before .if4 .left), le-leb _ _ (c .before .before .if5 .left), sym (c .before .is-owner .ensures) ∙ not-true _ (c .if6 .taken))
+    let if1 = c .before .before .before .before .before .before .if1 in
+    let if2 = c .before .before .before .before .before .if2 in
+    let if3 = c .before .before .before .before .if3 in
+    let if4 = c .before .before .before .if4 in
+    simp (
+      eq-eqb _ _ (if1 .left),
+      eq-eqb _ _ (if2 .left),
+      eq-eqb _ _ (if3 .left),
+      eq-eqb _ _ (if4 .left),
+      le-leb _ _ (c .before .before .if5 .left),
+      sym (c .before .is-owner .ensures) ∙ not-true _ (c .if6 .taken),
+    )
 
 globals-refusal-requires : tie.Need-globals-refusal-requires
 globals-refusal-requires c κs = search needs
@@ -41,7 +63,19 @@ globals-refusal-requires c κs = search needs
 returns-7 : tie.Need-returns-7
 unfolding startRefusal rightLengths
 returns-7 c =
-    simp (eq-eqb _ _ (c .before .before .before .before .before .before .before .if1 .left), eq-eqb _ _ (c .before .before .before .before .before .before .if2 .left), eq-eqb _ _ (c .before .before .before .before .before .if3 .left), eq-eqb _ _ (c .before .before .before .before .if4 .left), le-leb _ _ (c .before .before .before .if5 .left), sym (c .before .before .is-owner .ensures) ∙ not-false _ (c .before .if6 .left)) (c .globals-refusal .ensures)
+    let if1 = c .before .before .before .before .before .before .before .if1 in
+    let if2 = c .before .before .before .before .before .before .if2 in
+    let if3 = c .before .before .before .before .before .if3 in
+    let if4 = c .before .before .before .before .if4 in
+    let if5 = c .before .before .before .if5 in
+    simp (
+      eq-eqb _ _ (if1 .left),
+      eq-eqb _ _ (if2 .left),
+      eq-eqb _ _ (if3 .left),
+      eq-eqb _ _ (if4 .left),
+      le-leb _ _ (if5 .left),
+      sym (c .before .before .is-owner .ensures) ∙ not-false _ (c .before .if6 .left),
+    ) (c .globals-refusal .ensures)
 
 pub start-refusal-spec : {M : Type 1} → statement M
 start-refusal-spec =

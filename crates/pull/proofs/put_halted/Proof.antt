@@ -59,10 +59,9 @@ same-length-3 c = search needs
 
 returns-3 : tie.Need-returns-3
 returns-3 c =
-    let before = c .before .before .before .before .before .before in
+    let two = c .before .before .before .before .before .before in
     let int-of = c .before .before .before .before .int-of in
     let int-of2 = c .before .before .before .int-of2 in
-    let two = before in
     let one = two .before .before in
     let tag = sym (one .before .tag-of .ensures) ∙ one .if1 .left in
     let range = rw (int-of .ensures, int-of2 .ensures) at (c .before .before .put-range .ensures .0) in

@@ -24,9 +24,8 @@ same-length c = search needs
 returns : tie.Need-returns
 unfolding sourceWords
 returns c =
-    let before = c .before .before .before .before .before .before .before .before in
+    let words = c .before .before .before .before .before .before .before .before in
     let put-verdict = c .before .before .before .before .before .before .put-verdict in
-    let words = before in
     let word = rw (words .before .word-bits .ensures .1 .1, words .word-bits2 .ensures .1 .1) at (put-verdict .ensures .0) in
     (put-before _ _ _ word (c .before .before .put-source .ensures .0), omega arith)
 

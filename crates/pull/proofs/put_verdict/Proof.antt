@@ -21,8 +21,7 @@ same-length c = search needs
 
 returns : tie.Need-returns
 returns c =
-    let before = c .before .before .before .before .before in
-    let one = before in
+    let one = c .before .before .before .before .before in
     let a = one .before .before .before .args in (
       rw (verdict-order (signed (a .i)) (signed (a .o)) (signed (a .first)) (signed (a .last)) (sym (one .before .less .ensures) ∙ one .if1 .taken))
           (c .before .before .put-word .ensures),
@@ -43,8 +42,7 @@ same-length-2 c = search needs
 
 returns-2 : tie.Need-returns-2
 returns-2 c =
-    let before = c .before .before .before .before .before in
-    let two = before in
+    let two = c .before .before .before .before .before in
     let one = two .before .before in
     let a = one .before .before .before .args in
     let known = verdict-low (signed (a .i)) (signed (a .o)) (signed (a .first)) (signed (a .last)) (sym (one .before .less .ensures) ∙ one .if1 .left)
@@ -65,8 +63,7 @@ same-length-3 c = search needs
 
 returns-3 : tie.Need-returns-3
 returns-3 c =
-    let before = c .before .before .before .before .before in
-    let three = before in
+    let three = c .before .before .before .before .before in
     let two = three .before .before in
     let one = two .before .before in
     let a = one .before .before .before .args in
@@ -88,8 +85,7 @@ same-length-4 c = search needs
 
 returns-4 : tie.Need-returns-4
 returns-4 c =
-    let before = c .before .before .before .before .before in
-    let three = before in
+    let three = c .before .before .before .before .before in
     let two = three .before .before in
     let one = two .before .before in
     let a = one .before .before .before .args in

@@ -12,8 +12,7 @@ set-globals-requires c κs = search needs
 
 run-again-requires : tie.Need-run-again-requires
 run-again-requires c κs =
-    let before = c .before .before .before .before .before .before in
-    let set = before in
+    let set = c .before .before .before .before .before .before in
     let p = set .before .before .before .before .before .before .before .before .pre in (
       p .0 .1,
       may-run _ 0 _ _ _ _ (omega (arith, set .set-globals .kept, p .1 .0)) (p .1 .1) (p .1 .2) (p .1 .3) (p .0 .2) (omega arith)

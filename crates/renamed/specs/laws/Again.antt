@@ -42,7 +42,7 @@ use Rattle.trim.specs.laws.EntryLaws.{renumber-length}
 use Rattle.trim.specs.laws.TemplateLaws.{reindex-same}
 use Rattle.trim.specs.laws.BothLaws.{closes-named}
 use Rattle.renamed.specs.laws.Ranks.{entry-at, rank-grows, rank-old, rank-all, sift-all}
-use Rattle.renamed.specs.laws.Reindexed.{same-bits, same-closed}
+use Rattle.rewrite.specs.laws.ReindexLaws.{same-bits, same-closed}
 use Rattle.renamed.specs.laws.Found.{same-levels, same-valid, same-names, Found, renumbered, same-fits, same-closes}
 
 -- ---- one after the other, of those that are kept

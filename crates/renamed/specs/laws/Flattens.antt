@@ -20,7 +20,7 @@ use Rattle.readback.specs.laws.Bytes.{file-bytes}
 use Rattle.machines.specs.Fetched.{noTemplate}
 use Rattle.machines.specs.Runs.{Memory, linearRun}
 use Rattle.renamed.specs.laws.Ends.{EndAlike-renamed}
-use Rattle.renamed.specs.laws.Reindexed.{same-closed}
+use Rattle.rewrite.specs.laws.ReindexLaws.{same-closed}
 use Rattle.renamed.specs.laws.Linears.{same-flat}
 use Rattle.rewrite.specs.Reindex.{reindex}
 use Rattle.trim.specs.Kept.{sift, rank}

@@ -19,7 +19,7 @@ use Rattle.tree_file.specs.laws.Back.{neutral-shape}
 use Rattle.rewrite.specs.Reindex.{reindexed, reindex}
 use Rattle.rewrite.specs.laws.TokensLaws.{one-operand}
 use Rattle.trim.specs.Trim.{names, renumber}
-use Rattle.renamed.specs.laws.Reindexed.{same-length}
+use Rattle.rewrite.specs.laws.ReindexLaws.{same-length}
 use Rattle.trim.specs.laws.ReachedLaws.{or-cases, or-left, or-right, never}
 
 module _ (f : ℕ → ℕ) where

@@ -36,7 +36,8 @@ use Rattle.agree.specs.laws.Places as places
 use Rattle.agree.specs.laws.Files.{file-twins}
 use Rattle.renamed.specs.laws.Renaming.{Renaming}
 use Rattle.rewrite.specs.Reindex.{reindexed, reindex}
-use Rattle.renamed.specs.laws.Reindexed.{Names, same-length, same-closed, EntryR, PlainsR, noneP, someP, resolve-alike}
+use Rattle.rewrite.specs.laws.ReindexLaws.{same-length, same-closed}
+use Rattle.renamed.specs.laws.Reindexed.{Names, EntryR, PlainsR, noneP, someP, resolve-alike}
 use Rattle.renamed.specs.laws.Ends.{EndAlike-renamed}
 use Rattle.renamed.specs.laws.Programs.{FetchR, plainR, returnR, callR, branchR, saveR, jumpR, badR, Twins, linear-machine-alike}
 use Rattle.renamed.specs.laws.Trees.{Trimmed}

@@ -7,12 +7,12 @@ use mathlib.Core.Option.{Option, none, some}
 use Prim.Native.Nat.{ℕ, _<_, _≤_}
 use native.Mathlib.Omega.{arith}
 use lib.Dec.{leb, eqb}
-use lib.ListN.{length, getD, length-map, List·getD-map}
+use lib.ListN.{getD, List·getD-map}
 use borrow.Author.Tests.{eqb-true, leb-true, leb-false}
-use Rattle.files.specs.Code.{Code, done, neutral, return, call, unless-false, make-cont, bits}
+use Rattle.files.specs.Code.{Code, done, neutral, return, call, unless-false, make-cont}
 use Rattle.files.specs.Entries.{Entry, constant, global, template}
-use Rattle.files.specs.Grammar.{isEmpty, isOpen, isClosed, entryOf}
-use Rattle.rewrite.specs.Reindex.{reindexed, reindex}
+use Rattle.files.specs.Grammar.{entryOf}
+use Rattle.rewrite.specs.Reindex.{reindexed}
 use Rattle.rules.specs.declared.Plain.{Plain}
 use Rattle.rules.specs.declared.Plain.the-variants.{Global, SetGlobal}
 use Rattle.machines.specs.Fetched.{namedBy, asLiteral, asClosure, asGlobal, ruleOf, resolve}
@@ -28,53 +28,6 @@ Names P (return r) = Names P r
 Names P (call n r) = Names P r
 Names P (unless-false x y r) = Names P x × Names P y × Names P r
 Names P (make-cont n x r) = Names P x × Names P r
-
--- ---- the shape stays
-module _ (f : ℕ → ℕ) where
-  pub same-length : (op : ℕ) (ns : List ℕ) → length (reindexed f op ns) ≡ length ns
-  unfolding reindexed
-  same-length op ns = pick (leb op 9)
-    where
-      pick : (b : Bool) → length (cond b (map f ns) ns) ≡ length ns
-      pick true = length-map ns f
-      pick false = refl
-
-  pub same-bits : (c : Code) → bits (reindex f c) ≡ bits c
-  unfolding reindex bits
-  same-bits done = refl
-  same-bits (neutral op ns r) = rw (same-length op ns, same-bits r) refl
-  same-bits (return r) = rw (same-bits r) refl
-  same-bits (call n r) = rw (same-bits r) refl
-  same-bits (unless-false x y r) = rw (same-bits x, same-bits y, same-bits r) refl
-  same-bits (make-cont n x r) = rw (same-bits x, same-bits r) refl
-
-  pub same-empty : (c : Code) → isEmpty (reindex f c) ≡ isEmpty c
-  unfolding reindex isEmpty
-  same-empty done = refl
-  same-empty (neutral op ns r) = refl
-  same-empty (return r) = refl
-  same-empty (call n r) = refl
-  same-empty (unless-false x y r) = refl
-  same-empty (make-cont n x r) = refl
-
-  mutual
-    unfolding reindex isOpen isClosed
-
-    pub same-open : (c : Code) → isOpen (reindex f c) ≡ isOpen c
-    same-open done = refl
-    same-open (neutral op ns r) = rw (same-empty r, same-open r) refl
-    same-open (return r) = refl
-    same-open (call n r) = refl
-    same-open (unless-false x y r) = rw (same-open x, same-open y, same-empty r, same-open r) refl
-    same-open (make-cont n x r) = rw (same-empty x, same-open x, same-closed r) refl
-
-    pub same-closed : (c : Code) → isClosed (reindex f c) ≡ isClosed c
-    same-closed done = refl
-    same-closed (neutral op ns r) = same-closed r
-    same-closed (return r) = same-empty r
-    same-closed (call n r) = same-empty r
-    same-closed (unless-false x y r) = rw (same-open x, same-open y, same-closed r, same-empty r, same-closed x, same-closed y) refl
-    same-closed (make-cont n x r) = rw (same-closed x, same-closed r) refl
 
 -- ---- what an instruction resolves to
 module _ (N : Renaming) where

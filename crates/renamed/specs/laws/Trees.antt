@@ -21,7 +21,8 @@ use Rattle.machines.specs.Machine.{treeProgram}
 use Rattle.machines.specs.Runs.{Memory, checkedRun}
 use Rattle.renamed.specs.laws.Renaming.{Renaming, eqb-same}
 use Rattle.rewrite.specs.Reindex.{reindexed, reindex}
-use Rattle.renamed.specs.laws.Reindexed.{Names, same-length, same-bits, same-closed, EntryR, PlainsR, noneP, someP, resolve-alike}
+use Rattle.rewrite.specs.laws.ReindexLaws.{same-length, same-bits, same-closed}
+use Rattle.renamed.specs.laws.Reindexed.{Names, EntryR, PlainsR, noneP, someP, resolve-alike}
 use Rattle.renamed.specs.laws.Ends.{EndAlike-renamed}
 use Rattle.renamed.specs.laws.Programs.{FetchR, plainR, returnR, callR, branchR, saveR, badR, Twins, tree-machine-alike}
 

@@ -38,7 +38,7 @@ same-length-2 c = search needs
 
 returns-2 : tie.Need-returns-2
 returns-2 c =
-    let pre = c .before .before .before .before .before .before .before .before .before .before .before .before .before .before .before .before .pre in
+    let p = c .before .before .before .before .before .before .before .before .before .before .before .before .before .before .before .before .pre in
     let put-field = c .before .before .before .before .before .before .before .before .before .before .before .put-field in
     let past = c .before .before .before .before .before .before .before .past in
     let bits-at = c .before .before .before .before .before .before .bits-at in
@@ -47,7 +47,6 @@ returns-2 c =
     let e = put-field .ensures in
     let g = put-field2 .ensures in
     let x = new-operand .ensures .0 in
-    let p = pre in
     let z = c .if2 .taken in
     (omega (arith, e .0, g .0), put-one _ _ _ _ _ _ _ _ (e .1) (e .0) _ _ (g .1) (rw (bits-at .ensures .0, past .ensures) at x) _ z (omega (arith, p .1 .1)))
 
@@ -59,7 +58,7 @@ bits-at-requires-2 c κs = search needs
 
 put-field-requires-3 : tie.Need-put-field-requires-3
 put-field-requires-3 c κs =
-    let pre = c .before .before .before .before .before .before .before .before .before .before .before .before .before .before .before .before .before
+    let p = c .before .before .before .before .before .before .before .before .before .before .before .before .before .before .before .before .before
     .before .before .pre in
     let put-field = c .before .before .before .before .before .before .before .before .before .before .before .before .before .before .put-field in
     let if1 = c .before .before .before .before .before .before .before .before .before .before .before .if1 in
@@ -67,7 +66,6 @@ put-field-requires-3 c κs =
     let if2 = c .before .before .before .if2 in
     let e = put-field .ensures in
     let g = put-field2 .ensures in
-    let p = pre in
     let m₁ = ap length (e .1) ∙ put-length _ _ _ in
     let m₂ = ap length (g .1) ∙ put-length _ _ _ in (
       omega (arith, m₁, m₂, p .0 .1),
@@ -81,7 +79,7 @@ same-length-3 c = search needs
 
 returns-3 : tie.Need-returns-3
 returns-3 c =
-    let pre = c .before .before .before .before .before .before .before .before .before .before .before .before .before .before .before .before .before
+    let p = c .before .before .before .before .before .before .before .before .before .before .before .before .before .before .before .before .before
     .before .before .before .before .before .pre in
     let put-field = c .before .before .before .before .before .before .before .before .before .before .before .before .before .before .before .before .before
     .put-field in
@@ -97,7 +95,6 @@ returns-3 c =
     let g = put-field2 .ensures in
     let k = c .before .before .put-field3 .ensures in
     let x = new-operand .ensures .0 in
-    let p = pre in
     let n = if1 .left in
     let m = if2 .left in (
       omega (arith, e .0, g .0, k .0, p .0 .4),

@@ -48,12 +48,11 @@ operand-count-requires c κs = search needs
 
 put-code-requires : tie.Need-put-code-requires Inv-loop μ-loop
 put-code-requires c κs =
-    let pre = c .before .before .before .before .before .before .before .before .before .before .before .before .before .pre in
+    let p = c .before .before .before .before .before .before .before .before .before .before .before .before .before .pre in
     let put-field = c .before .before .before .before .before .before .before .before .put-field in
     let loop = c .before .before .before .before .before .loop in
     let loop-test = c .before .before .before .before .loop-test in
     let bits-at = c .before .before .before .bits-at in
-    let p = pre in
     let v = loop .inv in
     let l = v .2 (p .1) in
     let k = left-code _ _ _ _ l (loop-test .taken) in
@@ -67,13 +66,12 @@ put-code-requires c κs =
 
 mul-past : tie.Need-mul-past Inv-loop μ-loop
 mul-past c =
-    let pre = c .before .before .before .before .before .before .before .before .before .before .before .before .before .before .before .before .pre in
+    let p = c .before .before .before .before .before .before .before .before .before .before .before .before .before .before .before .before .pre in
     let loop = c .before .before .before .before .before .before .before .before .loop in
     let loop-test = c .before .before .before .before .before .before .before .loop-test in
     let bits-at = c .before .before .before .before .before .before .bits-at in
     let shape-of = c .before .before .before .before .before .shape-of in
     let operand-count = c .before .before .before .before .operand-count in
-    let p = pre in
     let v = loop .inv in
     let l = v .2 (p .1) in
     let k = left-code _ _ _ _ l (loop-test .taken) in
@@ -83,13 +81,12 @@ mul-past c =
 
 add-past : tie.Need-add-past Inv-loop μ-loop
 add-past c =
-    let pre = c .before .before .before .before .before .before .before .before .before .before .before .before .before .before .before .before .pre in
+    let p = c .before .before .before .before .before .before .before .before .before .before .before .before .before .before .before .before .pre in
     let loop = c .before .before .before .before .before .before .before .before .loop in
     let loop-test = c .before .before .before .before .before .before .before .loop-test in
     let bits-at = c .before .before .before .before .before .before .bits-at in
     let shape-of = c .before .before .before .before .before .shape-of in
     let operand-count = c .before .before .before .before .operand-count in
-    let p = pre in
     let v = loop .inv in
     let l = v .2 (p .1) in
     let k = left-code _ _ _ _ l (loop-test .taken) in
@@ -99,13 +96,12 @@ add-past c =
 
 past-requires : tie.Need-past-requires Inv-loop μ-loop
 past-requires c κs =
-    let pre = c .before .before .before .before .before .before .before .before .before .before .before .before .before .before .before .before .pre in
+    let p = c .before .before .before .before .before .before .before .before .before .before .before .before .before .before .before .before .pre in
     let loop = c .before .before .before .before .before .before .before .before .loop in
     let loop-test = c .before .before .before .before .before .before .before .loop-test in
     let bits-at = c .before .before .before .before .before .before .bits-at in
     let shape-of = c .before .before .before .before .before .shape-of in
     let operand-count = c .before .before .before .before .operand-count in
-    let p = pre in
     let v = loop .inv in
     let l = v .2 (p .1) in
     let k = left-code _ _ _ _ l (loop-test .taken) in
@@ -115,13 +111,12 @@ past-requires c κs =
 
 mul-left : tie.Need-mul-left Inv-loop μ-loop
 mul-left c =
-    let pre = c .before .before .before .before .before .before .before .before .before .before .before .before .before .before .before .before .before .pre in
+    let p = c .before .before .before .before .before .before .before .before .before .before .before .before .before .before .before .before .before .pre in
     let loop = c .before .before .before .before .before .before .before .before .before .loop in
     let loop-test = c .before .before .before .before .before .before .before .before .loop-test in
     let bits-at = c .before .before .before .before .before .before .before .bits-at in
     let shape-of = c .before .before .before .before .before .before .shape-of in
     let operand-count = c .before .before .before .before .before .operand-count in
-    let p = pre in
     let v = loop .inv in
     let l = v .2 (p .1) in
     let k = left-code _ _ _ _ l (loop-test .taken) in
@@ -131,13 +126,12 @@ mul-left c =
 
 add-left : tie.Need-add-left Inv-loop μ-loop
 add-left c =
-    let pre = c .before .before .before .before .before .before .before .before .before .before .before .before .before .before .before .before .before .pre in
+    let p = c .before .before .before .before .before .before .before .before .before .before .before .before .before .before .before .before .before .pre in
     let loop = c .before .before .before .before .before .before .before .before .before .loop in
     let loop-test = c .before .before .before .before .before .before .before .before .loop-test in
     let bits-at = c .before .before .before .before .before .before .before .bits-at in
     let shape-of = c .before .before .before .before .before .before .shape-of in
     let operand-count = c .before .before .before .before .before .operand-count in
-    let p = pre in
     let v = loop .inv in
     let l = v .2 (p .1) in
     let k = left-code _ _ _ _ l (loop-test .taken) in
@@ -147,13 +141,12 @@ add-left c =
 
 sub-left : tie.Need-sub-left Inv-loop μ-loop
 sub-left c =
-    let pre = c .before .before .before .before .before .before .before .before .before .before .before .before .before .before .before .before .before .pre in
+    let p = c .before .before .before .before .before .before .before .before .before .before .before .before .before .before .before .before .before .pre in
     let loop = c .before .before .before .before .before .before .before .before .before .loop in
     let loop-test = c .before .before .before .before .before .before .before .before .loop-test in
     let bits-at = c .before .before .before .before .before .before .before .bits-at in
     let shape-of = c .before .before .before .before .before .before .shape-of in
     let operand-count = c .before .before .before .before .before .operand-count in
-    let p = pre in
     let v = loop .inv in
     let l = v .2 (p .1) in
     let k = left-code _ _ _ _ l (loop-test .taken) in
@@ -163,13 +156,12 @@ sub-left c =
 
 loop-less : tie.Need-loop-less Inv-loop μ-loop
 loop-less c =
-    let pre = c .before .before .before .before .before .before .before .before .before .before .before .before .before .before .before .before .before .pre in
+    let p = c .before .before .before .before .before .before .before .before .before .before .before .before .before .before .before .before .before .pre in
     let loop = c .before .before .before .before .before .before .before .before .before .loop in
     let loop-test = c .before .before .before .before .before .before .before .before .loop-test in
     let bits-at = c .before .before .before .before .before .before .before .bits-at in
     let shape-of = c .before .before .before .before .before .before .shape-of in
     let operand-count = c .before .before .before .before .before .operand-count in
-    let p = pre in
     let v = loop .inv in
     let l = v .2 (p .1) in
     let k = left-code _ _ _ _ l (loop-test .taken) in
@@ -179,7 +171,7 @@ loop-less c =
 
 loop-again : tie.Need-loop-again Inv-loop μ-loop
 loop-again c =
-    let pre = c .before .before .before .before .before .before .before .before .before .before .before .before .before .before .before .before .before .pre in
+    let p = c .before .before .before .before .before .before .before .before .before .before .before .before .before .before .before .before .before .pre in
     let put-field = c .before .before .before .before .before .before .before .before .before .before .before .before .put-field in
     let loop = c .before .before .before .before .before .before .before .before .before .loop in
     let loop-test = c .before .before .before .before .before .before .before .before .loop-test in
@@ -187,7 +179,6 @@ loop-again c =
     let shape-of = c .before .before .before .before .before .before .shape-of in
     let operand-count = c .before .before .before .before .before .operand-count in
     let put-code = c .before .before .before .put-code in
-    let p = pre in
     let v = loop .inv in
     let l = v .2 (p .1) in
     let k = left-code _ _ _ _ l (loop-test .taken) in

@@ -49,8 +49,7 @@ loop-less c = search needs
 loop-again : tie.Need-loop-again Inv-loop μ-loop
 loop-again c =
     let if1 = c .before .before .before .if1 in
-    let before = c .before .before .before .before in
-    let b = before in (
+    let b = c .before .before .before .before in (
       omega (arith, c .layer-parent .ensures),
       omega arith,
       cc (walk-out (now (b .before .before .args .store)) (b .loop .e) (b .loop .left) (b .before .before .args .place) (if1 .left) (c .before .if2 .left)),
@@ -64,8 +63,7 @@ returns-2 : tie.Need-returns-2 Inv-loop μ-loop
 unfolding foundAt
 returns-2 c =
     let if1 = c .before .before .before .before .if1 in
-    let before = c .before .before .before .before .before in
-    let b = before in
+    let b = c .before .before .before .before .before in
     rw (
       ← b .loop .inv .2,
       walk-here (now (b .before .before .args .store)) (b .loop .e) (b .loop .left) (b .before .before .args .place) (if1 .left)
@@ -76,8 +74,7 @@ returns-3 : tie.Need-returns-3 Inv-loop μ-loop
 unfolding foundAt
 returns-3 c =
     let if1 = c .before .before .before .before .if1 in
-    let before = c .before .before .before .before .before in
-    let b = before in
+    let b = c .before .before .before .before .before in
     rw (
       ← b .loop .inv .2,
       walk-over (now (b .before .before .args .store)) (b .loop .e) (b .loop .left) (b .before .before .args .place) (if1 .left)

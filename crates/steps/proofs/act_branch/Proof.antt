@@ -11,7 +11,9 @@ act-jump-requires-2 : tie.Need-act-jump-requires-2
 act-jump-requires-2 c κs = search needs
 
 returns : tie.Need-returns
-returns c = λ o P m. let p = c .before .before .before .pre in branch-second o P m _ _ (p .0) (p .1) _ _ _ _ (c .before .if1 .taken) (p .2) (c .act-jump .ensures)
+returns c =
+    let pre = c .before .before .before .pre in
+    λ o P m. let p = pre in branch-second o P m _ _ (p .0) (p .1) _ _ _ _ (c .before .if1 .taken) (p .2) (c .act-jump .ensures)
 
 returns-2 : tie.Need-returns-2
 returns-2 c = λ o P m. let p = c .before .before .before .pre in branch-first o P m _ _ (p .0) (p .1) _ _ _ (c .before .if1 .left) (c .act-jump2 .ensures)

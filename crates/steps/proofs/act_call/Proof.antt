@@ -18,10 +18,18 @@ enum-known-no : tie.Need-enum-known-no
 enum-known-no c = search needs
 
 returns : tie.Need-returns
-returns c = λ o P m h. call-goes o P m _ _ (c .before .before .before .before .before .before .args .c) _ (c .before .before .before .before .call .ensures .0) _ _ _ (c .before .before .template .given .1) (c .before .before .before .before .call .ensures .1) (c .before .before .before .before .before .before .pre .0) (c .start-place .ensures .0 ∙ h _) (c .before .before .before .before .before .before .pre .1) (c .start-place .ensures .1)
+returns c =
+    let pre = c .before .before .before .before .before .before .pre in
+    let args = c .before .before .before .before .before .before .args in
+    let call = c .before .before .before .before .call in
+    λ o P m h. call-goes o P m _ _ (args .c) _ (call .ensures .0) _ _ _ (c .before .before .template .given .1) (call .ensures .1) (pre .0)
+    (c .start-place .ensures .0 ∙ h _) (pre .1) (c .start-place .ensures .1)
 
 returns-2 : tie.Need-returns-2
-returns-2 c = λ o P m h. call-stops o P m _ _ (c .before .before .before .before .before .args .c) _ (c .before .before .before .call .ensures .0) _ (c .before .no .given .1)
+returns-2 c =
+    let args = c .before .before .before .before .before .args in
+    let call = c .before .before .before .call in
+    λ o P m h. call-stops o P m _ _ (args .c) _ (call .ensures .0) _ (c .before .no .given .1)
 
 pub act-call-spec : {M : Type 1} → statement M
 act-call-spec =

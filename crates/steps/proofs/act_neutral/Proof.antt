@@ -26,7 +26,11 @@ same-length-3 : tie.Need-same-length-3
 same-length-3 c = search needs
 
 returns : tie.Need-returns
-returns c = λ P f. neutral-goes _ P _ _ _ _ _ _ (c .before .before .before .before .before .before .before .before .before .before .before .before .before .resolve .ensures) _ _ _ (c .before .before .before .before .before .before .before .before .before .before .before .i .given .1) (c .before .before .before .before .before .before .act-plain .ensures P f)
+returns c =
+    let resolve = c .before .before .before .before .before .before .before .before .before .before .before .before .before .resolve in
+    let i = c .before .before .before .before .before .before .before .before .before .before .before .i in
+    let act-plain = c .before .before .before .before .before .before .act-plain in
+    λ P f. neutral-goes _ P _ _ _ _ _ _ (resolve .ensures) _ _ _ (i .given .1) (act-plain .ensures P f)
 
 returns-2 : tie.Need-returns-2
 returns-2 c = λ P f. neutral-stops _ P _ _ _ _ _ _ (c .before .before .resolve .ensures) (c .enum-told .given .1)

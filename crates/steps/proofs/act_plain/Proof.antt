@@ -23,7 +23,11 @@ same-length-3 : tie.Need-same-length-3
 same-length-3 c = search needs
 
 returns : tie.Need-returns
-returns c = λ P f. plain-goes _ P _ _ _ _ _ _ f _ _ _ (c .before .before .before .before .before .before .before .before .before .before .before .before .before .before .before .before .args .c) _ (c .before .before .before .before .before .before .before .before .before .plain-rule .ensures .0) _ (c .before .q .given .1) (c .before .before .before .before .before .before .before .before .before .plain-rule .ensures .1) (c .before .before .before .before .before .before .before .before .before .before .before .before .before .before .before .before .pre .4)
+returns c =
+    let pre = c .before .before .before .before .before .before .before .before .before .before .before .before .before .before .before .before .pre in
+    let args = c .before .before .before .before .before .before .before .before .before .before .before .before .before .before .before .before .args in
+    let plain-rule = c .before .before .before .before .before .before .before .before .before .plain-rule in
+    λ P f. plain-goes _ P _ _ _ _ _ _ f _ _ _ (args .c) _ (plain-rule .ensures .0) _ (c .before .q .given .1) (plain-rule .ensures .1) (pre .4)
 
 same-length-4 : tie.Need-same-length-4
 same-length-4 c = search needs
@@ -35,7 +39,10 @@ same-length-6 : tie.Need-same-length-6
 same-length-6 c = search needs
 
 returns-2 : tie.Need-returns-2
-returns-2 c = λ P f. plain-stops _ P _ _ _ _ _ _ f _ _ _ (c .before .before .before .before .before .before .before .before .before .before .before .before .before .before .before .before .args .c) _ (c .before .before .before .before .before .before .before .before .before .plain-rule .ensures .0) _ (c .before .n .given .1)
+returns-2 c =
+    let args = c .before .before .before .before .before .before .before .before .before .before .before .before .before .before .before .before .args in
+    let plain-rule = c .before .before .before .before .before .before .before .before .before .plain-rule in
+    λ P f. plain-stops _ P _ _ _ _ _ _ f _ _ _ (args .c) _ (plain-rule .ensures .0) _ (c .before .n .given .1)
 
 pub act-plain-spec : {M : Type 1} → statement M
 act-plain-spec =

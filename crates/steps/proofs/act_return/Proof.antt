@@ -26,7 +26,12 @@ same-length-2 : tie.Need-same-length-2
 same-length-2 c = search needs
 
 returns : tie.Need-returns
-returns c = λ o P g t. return-goes o P g _ t _ _ _ _ (c .before .before .before .before .before .before .before .before .before .before .before .before .before .before .args .c) _ (c .before .before .before .before .before .before .before .before .before .give-back .ensures .0 g t) _ _ _ _ _ (c .before .before .before .q .given .1) (c .before .before .before .before .before .before .before .before .before .give-back .ensures .1) (c .before .frame-template .ensures) (c .saved-place .ensures .0) (c .saved-place .ensures .1)
+returns c =
+    let args = c .before .before .before .before .before .before .before .before .before .before .before .before .before .before .args in
+    let give-back = c .before .before .before .before .before .before .before .before .before .give-back in
+    let q = c .before .before .before .q in
+    λ o P g t. return-goes o P g _ t _ _ _ _ (args .c) _ (give-back .ensures .0 g t) _ _ _ _ _ (q .given .1) (give-back .ensures .1)
+    (c .before .frame-template .ensures) (c .saved-place .ensures .0) (c .saved-place .ensures .1)
 
 same-length-3 : tie.Need-same-length-3
 same-length-3 c = search needs
@@ -35,7 +40,10 @@ same-length-4 : tie.Need-same-length-4
 same-length-4 c = search needs
 
 returns-2 : tie.Need-returns-2
-returns-2 c = λ o P g t. return-halts o P g _ t _ _ _ _ (c .before .before .before .before .before .before .before .before .before .before .before .args .c) _ (c .before .before .before .before .before .before .give-back .ensures .0 g t) (c .enum-told .given .1)
+returns-2 c =
+    let args = c .before .before .before .before .before .before .before .before .before .before .before .args in
+    let give-back = c .before .before .before .before .before .before .give-back in
+    λ o P g t. return-halts o P g _ t _ _ _ _ (args .c) _ (give-back .ensures .0 g t) (c .enum-told .given .1)
 
 pub act-return-spec : {M : Type 1} → statement M
 act-return-spec =

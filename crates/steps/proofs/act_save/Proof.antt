@@ -23,7 +23,13 @@ same-length-2 : tie.Need-same-length-2
 same-length-2 c = search needs
 
 returns : tie.Need-returns
-returns c = λ o P g t. save-goes o P g _ t _ _ _ _ _ _ _ (c .before .before .before .before .before .before .before .before .before .before .before .before .before .args .c) _ _ (c .before .before .before .before .before .before .before .before .before .before .frame-of .ensures) (c .before .before .before .before .before .before .before .before .before .before .before .before .before .pre .4) (c .before .before .before .before .before .before .before .make-cont .ensures .0 g t) _ _ (c .before .q .given .1) (c .before .before .before .before .before .before .before .make-cont .ensures .1)
+returns c =
+    let pre = c .before .before .before .before .before .before .before .before .before .before .before .before .before .pre in
+    let args = c .before .before .before .before .before .before .before .before .before .before .before .before .before .args in
+    let frame-of = c .before .before .before .before .before .before .before .before .before .before .frame-of in
+    let make-cont = c .before .before .before .before .before .before .before .make-cont in
+    λ o P g t. save-goes o P g _ t _ _ _ _ _ _ _ (args .c) _ _ (frame-of .ensures) (pre .4) (make-cont .ensures .0 g t) _ _ (c .before .q .given .1)
+    (make-cont .ensures .1)
 
 same-length-3 : tie.Need-same-length-3
 same-length-3 c = search needs
@@ -32,7 +38,12 @@ same-length-4 : tie.Need-same-length-4
 same-length-4 c = search needs
 
 returns-2 : tie.Need-returns-2
-returns-2 c = λ o P g t. save-stops o P g _ t _ _ _ _ _ _ _ (c .before .before .before .before .before .before .before .before .before .before .before .before .before .args .c) _ _ (c .before .before .before .before .before .before .before .before .before .before .frame-of .ensures) (c .before .before .before .before .before .before .before .before .before .before .before .before .before .pre .4) (c .before .before .before .before .before .before .before .make-cont .ensures .0 g t) _ (c .before .no .given .1)
+returns-2 c =
+    let pre = c .before .before .before .before .before .before .before .before .before .before .before .before .before .pre in
+    let args = c .before .before .before .before .before .before .before .before .before .before .before .before .before .args in
+    let frame-of = c .before .before .before .before .before .before .before .before .before .before .frame-of in
+    let make-cont = c .before .before .before .before .before .before .before .make-cont in
+    λ o P g t. save-stops o P g _ t _ _ _ _ _ _ _ (args .c) _ _ (frame-of .ensures) (pre .4) (make-cont .ensures .0 g t) _ (c .before .no .given .1)
 
 pub act-save-spec : {M : Type 1} → statement M
 act-save-spec =

@@ -21,7 +21,9 @@ fetch-requires-2 c κs = rw (in-linear _ _ (c .before .at2 .given .1)) at (c .be
 
 returns : tie.Need-returns
 unfolding codeProgram
-returns c = rw (in-tree _ _ (c .before .before .at .given .1), tree-number _ _ (c .before .before .at .given .1)) (c .fetch .ensures .0 _ _, c .fetch .ensures .1)
+returns c =
+    let at = c .before .before .at in
+    rw (in-tree _ _ (at .given .1), tree-number _ _ (at .given .1)) (c .fetch .ensures .0 _ _, c .fetch .ensures .1)
 
 returns-2 : tie.Need-returns-2
 unfolding codeProgram

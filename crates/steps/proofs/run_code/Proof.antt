@@ -10,7 +10,12 @@ clear-all-requires : tie.Need-clear-all-requires
 clear-all-requires c κs = search needs
 
 run-from-requires : tie.Need-run-from-requires
-run-from-requires c κs = let e = c .before .before .before .before .before .before .before .before .before .before .clear-all .ensures in first-ready _ _ (e .0) (e .1) (e .2) _ _ (c .before .before .before .before .before .before .before .before .before .before .before .before .before .before .before .before .before .before .before .before .before .pre .0) (c .before .before .before .before .before .before .before .before .before .before .before .before .before .before .before .before .before .before .before .before .before .pre .1)
+run-from-requires c κs =
+    let pre = c .before .before .before .before .before .before .before .before .before .before .before .before .before .before .before .before .before
+    .before .before .before .before .pre in
+    let clear-all = c .before .before .before .before .before .before .before .before .before .before .clear-all in
+    let e = clear-all .ensures in
+    first-ready _ _ (e .0) (e .1) (e .2) _ _ (pre .0) (pre .1)
 
 same-length : tie.Need-same-length
 same-length c = search needs
@@ -25,7 +30,12 @@ same-length-4 : tie.Need-same-length-4
 same-length-4 c = search needs
 
 returns : tie.Need-returns
-returns c = let e = c .before .before .before .before .before .before .before .before .before .before .before .before .before .before .before .before .before .before .before .clear-all .ensures in c .before .before .before .before .before .before .before .before .run-from .ensures ∙ ap (ranFrom _ _ _ 0) (first-is _ _ (e .0) (e .1) (e .2))
+returns c =
+    let clear-all = c .before .before .before .before .before .before .before .before .before .before .before .before .before .before .before .before .before
+    .before .before .clear-all in
+    let run-from = c .before .before .before .before .before .before .before .before .run-from in
+    let e = clear-all .ensures in
+    run-from .ensures ∙ ap (ranFrom _ _ _ 0) (first-is _ _ (e .0) (e .1) (e .2))
 
 pub run-code-spec : {M : Type 1} → statement M
 run-code-spec =

@@ -22,11 +22,18 @@ enum-known-place : tie.Need-enum-known-place
 enum-known-place c = search needs
 
 returns : tie.Need-returns
-returns c = c .nothing-more .ensures ∙ ap (paddingTold {A = Unit {0}}) (sym (end-on (tt {0}) _ _ (sym (rw (c .before .before .before .before .before .to-byte .ensures) at (c .before .before .before .before .zero-bits .ensures)) ∙ c .before .before .past .given .1)))
+returns c =
+    let to-byte = c .before .before .before .before .before .to-byte in
+    let zero-bits = c .before .before .before .before .zero-bits in
+    c .nothing-more .ensures ∙ ap (paddingTold {A = Unit {0}})
+    (sym (end-on (tt {0}) _ _ (sym (rw (to-byte .ensures) at (zero-bits .ensures)) ∙ c .before .before .past .given .1)))
 
 returns-2 : tie.Need-returns-2
 unfolding paddingTold
-returns-2 c = sym (ap (paddingTold {A = Unit {0}}) (end-set (tt {0}) _ _ (sym (rw (c .before .before .before .before .to-byte .ensures) at (c .before .before .before .zero-bits .ensures)) ∙ c .before .place .given .1)))
+returns-2 c =
+    let to-byte = c .before .before .before .before .to-byte in
+    let zero-bits = c .before .before .before .zero-bits in
+    sym (ap (paddingTold {A = Unit {0}}) (end-set (tt {0}) _ _ (sym (rw (to-byte .ensures) at (zero-bits .ensures)) ∙ c .before .place .given .1)))
 
 pub read-end-spec : {M : Type 1} → statement M
 read-end-spec =

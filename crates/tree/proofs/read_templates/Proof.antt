@@ -31,7 +31,11 @@ loop-holds c =
     (search needs, k .1 .1, search needs, rw sub-zero (told-all _ _ _ (k .1 .0)), rw sub-zero refl, marking-begun _ _ _ _ _, refl, refl)
 
 read-template-requires : tie.Need-read-template-requires Inv-loop μ-loop
-read-template-requires c κs = let k = c .before .before .before .before .before .before .before .pre in let i = c .before .before .before .loop .inv in (k .0, (omega arith, (k .1 .0, i .1)))
+read-template-requires c κs =
+    let k = c .before .before .before .before .before .before .before .pre in
+    let loop = c .before .before .before .loop in
+    let i = loop .inv in
+    (k .0, (omega arith, (k .1 .0, i .1)))
 
 enum-known-past : tie.Need-enum-known-past Inv-loop μ-loop
 enum-known-past c = search needs
@@ -40,7 +44,13 @@ cast-summary-after : tie.Need-cast-summary-after Inv-loop μ-loop
 cast-summary-after c = search needs
 
 summary-after-requires : tie.Need-summary-after-requires Inv-loop μ-loop
-summary-after-requires c κs = let k = c .before .before .before .before .before .before .before .before .before .before .before .before .before .before .before .pre in let i = c .before .before .before .before .before .before .before .before .before .before .before .loop .inv in let small = next-small _ _ _ _ _ (k .1 .0) (c .before .before .before .before .before .before .before .read-template .ensures .0, c .before .before .before .before .before .before .before .read-template .ensures .1 .0) (c .before .past .given .1) (k .0) in (small, omega arith)
+summary-after-requires c κs =
+    let k = c .before .before .before .before .before .before .before .before .before .before .before .before .before .before .before .pre in
+    let loop = c .before .before .before .before .before .before .before .before .before .before .before .loop in
+    let read-template = c .before .before .before .before .before .before .before .read-template in
+    let i = loop .inv in
+    let small = next-small _ _ _ _ _ (k .1 .0) (read-template .ensures .0, read-template .ensures .1 .0) (c .before .past .given .1) (k .0) in
+    (small, omega arith)
 
 enum-known-no : tie.Need-enum-known-no Inv-loop μ-loop
 enum-known-no c = search needs
@@ -49,7 +59,13 @@ same-length : tie.Need-same-length Inv-loop μ-loop
 same-length c = search needs
 
 returns : tie.Need-returns Inv-loop μ-loop
-returns c = let i = c .before .before .before .before .before .before .before .before .before .before .before .loop .inv in let d = templates-stop _ _ _ _ _ _ (c .before .before .before .before .before .before .before .before .before .before .loop-test .taken) (c .before .before .before .before .before .before .before .read-template .ensures .0, c .before .before .before .before .before .before .before .read-template .ensures .1 .0) (c .before .no .given .1) in also-by (d .0 ∙ sym (i .3), d .1 ∙ sym (i .4)) (templates-unmarked _ _ _ _)
+returns c =
+    let loop = c .before .before .before .before .before .before .before .before .before .before .before .loop in
+    let loop-test = c .before .before .before .before .before .before .before .before .before .before .loop-test in
+    let read-template = c .before .before .before .before .before .before .before .read-template in
+    let i = loop .inv in
+    let d = templates-stop _ _ _ _ _ _ (loop-test .taken) (read-template .ensures .0, read-template .ensures .1 .0) (c .before .no .given .1) in
+    also-by (d .0 ∙ sym (i .3), d .1 ∙ sym (i .4)) (templates-unmarked _ _ _ _)
 
 add-own : tie.Need-add-own Inv-loop μ-loop
 add-own c = search needs
@@ -61,17 +77,33 @@ loop-again : tie.Need-loop-again Inv-loop μ-loop
 unfolding summaryAfter
 loop-again c =
     let k = c .before .before .before .before .before .before .before .before .before .before .before .before .before .before .before .before .pre in
-    let i = c .before .before .before .before .before .before .before .before .before .before .before .before .loop .inv in
-    let less = c .before .before .before .before .before .before .before .before .before .before .before .loop-test .taken in
-    let d = templates-on _ _ _ _ _ _ less (c .before .before .before .before .before .before .before .before .read-template .ensures .0, c .before .before .before .before .before .before .before .before .read-template .ensures .1 .0) (k .1 .0) (c .before .before .past .given .1) (c .summary-after .ensures) in
-    let small = next-small _ _ _ _ _ (k .1 .0) (c .before .before .before .before .before .before .before .before .read-template .ensures .0, c .before .before .before .before .before .before .before .before .read-template .ensures .1 .0) (c .before .before .past .given .1) (k .0) in
-    (search needs, next-unfilled _ _ _ _ _ (k .1 .0) (c .before .before .before .before .before .before .before .before .read-template .ensures .0, c .before .before .before .before .before .before .before .before .read-template .ensures .1 .0) (c .before .before .past .given .1) less (i .1), rw (c .summary-after .ensures) (omega arith), i .3 ∙ d .0, i .4 ∙ d .1, marking-more _ _ _ _ _ (i .5) _ less (this _ _ _ _ _ (k .1 .0) (c .before .before .before .before .before .before .before .before .read-template .ensures .0, c .before .before .before .before .before .before .before .before .read-template .ensures .1 .0) (c .before .before .past .given .1) .is) (c .before .before .before .before .before .before .before .before .read-template .ensures .1 .1), c .before .before .before .before .before .before .before .before .read-template .kept .1 .1 .1 .1 .1 .1 .0 ∙ i .6, c .before .before .before .before .before .before .before .before .read-template .kept .1 .0 ∙ i .7)
+    let loop = c .before .before .before .before .before .before .before .before .before .before .before .before .loop in
+    let loop-test = c .before .before .before .before .before .before .before .before .before .before .before .loop-test in
+    let read-template = c .before .before .before .before .before .before .before .before .read-template in
+    let past = c .before .before .past in
+    let i = loop .inv in
+    let less = loop-test .taken in
+    let d = templates-on _ _ _ _ _ _ less (read-template .ensures .0, read-template .ensures .1 .0) (k .1 .0) (past .given .1) (c .summary-after .ensures) in
+    let small = next-small _ _ _ _ _ (k .1 .0) (read-template .ensures .0, read-template .ensures .1 .0) (past .given .1) (k .0) in (
+      search needs,
+      next-unfilled _ _ _ _ _ (k .1 .0) (read-template .ensures .0, read-template .ensures .1 .0) (past .given .1) less (i .1),
+      rw (c .summary-after .ensures) (omega arith),
+      i .3 ∙ d .0,
+      i .4 ∙ d .1,
+      marking-more _ _ _ _ _ (i .5) _ less (this _ _ _ _ _ (k .1 .0) (read-template .ensures .0, read-template .ensures .1 .0) (past .given .1) .is)
+          (read-template .ensures .1 .1),
+      read-template .kept .1 .1 .1 .1 .1 .1 .0 ∙ i .6,
+      read-template .kept .1 .0 ∙ i .7,
+    )
 
 same-length-2 : tie.Need-same-length-2 Inv-loop μ-loop
 same-length-2 c = search needs
 
 returns-2 : tie.Need-returns-2 Inv-loop μ-loop
-returns-2 c = let i = c .before .loop .inv in let d = templates-none _ _ _ _ _ _ (c .loop-test .left) in (d .0 ∙ sym (i .3), (d .1 ∙ sym (i .4), marking-done _ _ _ _ _ (i .5) (c .loop-test .left)))
+returns-2 c =
+    let i = c .before .loop .inv in
+    let d = templates-none _ _ _ _ _ _ (c .loop-test .left) in
+    (d .0 ∙ sym (i .3), (d .1 ∙ sym (i .4), marking-done _ _ _ _ _ (i .5) (c .loop-test .left)))
 
 cast-t14 : tie.Need-cast-t14 Inv-loop μ-loop
 cast-t14 c = search needs

@@ -22,13 +22,22 @@ enum-told : tie.Need-enum-told
 enum-told c = search needs
 
 returns-2 : tie.Need-returns-2
-returns-2 c = also-by (count-cut _ _ (c .before .before .before .if1 .left) (field-cut _ _ _ (c .before .before .read-field .ensures) (c .enum-told .given .1))) (tree-unmarked _ _ _ _)
+returns-2 c =
+    let if1 = c .before .before .before .if1 in
+    also-by (count-cut _ _ (if1 .left) (field-cut _ _ _ (c .before .before .read-field .ensures) (c .enum-told .given .1))) (tree-unmarked _ _ _ _)
 
 returns-3 : tie.Need-returns-3
-returns-3 c = also-by (count-none _ _ (c .before .before .before .before .before .if1 .left) (field-read _ _ _ (c .before .before .before .before .read-field .ensures) (c .before .before .count .given .1)) (c .if2 .taken)) (tree-unmarked _ _ _ _)
+returns-3 c =
+    let if1 = c .before .before .before .before .before .if1 in
+    let read-field = c .before .before .before .before .read-field in
+    also-by (count-none _ _ (if1 .left) (field-read _ _ _ (read-field .ensures) (c .before .before .count .given .1)) (c .if2 .taken)) (tree-unmarked _ _ _ _)
 
 returns-4 : tie.Need-returns-4
-returns-4 c = also-by (count-many _ _ (c .before .before .before .before .before .before .if1 .left) (field-read _ _ _ (c .before .before .before .before .before .read-field .ensures) (c .before .before .before .count .given .1)) (c .if3 .taken)) (tree-unmarked _ _ _ _)
+returns-4 c =
+    let if1 = c .before .before .before .before .before .before .if1 in
+    let read-field = c .before .before .before .before .before .read-field in
+    let count = c .before .before .before .count in
+    also-by (count-many _ _ (if1 .left) (field-read _ _ _ (read-field .ensures) (count .given .1)) (c .if3 .taken)) (tree-unmarked _ _ _ _)
 
 cast-read-templates : tie.Need-cast-read-templates
 cast-read-templates c = search needs
@@ -36,15 +45,29 @@ cast-read-templates c = search needs
 read-templates-requires : tie.Need-read-templates-requires
 read-templates-requires c κs =
     let z = c .before .before .before .before .before .before .before .before .before .before .before .before .pre in
-    let short = c .before .before .before .before .before .before .before .before .if1 .left in
-    let rows = room-rows _ (omega (arith, short)) (z .room) (field-read _ _ _ (c .before .before .before .before .before .before .before .read-field .ensures) (c .before .before .before .before .before .count .given .1)) (c .before .before .if3 .left) in
-    (c .before .before .before .before .before .before .before .before .if1 .left, (c .before .before .if3 .left, rw (c .before .before .before .before .before .before .before .before .before .before .before .before .pre .zero) (zeros-unfilled _ _ rows)))
+    let if1 = c .before .before .before .before .before .before .before .before .if1 in
+    let read-field = c .before .before .before .before .before .before .before .read-field in
+    let count = c .before .before .before .before .before .count in
+    let if3 = c .before .before .if3 in
+    let short = if1 .left in
+    let rows = room-rows _ (omega (arith, short)) (z .room) (field-read _ _ _ (read-field .ensures) (count .given .1)) (if3 .left) in
+    (if1 .left, (if3 .left, rw (z .zero) (zeros-unfilled _ _ rows)))
 
 enum-known-past : tie.Need-enum-known-past
 enum-known-past c = search needs
 
 read-end-requires : tie.Need-read-end-requires
-read-end-requires c κs = (c .before .before .before .before .before .before .before .before .before .before .before .before .before .before .before .before .if1 .left, file-within _ _ (c .before .before .before .before .before .before .before .before .before .before .before .before .before .before .before .before .if1 .left) (field-read _ _ _ (c .before .before .before .before .before .before .before .before .before .before .before .before .before .before .before .read-field .ensures) (c .before .before .before .before .before .before .before .before .before .before .before .before .before .count .given .1)) (c .before .before .before .before .before .before .before .before .before .before .before .if2 .left) (c .before .before .before .before .before .before .before .before .before .before .if3 .left) (c .before .before .before .before .before .before .before .read-templates .ensures .0) (c .before .before .before .before .before .before .before .read-templates .ensures .1 .0) (c .before .past .given .1))
+read-end-requires c κs =
+    let if1 = c .before .before .before .before .before .before .before .before .before .before .before .before .before .before .before .before .if1 in
+    let read-field = c .before .before .before .before .before .before .before .before .before .before .before .before .before .before .before .read-field in
+    let count = c .before .before .before .before .before .before .before .before .before .before .before .before .before .count in
+    let if2 = c .before .before .before .before .before .before .before .before .before .before .before .if2 in
+    let if3 = c .before .before .before .before .before .before .before .before .before .before .if3 in
+    let read-templates = c .before .before .before .before .before .before .before .read-templates in (
+      if1 .left,
+      file-within _ _ (if1 .left) (field-read _ _ _ (read-field .ensures) (count .given .1)) (if2 .left) (if3 .left) (read-templates .ensures .0)
+          (read-templates .ensures .1 .0) (c .before .past .given .1),
+    )
 
 enum-told-2 : tie.Need-enum-told-2
 enum-told-2 c = search needs
@@ -59,19 +82,54 @@ same-length : tie.Need-same-length
 same-length c = search needs
 
 returns-5 : tie.Need-returns-5
-returns-5 c = also (file-read _ _ (c .before .before .before .before .before .before .before .before .before .before .before .before .before .before .before .before .before .before .before .if1 .left) (field-read _ _ _ (c .before .before .before .before .before .before .before .before .before .before .before .before .before .before .before .before .before .before .read-field .ensures) (c .before .before .before .before .before .before .before .before .before .before .before .before .before .before .before .before .count .given .1)) (c .before .before .before .before .before .before .before .before .before .before .before .before .before .before .if2 .left) (c .before .before .before .before .before .before .before .before .before .before .before .before .before .if3 .left) (c .before .before .before .before .before .before .before .before .before .before .read-templates .ensures .0) (c .before .before .before .before .before .before .before .before .before .before .read-templates .ensures .1 .0) (c .before .before .before .before .past .given .1) (c .before .before .read-end .ensures) (c .enum-told2 .given .1)) (tree-marked _ _ _ _ (field-read _ _ _ (c .before .before .before .before .before .before .before .before .before .before .before .before .before .before .before .before .before .before .read-field .ensures) (c .before .before .before .before .before .before .before .before .before .before .before .before .before .before .before .before .count .given .1)) (c .before .before .before .before .before .before .before .before .before .before .read-templates .ensures .1 .1))
+returns-5 c =
+    let if1 = c .before .before .before .before .before .before .before .before .before .before .before .before .before .before .before .before .before
+    .before .before .if1 in
+    let read-field = c .before .before .before .before .before .before .before .before .before .before .before .before .before .before .before .before
+    .before .before .read-field in
+    let count = c .before .before .before .before .before .before .before .before .before .before .before .before .before .before .before .before .count in
+    let if2 = c .before .before .before .before .before .before .before .before .before .before .before .before .before .before .if2 in
+    let if3 = c .before .before .before .before .before .before .before .before .before .before .before .before .before .if3 in
+    let read-templates = c .before .before .before .before .before .before .before .before .before .before .read-templates in
+    let past = c .before .before .before .before .past in
+    also (file-read _ _ (if1 .left) (field-read _ _ _ (read-field .ensures) (count .given .1)) (if2 .left) (if3 .left) (read-templates .ensures .0)
+    (read-templates .ensures .1 .0) (past .given .1) (c .before .before .read-end .ensures) (c .enum-told2 .given .1))
+    (tree-marked _ _ _ _ (field-read _ _ _ (read-field .ensures) (count .given .1)) (read-templates .ensures .1 .1))
 
 same-length-2 : tie.Need-same-length-2
 same-length-2 c = search needs
 
 returns-6 : tie.Need-returns-6
-returns-6 c = also (file-set _ _ (c .before .before .before .before .before .before .before .before .before .before .before .before .before .before .before .before .before .before .before .before .if1 .left) (field-read _ _ _ (c .before .before .before .before .before .before .before .before .before .before .before .before .before .before .before .before .before .before .before .read-field .ensures) (c .before .before .before .before .before .before .before .before .before .before .before .before .before .before .before .before .before .count .given .1)) (c .before .before .before .before .before .before .before .before .before .before .before .before .before .before .before .if2 .left) (c .before .before .before .before .before .before .before .before .before .before .before .before .before .before .if3 .left) (c .before .before .before .before .before .before .before .before .before .before .before .read-templates .ensures .0) (c .before .before .before .before .before .before .before .before .before .before .before .read-templates .ensures .1 .0) (c .before .before .before .before .before .past .given .1) (c .before .before .before .read-end .ensures) (c .before .place .given .1)) (tree-marked _ _ _ _ (field-read _ _ _ (c .before .before .before .before .before .before .before .before .before .before .before .before .before .before .before .before .before .before .before .read-field .ensures) (c .before .before .before .before .before .before .before .before .before .before .before .before .before .before .before .before .before .count .given .1)) (c .before .before .before .before .before .before .before .before .before .before .before .read-templates .ensures .1 .1))
+returns-6 c =
+    let if1 = c .before .before .before .before .before .before .before .before .before .before .before .before .before .before .before .before .before
+    .before .before .before .if1 in
+    let read-field = c .before .before .before .before .before .before .before .before .before .before .before .before .before .before .before .before
+    .before .before .before .read-field in
+    let count = c .before .before .before .before .before .before .before .before .before .before .before .before .before .before .before .before .before
+    .count in
+    let if2 = c .before .before .before .before .before .before .before .before .before .before .before .before .before .before .before .if2 in
+    let if3 = c .before .before .before .before .before .before .before .before .before .before .before .before .before .before .if3 in
+    let read-templates = c .before .before .before .before .before .before .before .before .before .before .before .read-templates in
+    let past = c .before .before .before .before .before .past in
+    let read-end = c .before .before .before .read-end in
+    also (file-set _ _ (if1 .left) (field-read _ _ _ (read-field .ensures) (count .given .1)) (if2 .left) (if3 .left) (read-templates .ensures .0)
+    (read-templates .ensures .1 .0) (past .given .1) (read-end .ensures) (c .before .place .given .1))
+    (tree-marked _ _ _ _ (field-read _ _ _ (read-field .ensures) (count .given .1)) (read-templates .ensures .1 .1))
 
 same-length-3 : tie.Need-same-length-3
 same-length-3 c = search needs
 
 returns-7 : tie.Need-returns-7
-returns-7 c = also (file-stop _ _ (c .before .before .before .before .before .before .before .before .before .before .before .before .before .before .before .before .if1 .left) (field-read _ _ _ (c .before .before .before .before .before .before .before .before .before .before .before .before .before .before .before .read-field .ensures) (c .before .before .before .before .before .before .before .before .before .before .before .before .before .count .given .1)) (c .before .before .before .before .before .before .before .before .before .before .before .if2 .left) (c .before .before .before .before .before .before .before .before .before .before .if3 .left) (c .before .before .before .before .before .before .before .read-templates .ensures .0) (c .before .before .before .before .before .before .before .read-templates .ensures .1 .0) (c .before .no .given .1)) (tree-marked _ _ _ _ (field-read _ _ _ (c .before .before .before .before .before .before .before .before .before .before .before .before .before .before .before .read-field .ensures) (c .before .before .before .before .before .before .before .before .before .before .before .before .before .count .given .1)) (c .before .before .before .before .before .before .before .read-templates .ensures .1 .1))
+returns-7 c =
+    let if1 = c .before .before .before .before .before .before .before .before .before .before .before .before .before .before .before .before .if1 in
+    let read-field = c .before .before .before .before .before .before .before .before .before .before .before .before .before .before .before .read-field in
+    let count = c .before .before .before .before .before .before .before .before .before .before .before .before .before .count in
+    let if2 = c .before .before .before .before .before .before .before .before .before .before .before .if2 in
+    let if3 = c .before .before .before .before .before .before .before .before .before .before .if3 in
+    let read-templates = c .before .before .before .before .before .before .before .read-templates in
+    also (file-stop _ _ (if1 .left) (field-read _ _ _ (read-field .ensures) (count .given .1)) (if2 .left) (if3 .left) (read-templates .ensures .0)
+    (read-templates .ensures .1 .0) (c .before .no .given .1))
+    (tree-marked _ _ _ _ (field-read _ _ _ (read-field .ensures) (count .given .1)) (read-templates .ensures .1 .1))
 
 same-length-4 : tie.Need-same-length-4
 same-length-4 c = search needs

@@ -15,15 +15,37 @@ returns-2 c = (omega arith, (λ e. absurd (omega (arith, e)), λ e. absurd (omeg
 
 returns-3 : tie.Need-returns-3
 returns-3 c =
-    (omega arith, (λ e. absurd (omega (arith, e)), λ e. (λ few. omega (arith, c .before .before .before .count-of .ensures, c .before .if2 .left), omega (arith, c .before .before .if1 .left)), λ e. absurd (omega (arith, e))))
+    let count-of = c .before .before .before .count-of in (
+      omega arith,
+      (
+        λ e. absurd (omega (arith, e)),
+        λ e. (λ few. omega (arith, count-of .ensures, c .before .if2 .left), omega (arith, c .before .before .if1 .left)),
+        λ e. absurd (omega (arith, e)),
+      ),
+    )
 
 returns-4 : tie.Need-returns-4
 returns-4 c =
-    (omega arith, (λ e. absurd (omega (arith, e)), λ e. (λ few. omega (arith, c .before .before .before .before .count-of .ensures, c .before .before .if2 .left), omega (arith, c .before .before .before .if1 .left)), λ e. absurd (omega (arith, e))))
+    let count-of = c .before .before .before .before .count-of in
+    let if1 = c .before .before .before .if1 in (
+      omega arith,
+      (
+        λ e. absurd (omega (arith, e)),
+        λ e. (λ few. omega (arith, count-of .ensures, c .before .before .if2 .left), omega (arith, if1 .left)),
+        λ e. absurd (omega (arith, e)),
+      ),
+    )
 
 returns-5 : tie.Need-returns-5
 returns-5 c =
-    (omega arith, (λ e. (λ few. omega (arith, c .before .before .before .before .count-of .ensures, c .before .if3 .left), omega (arith, c .if4 .left)), λ e. absurd (omega (arith, e)), λ e. absurd (omega (arith, e))))
+    let count-of = c .before .before .before .before .count-of in (
+      omega arith,
+      (
+        λ e. (λ few. omega (arith, count-of .ensures, c .before .if3 .left), omega (arith, c .if4 .left)),
+        λ e. absurd (omega (arith, e)),
+        λ e. absurd (omega (arith, e)),
+      ),
+    )
 
 pub tier-of-spec : {M : Type 1} → statement M
 tier-of-spec = tie.close (tie.spec count-of-requires returns returns-2 returns-3 returns-4 returns-5)

@@ -34,7 +34,9 @@ within-requires c κs = search needs
 line-at-requires : tie.Need-line-at-requires Inv-loop μ-loop
 line-at-requires c κs =
     let pre = c .before .before .before .before .before .before .before .pre in
-    let fits = lies (c .before .before .before .before .before .before .before .args .file .now) (c .before .before .loop .here .0) 5 (c .before .within .ensures) (c .if2 .taken) in (omega (arith, pre), omega (arith, fits))
+    let args = c .before .before .before .before .before .before .before .args in
+    let fits = lies (args .file .now) (c .before .before .loop .here .0) 5 (c .before .within .ensures) (c .if2 .taken) in
+    (omega (arith, pre), omega (arith, fits))
 
 fetch-line-requires : tie.Need-fetch-line-requires Inv-loop μ-loop
 fetch-line-requires c κs =
@@ -43,23 +45,32 @@ fetch-line-requires c κs =
 
 returns-2 : tie.Need-returns-2 Inv-loop μ-loop
 returns-2 c =
-    let fits = leb-true _ _ (sym (c .before .before .before .before .within .ensures) ∙ c .before .before .before .if2 .taken) in
+    let is-first = c .before .before .before .before .before .before .before .is-first in
+    let if1 = c .before .before .before .before .before .before .if1 in
+    let loop = c .before .before .before .before .before .loop in
+    let within = c .before .before .before .before .within in
+    let if2 = c .before .before .before .if2 in
+    let fits = leb-true _ _ (sym (within .ensures) ∙ if2 .taken) in
     let line = c .before .before .line-at .ensures .0 in
     let more = c .before .if3 .taken in (
-      λ table t.
-          c .fetch-line .ensures .0 table t
-          ∙ code-fetched _ _ _ _ _ (c .before .before .before .before .before .loop .inv .0) table t (eqb-false _ 0 (sym (c .before .before .before .before .before .before .before .is-first .ensures) ∙ c .before .before .before .before .before .before .if1 .left)) _ _ (line-read _ _ _ line fits) (λ z. omega (arith, more)),
+      λ table t. c .fetch-line .ensures .0 table t ∙ code-fetched _ _ _ _ _ (loop .inv .0) table t (eqb-false _ 0 (sym (is-first .ensures) ∙ if1 .left)) _ _
+          (line-read _ _ _ line fits) (λ z. omega (arith, more)),
       c .fetch-line .ensures .1,
     )
 
 returns-3 : tie.Need-returns-3 Inv-loop μ-loop
 unfolding Places
 returns-3 c =
-    let fits = leb-true _ _ (sym (c .before .before .before .before .within .ensures) ∙ c .before .before .before .if2 .taken) in
+    let is-first = c .before .before .before .before .before .before .before .is-first in
+    let if1 = c .before .before .before .before .before .before .if1 in
+    let loop = c .before .before .before .before .before .loop in
+    let within = c .before .before .before .before .within in
+    let if2 = c .before .before .before .if2 in
+    let fits = leb-true _ _ (sym (within .ensures) ∙ if2 .taken) in
     let line = c .before .before .line-at .ensures .0 in
     let less = c .before .if3 .left in (
-      λ table t.
-          end-fetched _ _ _ _ _ (c .before .before .before .before .before .loop .inv .0) table t (eqb-false _ 0 (sym (c .before .before .before .before .before .before .before .is-first .ensures) ∙ c .before .before .before .before .before .before .if1 .left)) _ _ (line-read _ _ _ line fits) (omega (arith, less)) (c .if4 .taken),
+      λ table t. end-fetched _ _ _ _ _ (loop .inv .0) table t (eqb-false _ 0 (sym (is-first .ensures) ∙ if1 .left)) _ _ (line-read _ _ _ line fits)
+          (omega (arith, less)) (c .if4 .taken),
       tt,
     )
 
@@ -74,18 +85,24 @@ loop-less c = omega arith
 
 loop-again : tie.Need-loop-again Inv-loop μ-loop
 loop-again c =
-    let fits = leb-true _ _ (sym (c .before .before .before .before .before .within .ensures) ∙ c .before .before .before .before .if2 .taken) in
-    let line = c .before .before .before .line-at .ensures .0 in
-    let less = c .before .before .if3 .left in (
-      end-followed _ _ _ _ _ (c .before .before .before .before .before .before .loop .inv .0) _ _ (line-read _ _ _ line fits) (omega (arith, less)) (c .before .if4 .left) _ (c .link-at .ensures),
-      omega arith,
-    )
+    let loop = c .before .before .before .before .before .before .loop in
+    let within = c .before .before .before .before .before .within in
+    let if2 = c .before .before .before .before .if2 in
+    let line-at = c .before .before .before .line-at in
+    let fits = leb-true _ _ (sym (within .ensures) ∙ if2 .taken) in
+    let line = line-at .ensures .0 in
+    let less = c .before .before .if3 .left in
+    (end-followed _ _ _ _ _ (loop .inv .0) _ _ (line-read _ _ _ line fits) (omega (arith, less)) (c .before .if4 .left) _ (c .link-at .ensures), omega arith)
 
 returns-4 : tie.Need-returns-4 Inv-loop μ-loop
 unfolding Places
 returns-4 c =
-    let gone = leb-false _ _ (sym (c .before .within .ensures) ∙ c .if2 .left) in
-    (λ table t. cut-fetched _ _ _ _ _ (c .before .before .loop .inv .0) table t (eqb-false _ 0 (sym (c .before .before .before .before .is-first .ensures) ∙ c .before .before .before .if1 .left)) (sym (cut _ _ 5 gone)), tt)
+    let is-first = c .before .before .before .before .is-first in
+    let if1 = c .before .before .before .if1 in
+    let gone = leb-false _ _ (sym (c .before .within .ensures) ∙ c .if2 .left) in (
+      λ table t. cut-fetched _ _ _ _ _ (c .before .before .loop .inv .0) table t (eqb-false _ 0 (sym (is-first .ensures) ∙ if1 .left)) (sym (cut _ _ 5 gone)),
+      tt,
+    )
 
 pub fetch-spec : {M : Type 1} → statement M
 fetch-spec =

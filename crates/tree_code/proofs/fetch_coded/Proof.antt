@@ -35,16 +35,20 @@ cast-first c = search needs
 fetch-transfer-requires : tie.Need-fetch-transfer-requires
 fetch-transfer-requires c κs =
     let p = c .before .before .before .before .before .before .before in
-    let fits = lies (p .args .file .now) (p .args .at .0) (5 + 8 * c .before .before .before .before .operand-count .result) (c .before .before .before .within .ensures) (c .before .before .if1 .taken) in
+    let operand-count = c .before .before .before .before .operand-count in
+    let within = c .before .before .before .within in
+    let fits = lies (p .args .file .now) (p .args .at .0) (5 + 8 * operand-count .result) (within .ensures) (c .before .before .if1 .taken) in
     omega (arith, fits, c .before .past .ensures, p .pre .0)
 
 returns : tie.Need-returns
 returns c =
     let p = c .before .before .before .before .before .before .before .before in
-    let fits = leb-true _ _ (sym (c .before .before .before .before .within .ensures) ∙ c .before .before .before .if1 .taken) in (
-      λ table t.
-          line-transfer _ (p .args .at .0) _ (p .pre .2) _ table t _ _ (p .pre .4) (c .before .before .before .before .before .operand-count .ensures .0) _ fits (c .before .before .past .ensures)
-          (c .before .if2 .taken) _ (c .fetch-transfer .ensures .0 (slotAt table t)),
+    let operand-count = c .before .before .before .before .before .operand-count in
+    let within = c .before .before .before .before .within in
+    let if1 = c .before .before .before .if1 in
+    let fits = leb-true _ _ (sym (within .ensures) ∙ if1 .taken) in (
+      λ table t. line-transfer _ (p .args .at .0) _ (p .pre .2) _ table t _ _ (p .pre .4) (operand-count .ensures .0) _ fits
+          (c .before .before .past .ensures) (c .before .if2 .taken) _ (c .fetch-transfer .ensures .0 (slotAt table t)),
       c .fetch-transfer .ensures .1,
     )
 
@@ -58,9 +62,11 @@ returns-2 : tie.Need-returns-2
 unfolding fetchedAs number formOf Places
 returns-2 c =
     let p = c .before .before .before .before .before .before .before in
-    let fits = leb-true _ _ (sym (c .before .before .before .within .ensures) ∙ c .before .before .if1 .taken) in (
-      λ table t.
-          line-neutral _ (p .args .at .0) _ (p .pre .2) _ table t _ _ (p .pre .4) (c .before .before .before .before .operand-count .ensures .0) _ fits (c .before .past .ensures) (c .if2 .left),
+    let operand-count = c .before .before .before .before .operand-count in
+    let within = c .before .before .before .within in
+    let fits = leb-true _ _ (sym (within .ensures) ∙ c .before .before .if1 .taken) in (
+      λ table t. line-neutral _ (p .args .at .0) _ (p .pre .2) _ table t _ _ (p .pre .4) (operand-count .ensures .0) _ fits (c .before .past .ensures)
+          (c .if2 .left),
       refl,
     )
 

@@ -39,15 +39,21 @@ run-tier-run-tier-requires t c κs =
 
 run-tier-run-small-requires : (t : ℕ) → run-tier-lts.Need-run-small-requires (calls t) (run-tier-at t) run-tier.Post
 run-tier-run-small-requires t c κs =
-    let p = c .before .before .before .before .before .before .before .before .before .before .pre in (p .1 .0, p .1 .1 .0 (c .before .before .before .before .match .keys2))
+    let p = c .before .before .before .before .before .before .before .before .before .before .pre in
+    let match = c .before .before .before .before .match in
+    (p .1 .0, p .1 .1 .0 (match .keys2))
 
 run-tier-run-middle-requires : (t : ℕ) → run-tier-lts.Need-run-middle-requires (calls t) (run-tier-at t) run-tier.Post
 run-tier-run-middle-requires t c κs =
-    let p = c .before .before .before .before .before .before .before .before .before .before .pre in (p .1 .0, p .1 .1 .1 (c .before .before .before .before .match .keys3))
+    let p = c .before .before .before .before .before .before .before .before .before .before .pre in
+    let match = c .before .before .before .before .match in
+    (p .1 .0, p .1 .1 .1 (match .keys3))
 
 run-tier-run-many-requires : (t : ℕ) → run-tier-lts.Need-run-many-requires (calls t) (run-tier-at t) run-tier.Post
 run-tier-run-many-requires t c κs =
-    let p = c .before .before .before .before .before .before .before .before .before .before .pre in (p .1 .0, p .1 .1 .2 (c .before .before .before .before .match .keys4))
+    let p = c .before .before .before .before .before .before .before .before .before .before .pre in
+    let match = c .before .before .before .before .match in
+    (p .1 .0, p .1 .1 .2 (match .keys4))
 
 run-tier-run-large-requires : (t : ℕ) → run-tier-lts.Need-run-large-requires (calls t) (run-tier-at t) run-tier.Post
 run-tier-run-large-requires t c κs = c .before .before .before .before .before .before .before .before .before .before .pre .1 .0

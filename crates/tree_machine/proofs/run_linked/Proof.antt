@@ -19,7 +19,10 @@ from-slot-requires c κs = search needs
 
 run-code-requires : tie.Need-run-code-requires
 unfolding formOf CodeReady
-run-code-requires c κs = let p = c .before .before .before .before .before .before .before .before .before .before .before .before .before .before .before .before .before .before .pre in (ready-short (p .1), search needs, search needs, search needs, search needs)
+run-code-requires c κs =
+    let p = c .before .before .before .before .before .before .before .before .before .before .before .before .before .before .before .before .before
+    .before .pre in
+    (ready-short (p .1), search needs, search needs, search needs, search needs)
 
 same-length : tie.Need-same-length
 same-length c = search needs
@@ -39,8 +42,14 @@ same-length-5 c = search needs
 returns : tie.Need-returns
 unfolding formOf number codeProgram
 returns c =
-    let p = c .before .before .before .before .before .before .before .before .before .before .before .before .before .before .before .before .before .before .before .before .before .before .before .before .before .before .before .pre in
-    linked-ran _ _ _ _ _ _ _ _ _ _ (p .1) (p .3) (p .4) (c .before .before .before .before .before .before .before .before .before .before .before .before .before .before .before .before .before .before .link-tree .ensures) (c .before .before .before .before .before .before .before .before .before .before .before .before .before .before .from-slot .ensures ∙ c .before .before .before .before .before .before .before .before .before .before .before .before .before .before .before .slot-at .ensures) (c .before .before .before .before .before .before .before .before .run-code .ensures)
+    let p = c .before .before .before .before .before .before .before .before .before .before .before .before .before .before .before .before .before
+    .before .before .before .before .before .before .before .before .before .before .pre in
+    let link-tree = c .before .before .before .before .before .before .before .before .before .before .before .before .before .before .before .before .before
+    .before .link-tree in
+    let slot-at = c .before .before .before .before .before .before .before .before .before .before .before .before .before .before .before .slot-at in
+    let from-slot = c .before .before .before .before .before .before .before .before .before .before .before .before .before .before .from-slot in
+    let run-code = c .before .before .before .before .before .before .before .before .run-code in
+    linked-ran _ _ _ _ _ _ _ _ _ _ (p .1) (p .3) (p .4) (link-tree .ensures) (from-slot .ensures ∙ slot-at .ensures) (run-code .ensures)
 
 pub run-linked-spec : {M : Type 1} → statement M
 run-linked-spec =

@@ -16,7 +16,9 @@ slice-aggregate-run-marked-2 c = search needs
 
 run-marked-requires : tie.Need-run-marked-requires
 run-marked-requires c κs =
-    (c .before .before .before .before .before .before .before .before .before .before .before .pre .0, all-rows _ refl, λ (h : length (c .before .before .before .before .before .before .before .before .before .before .before .args .file .now) ≤ 65536). omega (arith, c .before .before .before .before .before .before .before .before .before .before .before .pre .1))
+    let pre = c .before .before .before .before .before .before .before .before .before .before .before .pre in
+    let args = c .before .before .before .before .before .before .before .before .before .before .before .args in
+    (pre .0, all-rows _ refl, λ (h : length (args .file .now) ≤ 65536). omega (arith, pre .1))
 
 same-length : tie.Need-same-length
 same-length c = search needs

@@ -15,9 +15,11 @@ cast-run-linked c = search needs
 
 run-linked-requires : tie.Need-run-linked-requires
 run-linked-requires c κs =
-    let pre = c .before .before .before .before .before .before .before .before .before .before .before .before .before .before .before .before .before .before .before .before .before .before .before .before .pre in
+    let pre = c .before .before .before .before .before .before .before .before .before .before .before .before .before .before .before .before .before
+    .before .before .before .before .before .before .before .pre in
     let read = c .before .before .before .before .before .before .before .before .before .before .before .before .before .before .read-accepted in
-    let sum = c .before .before .before .before .before .before .before .before .sum .given .1 in (
+    let sum′ = c .before .before .before .before .before .before .before .before .sum in
+    let sum = sum′ .given .1 in (
       pre .0,
       file-ready _ _ _ (read .ensures .0) sum _ (pre .1) (read .ensures .1 .0),
       rw (read .kept .1 .0) (file-rows _ _ _ (read .ensures .0) sum (pre .1)),
@@ -54,7 +56,9 @@ same-length-6 : tie.Need-same-length-6
 same-length-6 c = search needs
 
 returns-2 : tie.Need-returns-2
-returns-2 c = file-refused _ _ _ _ _ _ _ _ (c .before .before .before .before .before .before .before .before .read-accepted .ensures .0) (c .before .before .number .given .1) (c .refused .ensures)
+returns-2 c =
+    let read-accepted = c .before .before .before .before .before .before .before .before .read-accepted in
+    file-refused _ _ _ _ _ _ _ _ (read-accepted .ensures .0) (c .before .before .number .given .1) (c .refused .ensures)
 
 same-length-7 : tie.Need-same-length-7
 same-length-7 c = search needs

@@ -16,7 +16,8 @@ slice-aggregate-run-marked-2 c = search needs
 run-marked-requires : tie.Need-run-marked-requires
 run-marked-requires c κs =
     let p = c .before .before .before .before .before .before .before .before .before .before .before .pre in
-    (p .0, record { size = 4096; room = p .1 .0; zero = refl }, λ (h : length (c .before .before .before .before .before .before .before .before .before .before .before .args .file .now) ≤ 65536). omega (arith, p .1 .1))
+    let args = c .before .before .before .before .before .before .before .before .before .before .before .args in
+    (p .0, record { size = 4096; room = p .1 .0; zero = refl }, λ (h : length (args .file .now) ≤ 65536). omega (arith, p .1 .1))
 
 same-length : tie.Need-same-length
 same-length c = search needs

@@ -18,7 +18,11 @@ owner-of-requires c κs = search needs
 
 run-tier-requires : tie.Need-run-tier-requires
 run-tier-requires c κs =
-    (may-start _ _ _ _ _ (c .before .before .before .before .before .before .before .start-refusal .ensures) (c .before .before .before .before .before .enum-told .given .1), (λ e. absurd (omega (arith, e)), λ e. absurd (omega (arith, e)), λ e. absurd (omega (arith, e))))
+    let start-refusal = c .before .before .before .before .before .before .before .start-refusal in
+    let enum-told = c .before .before .before .before .before .enum-told in (
+      may-start _ _ _ _ _ (start-refusal .ensures) (enum-told .given .1),
+      (λ e. absurd (omega (arith, e)), λ e. absurd (omega (arith, e)), λ e. absurd (omega (arith, e))),
+    )
 
 enum-known-number : tie.Need-enum-known-number
 enum-known-number c = search needs
@@ -41,9 +45,15 @@ same-length-4 c = search needs
 returns : tie.Need-returns
 unfolding treeRun
 returns c =
-    let told = c .before .before .before .before .before .before .before .before .before .before .before .before .before .before .before .before .start-refusal .ensures in
-    start-goes _ _ _ _ _ told _ _ (c .before .before .before .before .before .before .before .before .before .before .before .before .before .before .enum-told .given .1)
-    (file-owned _ (c .before .before .before .before .before .before .before .before .before .before .before .before .before .before .before .before .before .before .before .before .before .before .before .before .before .before .args .owner) _ _ _ _ (c .before .before .before .before .before .before .before .before .before .before .before .before .before .owner-of .ensures) (c .before .before .before .before .before .before .before .before .run-tier .ensures))
+    let args = c .before .before .before .before .before .before .before .before .before .before .before .before .before .before .before .before .before
+    .before .before .before .before .before .before .before .before .before .args in
+    let start-refusal = c .before .before .before .before .before .before .before .before .before .before .before .before .before .before .before .before
+    .start-refusal in
+    let enum-told = c .before .before .before .before .before .before .before .before .before .before .before .before .before .before .enum-told in
+    let owner-of = c .before .before .before .before .before .before .before .before .before .before .before .before .before .owner-of in
+    let run-tier = c .before .before .before .before .before .before .before .before .run-tier in
+    let told = start-refusal .ensures in
+    start-goes _ _ _ _ _ told _ _ (enum-told .given .1) (file-owned _ (args .owner) _ _ _ _ (owner-of .ensures) (run-tier .ensures))
 
 same-length-5 : tie.Need-same-length-5
 same-length-5 c = search needs
@@ -59,7 +69,9 @@ same-length-8 c = search needs
 
 returns-2 : tie.Need-returns-2
 unfolding treeRun
-returns-2 c = start-refused _ _ _ _ _ (c .before .before .before .before .start-refusal .ensures) _ _ _ _ (c .before .before .number .given .1) (c .refused .ensures)
+returns-2 c =
+    let start-refusal = c .before .before .before .before .start-refusal in
+    start-refused _ _ _ _ _ (start-refusal .ensures) _ _ _ _ (c .before .before .number .given .1) (c .refused .ensures)
 
 pub run-tree-spec : {M : Type 1} → statement M
 run-tree-spec =

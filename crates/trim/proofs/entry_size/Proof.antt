@@ -17,13 +17,25 @@ bits-at-requires-2 : tie.Need-bits-at-requires-2
 bits-at-requires-2 c κs = search needs
 
 returns-2 : tie.Need-returns-2
-returns-2 c = λ size w. size-narrow w _ (c .before .before .before .before .bits-at .ensures .0) (c .before .before .before .if1 .left) _ _ (c .before .before .past .ensures) (c .before .bits-at2 .ensures .0) (c .if2 .taken)
+returns-2 c =
+    let bits-at = c .before .before .before .before .bits-at in
+    let if1 = c .before .before .before .if1 in
+    λ size w. size-narrow w _ (bits-at .ensures .0) (if1 .left) _ _ (c .before .before .past .ensures) (c .before .bits-at2 .ensures .0) (c .if2 .taken)
 
 returns-3 : tie.Need-returns-3
-returns-3 c = λ size w. size-wide w _ (c .before .before .before .before .before .bits-at .ensures .0) (c .before .before .before .before .if1 .left) _ _ (c .before .before .before .past .ensures) (c .before .before .bits-at2 .ensures .0) (c .if3 .taken)
+returns-3 c =
+    let bits-at = c .before .before .before .before .before .bits-at in
+    let if1 = c .before .before .before .before .if1 in
+    let past = c .before .before .before .past in
+    λ size w. size-wide w _ (bits-at .ensures .0) (if1 .left) _ _ (past .ensures) (c .before .before .bits-at2 .ensures .0) (c .if3 .taken)
 
 returns-4 : tie.Need-returns-4
-returns-4 c = λ size w. size-plain w _ (c .before .before .before .before .before .bits-at .ensures .0) (c .before .before .before .before .if1 .left) _ _ (c .before .before .before .past .ensures) (c .before .before .bits-at2 .ensures .0) (c .before .if2 .left) (c .if3 .left)
+returns-4 c =
+    let bits-at = c .before .before .before .before .before .bits-at in
+    let if1 = c .before .before .before .before .if1 in
+    let past = c .before .before .before .past in
+    λ size w. size-plain w _ (bits-at .ensures .0) (if1 .left) _ _ (past .ensures) (c .before .before .bits-at2 .ensures .0) (c .before .if2 .left)
+    (c .if3 .left)
 
 pub entry-size-spec : {M : Type 1} → statement M
 entry-size-spec =

@@ -30,10 +30,16 @@ enum-known-place : tie.Need-enum-known-place
 enum-known-place c = search needs
 
 returns : tie.Need-returns
-returns c = λ here w. span-done w _ (c .before .before .before .before .before .before .from-slot .ensures) _ _ (sym (c .before .before .before .before .read-list .ensures .0) ∙ c .before .past .given .1)
+returns c =
+    let from-slot = c .before .before .before .before .before .before .from-slot in
+    let read-list = c .before .before .before .before .read-list in
+    λ here w. span-done w _ (from-slot .ensures) _ _ (sym (read-list .ensures .0) ∙ c .before .past .given .1)
 
 returns-2 : tie.Need-returns-2
-returns-2 c = λ here w. span-refused w _ (c .before .before .before .before .before .before .from-slot .ensures) _ _ (sym (c .before .before .before .before .read-list .ensures .0) ∙ c .before .place .given .1)
+returns-2 c =
+    let from-slot = c .before .before .before .before .before .before .from-slot in
+    let read-list = c .before .before .before .before .read-list in
+    λ here w. span-refused w _ (from-slot .ensures) _ _ (sym (read-list .ensures .0) ∙ c .before .place .given .1)
 
 pub list-of-spec : {M : Type 1} → statement M
 list-of-spec =

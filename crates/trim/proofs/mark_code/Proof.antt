@@ -12,10 +12,16 @@ returns-2 : tie.Need-returns-2
 returns-2 c = mark-high _ _ _ (c .if2 .taken)
 
 past-requires : tie.Need-past-requires
-past-requires c κs = let h = c .before .before .before .before .pre .2 (c .before .if1 .left) (c .if2 .left) in omega (arith, c .before .before .before .before .pre .0)
+past-requires c κs =
+    let pre = c .before .before .before .before .pre in
+    let h = pre .2 (c .before .if1 .left) (c .if2 .left) in
+    omega (arith, pre .0)
 
 bits-at-requires : tie.Need-bits-at-requires
-bits-at-requires c κs = let h = c .before .before .before .before .before .pre .2 (c .before .before .if1 .left) (c .before .if2 .left) in (c .before .before .before .before .before .pre .0, (omega arith, omega (arith, c .past .ensures)))
+bits-at-requires c κs =
+    let pre = c .before .before .before .before .before .pre in
+    let h = pre .2 (c .before .before .if1 .left) (c .before .if2 .left) in
+    (pre .0, (omega arith, omega (arith, c .past .ensures)))
 
 cast-row : tie.Need-cast-row
 cast-row c = search needs

@@ -35,13 +35,18 @@ operand-count-requires : tie.Need-operand-count-requires Inv-loop μ-loop
 operand-count-requires c κs = search needs
 
 mark-code-requires : tie.Need-mark-code-requires Inv-loop μ-loop
-mark-code-requires c κs = let p = c .before .before .before .before .before .before .before .before .pre in
-    let v = c .before .before .before .before .before .loop .inv in
+mark-code-requires c κs =
+    let p = c .before .before .before .before .before .before .before .before .pre in
+    let loop = c .before .before .before .before .before .loop in
+    let loop-test = c .before .before .before .before .loop-test in
+    let bits-at = c .before .before .before .bits-at in
+    let v = loop .inv in
     let l = v .1 (p .2) in
-    let t = c .before .before .before .before .loop-test .taken in
+    let t = loop-test .taken in
     let k = marking-code l t in
     let counted = c .before .operand-count .ensures ∙ ap operandCount (c .before .before .shape-of .ensures) in
-    let m = marking-operands l t _ _ (c .before .before .before .bits-at .ensures .0) counted in (p .0, v .0, marking-index l t _ _ (c .before .before .before .bits-at .ensures .0) counted)
+    let m = marking-operands l t _ _ (bits-at .ensures .0) counted in
+    (p .0, v .0, marking-index l t _ _ (bits-at .ensures .0) counted)
 
 mul-past : tie.Need-mul-past Inv-loop μ-loop
 mul-past c = let p = c .before .before .before .before .before .before .before .before .before .before .before .pre in
@@ -71,51 +76,86 @@ past-requires c κs = let p = c .before .before .before .before .before .before 
     let m = marking-operands l t _ _ (c .before .before .before .before .before .before .bits-at .ensures .0) counted in omega (arith, k, m, p .0)
 
 mul-left : tie.Need-mul-left Inv-loop μ-loop
-mul-left c = let p = c .before .before .before .before .before .before .before .before .before .before .before .before .pre in
-    let v = c .before .before .before .before .before .before .before .before .before .loop .inv in
+mul-left c =
+    let p = c .before .before .before .before .before .before .before .before .before .before .before .before .pre in
+    let loop = c .before .before .before .before .before .before .before .before .before .loop in
+    let loop-test = c .before .before .before .before .before .before .before .before .loop-test in
+    let bits-at = c .before .before .before .before .before .before .before .bits-at in
+    let shape-of = c .before .before .before .before .before .before .shape-of in
+    let operand-count = c .before .before .before .before .before .operand-count in
+    let v = loop .inv in
     let l = v .1 (p .2) in
-    let t = c .before .before .before .before .before .before .before .before .loop-test .taken in
+    let t = loop-test .taken in
     let k = marking-code l t in
-    let counted = c .before .before .before .before .before .operand-count .ensures ∙ ap operandCount (c .before .before .before .before .before .before .shape-of .ensures) in
-    let m = marking-operands l t _ _ (c .before .before .before .before .before .before .before .bits-at .ensures .0) counted in omega (arith, k, m, p .0)
+    let counted = operand-count .ensures ∙ ap operandCount (shape-of .ensures) in
+    let m = marking-operands l t _ _ (bits-at .ensures .0) counted in
+    omega (arith, k, m, p .0)
 
 add-left : tie.Need-add-left Inv-loop μ-loop
-add-left c = let p = c .before .before .before .before .before .before .before .before .before .before .before .before .pre in
-    let v = c .before .before .before .before .before .before .before .before .before .loop .inv in
+add-left c =
+    let p = c .before .before .before .before .before .before .before .before .before .before .before .before .pre in
+    let loop = c .before .before .before .before .before .before .before .before .before .loop in
+    let loop-test = c .before .before .before .before .before .before .before .before .loop-test in
+    let bits-at = c .before .before .before .before .before .before .before .bits-at in
+    let shape-of = c .before .before .before .before .before .before .shape-of in
+    let operand-count = c .before .before .before .before .before .operand-count in
+    let v = loop .inv in
     let l = v .1 (p .2) in
-    let t = c .before .before .before .before .before .before .before .before .loop-test .taken in
+    let t = loop-test .taken in
     let k = marking-code l t in
-    let counted = c .before .before .before .before .before .operand-count .ensures ∙ ap operandCount (c .before .before .before .before .before .before .shape-of .ensures) in
-    let m = marking-operands l t _ _ (c .before .before .before .before .before .before .before .bits-at .ensures .0) counted in omega (arith, k, m, p .0)
+    let counted = operand-count .ensures ∙ ap operandCount (shape-of .ensures) in
+    let m = marking-operands l t _ _ (bits-at .ensures .0) counted in
+    omega (arith, k, m, p .0)
 
 sub-left : tie.Need-sub-left Inv-loop μ-loop
-sub-left c = let p = c .before .before .before .before .before .before .before .before .before .before .before .before .pre in
-    let v = c .before .before .before .before .before .before .before .before .before .loop .inv in
+sub-left c =
+    let p = c .before .before .before .before .before .before .before .before .before .before .before .before .pre in
+    let loop = c .before .before .before .before .before .before .before .before .before .loop in
+    let loop-test = c .before .before .before .before .before .before .before .before .loop-test in
+    let bits-at = c .before .before .before .before .before .before .before .bits-at in
+    let shape-of = c .before .before .before .before .before .before .shape-of in
+    let operand-count = c .before .before .before .before .before .operand-count in
+    let v = loop .inv in
     let l = v .1 (p .2) in
-    let t = c .before .before .before .before .before .before .before .before .loop-test .taken in
+    let t = loop-test .taken in
     let k = marking-code l t in
-    let counted = c .before .before .before .before .before .operand-count .ensures ∙ ap operandCount (c .before .before .before .before .before .before .shape-of .ensures) in
-    let m = marking-operands l t _ _ (c .before .before .before .before .before .before .before .bits-at .ensures .0) counted in omega (arith, k, m, p .0)
+    let counted = operand-count .ensures ∙ ap operandCount (shape-of .ensures) in
+    let m = marking-operands l t _ _ (bits-at .ensures .0) counted in
+    omega (arith, k, m, p .0)
 
 loop-less : tie.Need-loop-less Inv-loop μ-loop
-loop-less c = let p = c .before .before .before .before .before .before .before .before .before .before .before .before .pre in
-    let v = c .before .before .before .before .before .before .before .before .before .loop .inv in
+loop-less c =
+    let p = c .before .before .before .before .before .before .before .before .before .before .before .before .pre in
+    let loop = c .before .before .before .before .before .before .before .before .before .loop in
+    let loop-test = c .before .before .before .before .before .before .before .before .loop-test in
+    let bits-at = c .before .before .before .before .before .before .before .bits-at in
+    let shape-of = c .before .before .before .before .before .before .shape-of in
+    let operand-count = c .before .before .before .before .before .operand-count in
+    let v = loop .inv in
     let l = v .1 (p .2) in
-    let t = c .before .before .before .before .before .before .before .before .loop-test .taken in
+    let t = loop-test .taken in
     let k = marking-code l t in
-    let counted = c .before .before .before .before .before .operand-count .ensures ∙ ap operandCount (c .before .before .before .before .before .before .shape-of .ensures) in
-    let m = marking-operands l t _ _ (c .before .before .before .before .before .before .before .bits-at .ensures .0) counted in omega (arith, k, m)
+    let counted = operand-count .ensures ∙ ap operandCount (shape-of .ensures) in
+    let m = marking-operands l t _ _ (bits-at .ensures .0) counted in
+    omega (arith, k, m)
 
 loop-again : tie.Need-loop-again Inv-loop μ-loop
-loop-again c = let p = c .before .before .before .before .before .before .before .before .before .before .before .before .pre in
-    let v = c .before .before .before .before .before .before .before .before .before .loop .inv in
+loop-again c =
+    let p = c .before .before .before .before .before .before .before .before .before .before .before .before .pre in
+    let loop = c .before .before .before .before .before .before .before .before .before .loop in
+    let loop-test = c .before .before .before .before .before .before .before .before .loop-test in
+    let bits-at = c .before .before .before .before .before .before .before .bits-at in
+    let shape-of = c .before .before .before .before .before .before .shape-of in
+    let operand-count = c .before .before .before .before .before .operand-count in
+    let mark-code = c .before .before .before .mark-code in
+    let v = loop .inv in
     let l = v .1 (p .2) in
-    let t = c .before .before .before .before .before .before .before .before .loop-test .taken in
+    let t = loop-test .taken in
     let k = marking-code l t in
-    let counted = c .before .before .before .before .before .operand-count .ensures ∙ ap operandCount (c .before .before .before .before .before .before .shape-of .ensures) in
-    let m = marking-operands l t _ _ (c .before .before .before .before .before .before .before .bits-at .ensures .0) counted in
-    let e = c .before .before .before .mark-code .ensures in
-    (ap length e ∙ mark-length _ _ _ ∙ v .0, λ w. rw (c .past .ensures) (marking-on (v .1 w) t _ _ (c .before .before .before .before .before .before .before .bits-at .ensures .0) counted _ e))
+    let counted = operand-count .ensures ∙ ap operandCount (shape-of .ensures) in
+    let m = marking-operands l t _ _ (bits-at .ensures .0) counted in
+    let e = mark-code .ensures in
+    (ap length e ∙ mark-length _ _ _ ∙ v .0, λ w. rw (c .past .ensures) (marking-on (v .1 w) t _ _ (bits-at .ensures .0) counted _ e))
 
 same-length : tie.Need-same-length Inv-loop μ-loop
 same-length c = search needs

@@ -28,10 +28,16 @@ loop-less : tie.Need-loop-less Inv-loop μ-loop
 loop-less c = search needs
 
 loop-again : tie.Need-loop-again Inv-loop μ-loop
-loop-again c = let v = c .before .before .before .before .before .loop .inv in
-    let l = c .before .before .before .before .loop-test .taken in
-    let e = c .before .before .reach-from .ensures in
-    (omega arith, ap length (e .1) ∙ marked-length _ _ _ ∙ v .1, λ w. let r = v .2 w in let m = rw (w .count-is) at l in reaching-on r m (v .1) _ _ (e .0 _ (reaching-first r m (v .1))) (e .1))
+loop-again c =
+    let loop = c .before .before .before .before .before .loop in
+    let loop-test = c .before .before .before .before .loop-test in
+    let v = loop .inv in
+    let l = loop-test .taken in
+    let e = c .before .before .reach-from .ensures in (
+      omega arith,
+      ap length (e .1) ∙ marked-length _ _ _ ∙ v .1,
+      λ w. let r = v .2 w in let m = rw (w .count-is) at l in reaching-on r m (v .1) _ _ (e .0 _ (reaching-first r m (v .1))) (e .1),
+    )
 
 same-length : tie.Need-same-length Inv-loop μ-loop
 same-length c = search needs

@@ -17,7 +17,11 @@ loop-holds : tie.Need-loop-holds Inv-loop μ-loop
 loop-holds c = (omega arith, numbering-none _)
 
 number-one-requires : tie.Need-number-one-requires Inv-loop μ-loop
-number-one-requires c κs = let v = c .before .before .loop .inv in let l = c .before .loop-test .taken in let p = c .before .before .before .before .pre in (omega (arith, v .1 .same, p .0), numbering-fits (v .1) (omega (arith, p .0)) _ l (p .1))
+number-one-requires c κs =
+    let p = c .before .before .before .before .pre in
+    let v = c .before .before .loop .inv in
+    let l = c .before .loop-test .taken in
+    (omega (arith, v .1 .same, p .0), numbering-fits (v .1) (omega (arith, p .0)) _ l (p .1))
 
 add-i : tie.Need-add-i Inv-loop μ-loop
 add-i c = search needs
@@ -26,7 +30,14 @@ loop-less : tie.Need-loop-less Inv-loop μ-loop
 loop-less c = search needs
 
 loop-again : tie.Need-loop-again Inv-loop μ-loop
-loop-again c = let v = c .before .before .before .before .before .loop .inv in let l = c .before .before .before .before .loop-test .taken in let p = c .before .before .before .before .before .before .before .pre in let e = c .before .before .number-one .ensures in (omega arith, numbering-on (v .1) (omega (arith, p .0)) _ _ (e .0) (e .1))
+loop-again c =
+    let p = c .before .before .before .before .before .before .before .pre in
+    let loop = c .before .before .before .before .before .loop in
+    let loop-test = c .before .before .before .before .loop-test in
+    let v = loop .inv in
+    let l = loop-test .taken in
+    let e = c .before .before .number-one .ensures in
+    (omega arith, numbering-on (v .1) (omega (arith, p .0)) _ _ (e .0) (e .1))
 
 same-length : tie.Need-same-length Inv-loop μ-loop
 same-length c = search needs

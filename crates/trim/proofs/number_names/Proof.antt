@@ -11,19 +11,33 @@ since-requires : tie.Need-since-requires
 since-requires c κs = let q = span-places (c .before .before .before .before .before .pre .2) in omega (arith, q)
 
 mark-names-requires : tie.Need-mark-names-requires
-mark-names-requires c κs = let w = c .before .before .before .before .before .before .before .pre .2 in (omega (arith, c .before .before .before .before .before .before .before .pre .0), zeros-length 256 _ (c .before .before .before .before .before .before .before .pre .1), rw (c .before .since .ensures) (span-tokens w))
+mark-names-requires c κs =
+    let pre = c .before .before .before .before .before .before .before .pre in
+    let w = pre .2 in
+    (omega (arith, pre .0), zeros-length 256 _ (pre .1), rw (c .before .since .ensures) (span-tokens w))
 
 add-number : tie.Need-add-number
 add-number c = search needs
 
 number-requires : tie.Need-number-requires
-number-requires c κs = let w = c .before .before .before .before .before .before .before .before .before .before .before .pre .2 in let m = rw (c .before .before .before .before .before .since .ensures) at (c .before .before .before .mark-names .ensures) in names-fit w _ _ (c .before .before .before .before .before .before .before .before .before .before .before .pre .1) (m (span-tokens w))
+number-requires c κs =
+    let pre = c .before .before .before .before .before .before .before .before .before .before .before .pre in
+    let since = c .before .before .before .before .before .since in
+    let mark-names = c .before .before .before .mark-names in
+    let w = pre .2 in
+    let m = rw (since .ensures) at (mark-names .ensures) in
+    names-fit w _ _ (pre .1) (m (span-tokens w))
 
 same-length : tie.Need-same-length
 same-length c = search needs
 
 returns : tie.Need-returns
-returns c = λ w. let m = rw (c .before .before .before .before .before .before .before .before .since .ensures) at (c .before .before .before .before .before .before .mark-names .ensures) in let d = c .before .before .number .ensures in names-numbered w _ _ _ _ (c .before .before .before .before .before .before .before .before .before .before .before .before .before .before .pre .1) (m (span-tokens w)) (d .0) (d .1)
+returns c =
+    let pre = c .before .before .before .before .before .before .before .before .before .before .before .before .before .before .pre in
+    let since = c .before .before .before .before .before .before .before .before .since in
+    let mark-names = c .before .before .before .before .before .before .mark-names in
+    λ w. let m = rw (since .ensures) at (mark-names .ensures) in let d = c .before .before .number .ensures in names-numbered w _ _ _ _ (pre .1)
+    (m (span-tokens w)) (d .0) (d .1)
 
 pub number-names-spec : {M : Type 1} → statement M
 number-names-spec =

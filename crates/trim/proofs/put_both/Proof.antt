@@ -9,22 +9,39 @@ use Rattle.trim.proofs.put_both.Statement.{statement}
 use Rattle.trim.proofs.put_both.Tie as tie
 
 returns : tie.Need-returns
-returns c = short-file (now (c .before .before .before .before .before .args .file)) (now (c .before .before .before .before .before .args .lines)) (now (c .before .before .before .before .before .args .out)) (now (c .before .before .before .before .before .args .list)) (c .before .before .before .before .before .args .size) (c .before .before .before .before .before .args .bytes) (c .before .before .before .before .before .pre .0) (c .before .before .before .before .before .pre .1) (c .if1 .taken)
+returns c =
+    let pre = c .before .before .before .before .before .pre in
+    let args = c .before .before .before .before .before .args in
+    short-file (now (args .file)) (now (args .lines)) (now (args .out)) (now (args .list)) (args .size) (args .bytes) (pre .0) (pre .1) (c .if1 .taken)
 
 returns-2 : tie.Need-returns-2
-returns-2 c = short-list (now (c .before .before .before .before .before .before .args .file)) (now (c .before .before .before .before .before .before .args .lines)) (now (c .before .before .before .before .before .before .args .out)) (now (c .before .before .before .before .before .before .args .list)) (c .before .before .before .before .before .before .args .size) (c .before .before .before .before .before .before .args .bytes) (c .before .before .before .before .before .before .pre .0) (c .before .before .before .before .before .before .pre .1) (c .before .if1 .left) (c .if2 .taken)
+returns-2 c =
+    let pre = c .before .before .before .before .before .before .pre in
+    let args = c .before .before .before .before .before .before .args in
+    short-list (now (args .file)) (now (args .lines)) (now (args .out)) (now (args .list)) (args .size) (args .bytes) (pre .0) (pre .1) (c .before .if1 .left)
+    (c .if2 .taken)
 
 slice-aggregate-put-bytes : tie.Need-slice-aggregate-put-bytes
 slice-aggregate-put-bytes c = sym (length-take-le _ _ (c .before .before .before .before .before .before .before .before .pre .0))
 
 put-bytes-requires : tie.Need-put-bytes-requires
-put-bytes-requires c κs = omega (arith, length-take-le (c .before .before .before .before .before .before .before .before .args .size) (now (c .before .before .before .before .before .before .before .before .args .file)) (c .before .before .before .before .before .before .before .before .pre .0), c .before .before .before .if1 .left)
+put-bytes-requires c κs =
+    let pre = c .before .before .before .before .before .before .before .before .pre in
+    let args = c .before .before .before .before .before .before .before .before .args in
+    let if1 = c .before .before .before .if1 in
+    omega (arith, length-take-le (args .size) (now (args .file)) (pre .0), if1 .left)
 
 slice-aggregate-put-bytes-2 : tie.Need-slice-aggregate-put-bytes-2
-slice-aggregate-put-bytes-2 c = sym (length-take-le _ _ (c .before .before .before .before .before .before .before .before .before .before .before .before .before .pre .1))
+slice-aggregate-put-bytes-2 c =
+    let pre = c .before .before .before .before .before .before .before .before .before .before .before .before .before .pre in
+    sym (length-take-le _ _ (pre .1))
 
 put-bytes-requires-2 : tie.Need-put-bytes-requires-2
-put-bytes-requires-2 c κs = omega (arith, length-take-le (c .before .before .before .before .before .before .before .before .before .before .before .before .before .args .bytes) (now (c .before .before .before .before .before .before .before .before .before .before .before .before .before .args .lines)) (c .before .before .before .before .before .before .before .before .before .before .before .before .before .pre .1), c .before .before .before .before .before .before .before .if2 .left)
+put-bytes-requires-2 c κs =
+    let pre = c .before .before .before .before .before .before .before .before .before .before .before .before .before .pre in
+    let args = c .before .before .before .before .before .before .before .before .before .before .before .before .before .args in
+    let if2 = c .before .before .before .before .before .before .before .if2 in
+    omega (arith, length-take-le (args .bytes) (now (args .lines)) (pre .1), if2 .left)
 
 same-length : tie.Need-same-length
 same-length c = search needs
@@ -33,7 +50,14 @@ same-length-2 : tie.Need-same-length-2
 same-length-2 c = search needs
 
 returns-3 : tie.Need-returns-3
-returns-3 c = both-put (now (c .before .before .before .before .before .before .before .before .before .before .before .before .before .before .before .before .args .file)) (now (c .before .before .before .before .before .before .before .before .before .before .before .before .before .before .before .before .args .lines)) (now (c .before .before .before .before .before .before .before .before .before .before .before .before .before .before .before .before .args .out)) (now (c .before .before .before .before .before .before .before .before .before .before .before .before .before .before .before .before .args .list)) (c .before .before .before .before .before .before .before .before .before .before .before .before .before .before .before .before .args .size) (c .before .before .before .before .before .before .before .before .before .before .before .before .before .before .before .before .args .bytes) (c .before .before .before .before .before .before .before .before .before .before .before .before .before .before .before .before .pre .0) (c .before .before .before .before .before .before .before .before .before .before .before .before .before .before .before .before .pre .1) (c .before .before .before .before .before .before .before .before .before .before .before .if1 .left) (c .before .before .before .before .before .before .before .before .before .before .if2 .left) _ _ _ _ (c .before .before .before .before .before .before .before .put-bytes .ensures) (c .before .before .put-bytes2 .ensures)
+returns-3 c =
+    let pre = c .before .before .before .before .before .before .before .before .before .before .before .before .before .before .before .before .pre in
+    let args = c .before .before .before .before .before .before .before .before .before .before .before .before .before .before .before .before .args in
+    let if1 = c .before .before .before .before .before .before .before .before .before .before .before .if1 in
+    let if2 = c .before .before .before .before .before .before .before .before .before .before .if2 in
+    let put-bytes = c .before .before .before .before .before .before .before .put-bytes in
+    both-put (now (args .file)) (now (args .lines)) (now (args .out)) (now (args .list)) (args .size) (args .bytes) (pre .0) (pre .1) (if1 .left) (if2 .left)
+    _ _ _ _ (put-bytes .ensures) (c .before .before .put-bytes2 .ensures)
 
 pub put-both-spec : {M : Type 1} → statement M
 put-both-spec =

@@ -28,12 +28,16 @@ shared-slice-read-put-marked : tie.Need-shared-slice-read-put-marked Inv-loop μ
 shared-slice-read-put-marked c = search needs
 
 put-marked-requires : tie.Need-put-marked-requires Inv-loop μ-loop
-put-marked-requires c κs = let p = c .before .before .before .before .before .before .before .before .before .pre in
-    let v = c .before .before .before .before .loop .inv in
+put-marked-requires c κs =
+    let p = c .before .before .before .before .before .before .before .before .before .pre in
+    let loop = c .before .before .before .before .loop in
+    let loop-test = c .before .before .before .loop-test in
+    let v = loop .inv in
     let r = v .2 (p .1) in
-    let l = rw (p .1 .count-is) at (c .before .before .before .loop-test .taken) in
+    let l = rw (p .1 .count-is) at (loop-test .taken) in
     let z = c .before .before .entry-size .ensures _ (entering-first r l) in
-    let i = entry-inside (entering-first r l) _ refl in ((p .0 .0, p .0 .1, v .1, let m = entering-room r l _ z in omega (arith, m, p .1 .fits)), entering-size r l _ z)
+    let i = entry-inside (entering-first r l) _ refl in
+    ((p .0 .0, p .0 .1, v .1, let m = entering-room r l _ z in omega (arith, m, p .1 .fits)), entering-size r l _ z)
 
 past-requires : tie.Need-past-requires Inv-loop μ-loop
 past-requires c κs = let p = c .before .before .before .before .before .before .before .before .before .before .before .before .pre in
@@ -50,17 +54,22 @@ loop-less : tie.Need-loop-less Inv-loop μ-loop
 loop-less c = search needs
 
 loop-again : tie.Need-loop-again Inv-loop μ-loop
-loop-again c = let p = c .before .before .before .before .before .before .before .before .before .before .before .before .before .pre in
-    let v = c .before .before .before .before .before .before .before .before .loop .inv in
+loop-again c =
+    let p = c .before .before .before .before .before .before .before .before .before .before .before .before .before .pre in
+    let loop = c .before .before .before .before .before .before .before .before .loop in
+    let loop-test = c .before .before .before .before .before .before .before .loop-test in
+    let entry-size = c .before .before .before .before .before .before .entry-size in
+    let put-marked = c .before .before .before .put-marked in
+    let v = loop .inv in
     let r = v .2 (p .1) in
-    let l = rw (p .1 .count-is) at (c .before .before .before .before .before .before .before .loop-test .taken) in
-    let z = c .before .before .before .before .before .before .entry-size .ensures _ (entering-first r l) in
+    let l = rw (p .1 .count-is) at (loop-test .taken) in
+    let z = entry-size .ensures _ (entering-first r l) in
     let i = entry-inside (entering-first r l) _ refl in
-    let d = c .before .before .before .put-marked .ensures in (
+    let d = put-marked .ensures in (
       omega arith,
-      c .before .before .before .put-marked .kept .1 .1 .1 .1 .1 .0 ∙ v .1,
-      λ w. let q = v .2 w in let m = rw (w .count-is) at (c .before .before .before .before .before .before .before .loop-test .taken) in let y = c .before .before .before .before .before .before .entry-size .ensures _ (entering-first q m) in
-          rw (c .past .ensures) (entering-on q m _ y _ _ (d .0) (d .1 (entering-size q m _ y))),
+      put-marked .kept .1 .1 .1 .1 .1 .0 ∙ v .1,
+      λ w. let q = v .2 w in let m = rw (w .count-is) at (loop-test .taken) in let y = entry-size .ensures _ (entering-first q m) in rw (c .past .ensures)
+          (entering-on q m _ y _ _ (d .0) (d .1 (entering-size q m _ y))),
     )
 
 same-length : tie.Need-same-length Inv-loop μ-loop

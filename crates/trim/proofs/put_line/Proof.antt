@@ -21,7 +21,14 @@ same-length : tie.Need-same-length
 same-length c = search needs
 
 returns : tie.Need-returns
-returns c = let l = line-gone _ _ _ _ (c .before .before .before .before .before .before .before .before .before .before .before .before .put-number .ensures .0) (c .before .before .before .before .before .before .before .before .put-number2 .ensures .0) (c .before .before .before .before .before .if1 .taken) (c .before .before .put-bytes .ensures) in (l, put-short _ 12 l (line-short _ _ _ _ (c .before .before .before .before .before .before .before .before .before .before .before .before .before .before .before .pre .1) (c .before .before .before .before .before .before .before .before .before .before .before .before .before .before .before .pre .2) (omega (arith, c .before .before .before .before .before .before .before .before .before .before .before .before .before .before .before .fits .mark))))
+returns c =
+    let pre = c .before .before .before .before .before .before .before .before .before .before .before .before .before .before .before .pre in
+    let fits = c .before .before .before .before .before .before .before .before .before .before .before .before .before .before .before .fits in
+    let put-number = c .before .before .before .before .before .before .before .before .before .before .before .before .put-number in
+    let put-number2 = c .before .before .before .before .before .before .before .before .put-number2 in
+    let if1 = c .before .before .before .before .before .if1 in
+    let l = line-gone _ _ _ _ (put-number .ensures .0) (put-number2 .ensures .0) (if1 .taken) (c .before .before .put-bytes .ensures) in
+    (l, put-short _ 12 l (line-short _ _ _ _ (pre .1) (pre .2) (omega (arith, fits .mark))))
 
 sub-put-number : tie.Need-sub-put-number
 sub-put-number c = search needs
@@ -36,7 +43,14 @@ same-length-2 : tie.Need-same-length-2
 same-length-2 c = search needs
 
 returns-2 : tie.Need-returns-2
-returns-2 c = let l = line-new _ _ _ _ (c .before .before .before .before .before .before .before .before .before .before .before .put-number .ensures .0) (c .before .before .before .before .before .before .before .put-number2 .ensures .0) (c .before .before .before .before .if1 .left) (c .before .before .put-number3 .ensures .0) in (l, put-short _ 12 l (line-short _ _ _ _ (c .before .before .before .before .before .before .before .before .before .before .before .before .before .before .pre .1) (c .before .before .before .before .before .before .before .before .before .before .before .before .before .before .pre .2) (omega (arith, c .before .before .before .before .before .before .before .before .before .before .before .before .before .before .fits .mark))))
+returns-2 c =
+    let pre = c .before .before .before .before .before .before .before .before .before .before .before .before .before .before .pre in
+    let fits = c .before .before .before .before .before .before .before .before .before .before .before .before .before .before .fits in
+    let put-number = c .before .before .before .before .before .before .before .before .before .before .before .put-number in
+    let put-number2 = c .before .before .before .before .before .before .before .put-number2 in
+    let if1 = c .before .before .before .before .if1 in
+    let l = line-new _ _ _ _ (put-number .ensures .0) (put-number2 .ensures .0) (if1 .left) (c .before .before .put-number3 .ensures .0) in
+    (l, put-short _ 12 l (line-short _ _ _ _ (pre .1) (pre .2) (omega (arith, fits .mark))))
 
 pub put-line-spec : {M : Type 1} → statement M
 put-line-spec =

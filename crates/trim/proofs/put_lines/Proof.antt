@@ -23,13 +23,22 @@ loop-holds : tie.Need-loop-holds Inv-loop μ-loop
 loop-holds c = (omega arith, omega arith, omega arith, refl, lining-none _ _ _ _ _)
 
 shared-slice-read-put-line : tie.Need-shared-slice-read-put-line Inv-loop μ-loop
-shared-slice-read-put-line c = let p = c .before .before .before .before .before .before .before .before .before .before .pre in let v = c .before .before .before .loop .inv in omega (arith, p .2, p .3, c .before .before .loop-test .taken)
+shared-slice-read-put-line c =
+    let p = c .before .before .before .before .before .before .before .before .before .before .pre in
+    let loop = c .before .before .before .loop in
+    let v = loop .inv in
+    omega (arith, p .2, p .3, c .before .before .loop-test .taken)
 
 put-line-requires-2 : tie.Need-put-line-requires-2 Inv-loop μ-loop
-put-line-requires-2 c κs = let p = c .before .before .before .before .before .before .before .before .before .before .pre in
-    let v = c .before .before .before .loop .inv in
-    let d = c .before .before .before .before .before .before .put-line .ensures in
-    let g = put-length (d .0) in (omega (arith, p .0, p .2, v .2, v .3, g, d .1, c .before .before .loop-test .taken), p .1, omega (arith, p .2, c .before .before .loop-test .taken), omega arith)
+put-line-requires-2 c κs =
+    let p = c .before .before .before .before .before .before .before .before .before .before .pre in
+    let put-line = c .before .before .before .before .before .before .put-line in
+    let loop = c .before .before .before .loop in
+    let loop-test = c .before .before .loop-test in
+    let v = loop .inv in
+    let d = put-line .ensures in
+    let g = put-length (d .0) in
+    (omega (arith, p .0, p .2, v .2, v .3, g, d .1, loop-test .taken), p .1, omega (arith, p .2, loop-test .taken), omega arith)
 
 add-n : tie.Need-add-n Inv-loop μ-loop
 add-n c = search needs
@@ -38,12 +47,16 @@ loop-less : tie.Need-loop-less Inv-loop μ-loop
 loop-less c = search needs
 
 loop-again : tie.Need-loop-again Inv-loop μ-loop
-loop-again c = let p = c .before .before .before .before .before .before .before .before .before .before .before .before .before .pre in
-    let v = c .before .before .before .before .before .before .loop .inv in
-    let d = c .before .before .before .before .before .before .before .before .before .put-line .ensures in
+loop-again c =
+    let p = c .before .before .before .before .before .before .before .before .before .before .before .before .before .pre in
+    let put-line = c .before .before .before .before .before .before .before .before .before .put-line in
+    let loop = c .before .before .before .before .before .before .loop in
+    let loop-test = c .before .before .before .before .before .loop-test in
+    let v = loop .inv in
+    let d = put-line .ensures in
     let g = put-length (d .0) in
     let e = c .before .before .put-line2 .ensures in
-    (omega arith, omega (arith, c .before .before .before .before .before .loop-test .taken), omega (arith, v .2, e .1), put-length (e .0) ∙ v .3, lining-on (v .4) (c .before .before .before .before .before .loop-test .taken) (e .0))
+    (omega arith, omega (arith, loop-test .taken), omega (arith, v .2, e .1), put-length (e .0) ∙ v .3, lining-on (v .4) (loop-test .taken) (e .0))
 
 same-length : tie.Need-same-length Inv-loop μ-loop
 same-length c = search needs

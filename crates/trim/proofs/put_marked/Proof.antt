@@ -15,7 +15,11 @@ same-length : tie.Need-same-length
 same-length c = search needs
 
 returns-2 : tie.Need-returns-2
-returns-2 c = let d = c .before .before .put-entry .ensures in (omega (arith, d .0), λ w. marked-put _ _ _ _ _ _ _ _ (c .before .before .before .before .if1 .left) (c .before .before .before .before .before .before .before .before .pre .0 .3) (w .size-is) (d .1 w) (d .0))
+returns-2 c =
+    let pre = c .before .before .before .before .before .before .before .before .pre in
+    let if1 = c .before .before .before .before .if1 in
+    let d = c .before .before .put-entry .ensures in
+    (omega (arith, d .0), λ w. marked-put _ _ _ _ _ _ _ _ (if1 .left) (pre .0 .3) (w .size-is) (d .1 w) (d .0))
 
 pub put-marked-spec : {M : Type 1} → statement M
 put-marked-spec = tie.close (tie.spec returns put-entry-requires same-length returns-2)

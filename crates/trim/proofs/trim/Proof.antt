@@ -32,7 +32,12 @@ slice-aggregate-trim-into-4 : tie.Need-slice-aggregate-trim-into-4
 slice-aggregate-trim-into-4 c = search needs
 
 trim-into-requires : tie.Need-trim-into-requires
-trim-into-requires c κs = ((c .before .before .before .before .before .before .before .before .before .before .before .read-checked .kept .1 .0, judged-file _ (sym (c .before .before .before .before .before .before .before .before .before .before .before .read-checked .ensures .0) ∙ c .before .before .before .before .before .before .before .sum .given .1) (all-rows _ refl) (c .before .before .before .before .before .before .before .before .before .before .before .read-checked .ensures .1 .0)), (refl, refl, refl))
+trim-into-requires c κs =
+    let read-checked = c .before .before .before .before .before .before .before .before .before .before .before .read-checked in
+    let sum = c .before .before .before .before .before .before .before .sum in (
+      (read-checked .kept .1 .0, judged-file _ (sym (read-checked .ensures .0) ∙ sum .given .1) (all-rows _ refl) (read-checked .ensures .1 .0)),
+      (refl, refl, refl),
+    )
 
 enum-known-no : tie.Need-enum-known-no
 enum-known-no c = search needs

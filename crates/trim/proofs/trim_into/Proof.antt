@@ -10,7 +10,11 @@ use Rattle.trim.proofs.trim_into.Statement.{statement}
 use Rattle.trim.proofs.trim_into.Tie as tie
 
 mark-reached-requires : tie.Need-mark-reached-requires
-mark-reached-requires c κs = let p = c .before .before .before .before .before .before .before .before .pre in let w = p .0 .1 in let f = file-count w in (file-short w, p .0 .0, f .1, p .1 .0)
+mark-reached-requires c κs =
+    let p = c .before .before .before .before .before .before .before .before .pre in
+    let w = p .0 .1 in
+    let f = file-count w in
+    (file-short w, p .0 .0, f .1, p .1 .0)
 
 number-requires : tie.Need-number-requires
 number-requires c κs = let p = c .before .before .before .before .before .before .before .before .before .before .before .before .pre in
@@ -19,35 +23,68 @@ number-requires c κs = let p = c .before .before .before .before .before .befor
     let m = c .before .before .before .mark-reached .ensures in (omega (arith, f, m .1), few-marks _ _ (f .1))
 
 trim-templates-requires : tie.Need-trim-templates-requires
-trim-templates-requires c κs = let p = c .before .before .before .before .before .before .before .before .before .before .before .before .before .before .before .before .before .before .pre in
+trim-templates-requires c κs =
+    let p = c .before .before .before .before .before .before .before .before .before .before .before .before .before .before .before .before .before
+    .before .pre in
+    let mark-reached = c .before .before .before .before .before .before .before .before .before .mark-reached in
+    let number = c .before .before .before .before .before .number in
     let w = p .0 .1 in
     let f = file-count w in
-    let m = c .before .before .before .before .before .before .before .before .before .mark-reached .ensures in let d = c .before .before .before .before .before .number .ensures in ((file-short w, p .0 .0, d .1 .same ∙ m .1, f .1), (p .1 .1, p .1 .2, w))
+    let m = mark-reached .ensures in
+    let d = number .ensures in
+    ((file-short w, p .0 .0, d .1 .same ∙ m .1, f .1), (p .1 .1, p .1 .2, w))
 
 to-byte-requires : tie.Need-to-byte-requires
 to-byte-requires c κs = search needs
 
 past-requires : tie.Need-past-requires
-past-requires c κs = let p = c .before .before .before .before .before .before .before .before .before .before .before .before .before .before .before .before .before .before .before .before .before .before .before .before .before .pre in
+past-requires c κs =
+    let p = c .before .before .before .before .before .before .before .before .before .before .before .before .before .before .before .before .before
+    .before .before .before .before .before .before .before .before .pre in
+    let mark-reached = c .before .before .before .before .before .before .before .before .before .before .before .before .before .before .before .before
+    .mark-reached in
+    let number = c .before .before .before .before .before .before .before .before .before .before .before .before .number in
+    let trim-templates = c .before .before .before .before .before .before .trim-templates in
     let w = p .0 .1 in
     let f = file-count w in
-    let m = c .before .before .before .before .before .before .before .before .before .before .before .before .before .before .before .before .mark-reached .ensures in
-    let d = c .before .before .before .before .before .before .before .before .before .before .before .before .number .ensures in
-    let e = c .before .before .before .before .before .before .trim-templates .ensures w (stays (w .templates)) (stays-numbers w _ _ 0 (m .0 w) (d .1)) (file-leads w _ [] 0 (m .0 w)) (stays-count w _ [] _ (m .0 w) (d .0)) in omega (arith, e .3)
+    let m = mark-reached .ensures in
+    let d = number .ensures in
+    let e = trim-templates .ensures w (stays (w .templates)) (stays-numbers w _ _ 0 (m .0 w) (d .1)) (file-leads w _ [] 0 (m .0 w))
+    (stays-count w _ [] _ (m .0 w) (d .0)) in
+    omega (arith, e .3)
 
 byte-requires : tie.Need-byte-requires
 byte-requires c κs = search needs
 
 put-both-requires : tie.Need-put-both-requires
-put-both-requires c κs = let p = c .before .before .before .before .before .before .before .before .before .before .before .before .before .before .before .before .before .before .before .before .before .before .before .before .before .before .before .before .before .before .before .pre in
+put-both-requires c κs =
+    let p = c .before .before .before .before .before .before .before .before .before .before .before .before .before .before .before .before .before
+    .before .before .before .before .before .before .before .before .before .before .before .before .before .before .pre in
+    let mark-reached = c .before .before .before .before .before .before .before .before .before .before .before .before .before .before .before .before
+    .before .before .before .before .before .before .mark-reached in
+    let number = c .before .before .before .before .before .before .before .before .before .before .before .before .before .before .before .before .before
+    .before .number in
+    let trim-templates = c .before .before .before .before .before .before .before .before .before .before .before .before .trim-templates in
+    let to-byte = c .before .before .before .before .before .before .to-byte in
+    let past = c .before .before .before .before .before .past in
+    let byte = c .before .before .before .before .byte in
     let w = p .0 .1 in
     let f = file-count w in
-    let m = c .before .before .before .before .before .before .before .before .before .before .before .before .before .before .before .before .before .before .before .before .before .before .mark-reached .ensures in
-    let d = c .before .before .before .before .before .before .before .before .before .before .before .before .before .before .before .before .before .before .number .ensures in
-    let e = c .before .before .before .before .before .before .before .before .before .before .before .before .trim-templates .ensures w (stays (w .templates)) (stays-numbers w _ _ 0 (m .0 w) (d .1)) (file-leads w _ [] 0 (m .0 w)) (stays-count w _ [] _ (m .0 w) (d .0)) in (omega (arith, e .3, p .1 .1, c .before .before .before .before .before .before .before .before .before .before .before .before .trim-templates .kept .1 .1 .1 .1 .1 .0, c .before .before .before .before .byte .ensures, c .before .before .before .before .before .past .ensures, c .before .before .before .before .before .before .to-byte .ensures), omega (arith, e .2, p .1 .2, c .before .before .before .before .before .before .before .before .before .before .before .before .trim-templates .kept .1 .1 .1 .1 .1 .1 .0))
+    let m = mark-reached .ensures in
+    let d = number .ensures in
+    let e = trim-templates .ensures w (stays (w .templates)) (stays-numbers w _ _ 0 (m .0 w) (d .1)) (file-leads w _ [] 0 (m .0 w))
+    (stays-count w _ [] _ (m .0 w) (d .0)) in (
+      omega (arith, e .3, p .1 .1, trim-templates .kept .1 .1 .1 .1 .1 .0, byte .ensures, past .ensures, to-byte .ensures),
+      omega (arith, e .2, p .1 .2, trim-templates .kept .1 .1 .1 .1 .1 .1 .0),
+    )
 
 same-length : tie.Need-same-length
-same-length c = c .before .before .before .before .before .before .before .before .before .before .before .before .before .before .before .before .before .before .before .before .before .before .before .number .kept .0 ∙ c .before .before .before .before .before .before .before .before .before .before .before .before .before .before .before .before .before .before .before .before .before .before .before .before .before .before .before .mark-reached .kept .1 .1 .1 .0
+same-length c =
+    let mark-reached = c .before .before .before .before .before .before .before .before .before .before .before .before .before .before .before .before
+    .before .before .before .before .before .before .before .before .before .before .before .mark-reached in
+    let number = c .before .before .before .before .before .before .before .before .before .before .before .before .before .before .before .before .before
+    .before .before .before .before .before .before .number in
+    number .kept .0 ∙ mark-reached .kept .1 .1 .1 .0
 
 same-length-2 : tie.Need-same-length-2
 same-length-2 c = search needs
@@ -62,14 +99,28 @@ same-length-5 : tie.Need-same-length-5
 same-length-5 c = search needs
 
 returns : tie.Need-returns
-returns c = let p = c .before .before .before .before .before .before .before .before .before .before .before .before .before .before .before .before .before .before .before .before .before .before .before .before .before .before .before .before .before .before .before .before .before .before .before .before .pre in
+returns c =
+    let p = c .before .before .before .before .before .before .before .before .before .before .before .before .before .before .before .before .before
+    .before .before .before .before .before .before .before .before .before .before .before .before .before .before .before .before .before .before .before .pre in
+    let mark-reached = c .before .before .before .before .before .before .before .before .before .before .before .before .before .before .before .before
+    .before .before .before .before .before .before .before .before .before .before .before .mark-reached in
+    let number = c .before .before .before .before .before .before .before .before .before .before .before .before .before .before .before .before .before
+    .before .before .before .before .before .before .number in
+    let trim-templates = c .before .before .before .before .before .before .before .before .before .before .before .before .before .before .before .before
+    .before .trim-templates in
+    let to-byte = c .before .before .before .before .before .before .before .before .before .before .before .to-byte in
+    let past = c .before .before .before .before .before .before .before .before .before .before .past in
+    let byte = c .before .before .before .before .before .before .before .before .before .byte in
+    let put-both = c .before .before .before .before .put-both in
     let w = p .0 .1 in
     let f = file-count w in
-    let m = c .before .before .before .before .before .before .before .before .before .before .before .before .before .before .before .before .before .before .before .before .before .before .before .before .before .before .before .mark-reached .ensures in
-    let d = c .before .before .before .before .before .before .before .before .before .before .before .before .before .before .before .before .before .before .before .before .before .before .before .number .ensures in
-    let e = c .before .before .before .before .before .before .before .before .before .before .before .before .before .before .before .before .before .trim-templates .ensures w (stays (w .templates)) (stays-numbers w _ _ 0 (m .0 w) (d .1)) (file-leads w _ [] 0 (m .0 w)) (stays-count w _ [] _ (m .0 w) (d .0)) in
-    let b = c .before .before .before .before .put-both .ensures in
-    all-into _ _ _ w _ _ _ _ _ _ _ (e .0) (e .1) (p .1 .1) (p .1 .2) (e .2) (e .3) (byte-size _ _ _ _ (c .before .before .before .before .before .before .before .before .before .before .before .to-byte .ensures) (c .before .before .before .before .before .before .before .before .before .before .past .ensures) (c .before .before .before .before .before .before .before .before .before .byte .ensures)) (b .0) (b .1 .0) (b .1 .1)
+    let m = mark-reached .ensures in
+    let d = number .ensures in
+    let e = trim-templates .ensures w (stays (w .templates)) (stays-numbers w _ _ 0 (m .0 w) (d .1)) (file-leads w _ [] 0 (m .0 w))
+    (stays-count w _ [] _ (m .0 w) (d .0)) in
+    let b = put-both .ensures in
+    all-into _ _ _ w _ _ _ _ _ _ _ (e .0) (e .1) (p .1 .1) (p .1 .2) (e .2) (e .3) (byte-size _ _ _ _ (to-byte .ensures) (past .ensures) (byte .ensures))
+    (b .0) (b .1 .0) (b .1 .1)
 
 pub trim-into-spec : {M : Type 1} → statement M
 trim-into-spec =

@@ -26,24 +26,34 @@ slice-aggregate-put-lines : tie.Need-slice-aggregate-put-lines
 slice-aggregate-put-lines c = search needs
 
 put-lines-requires : tie.Need-put-lines-requires
-put-lines-requires c κs = let p = c .before .before .before .before .before .before .before .before .before .before .before .before .pre in
+put-lines-requires c κs =
+    let p = c .before .before .before .before .before .before .before .before .before .before .before .before .pre in
+    let bits-at = c .before .before .before .before .before .before .bits-at in
+    let list-of = c .before .before .before .before .before .list-of in
     let w = p .1 .1 in
-    let cn = c .before .before .before .before .before .before .bits-at .ensures .0 ∙ count-in w in
-    let ls = c .before .before .before .before .before .list-of .ensures _ w in let f = count-few (with-list w _ _ ls cn) in (omega (arith, p .1 .0 .1, p .1 .0 .3, p .0 .3), p .0 .3, f, refl)
+    let cn = bits-at .ensures .0 ∙ count-in w in
+    let ls = list-of .ensures _ w in
+    let f = count-few (with-list w _ _ ls cn) in
+    (omega (arith, p .1 .0 .1, p .1 .0 .3, p .0 .3), p .0 .3, f, refl)
 
 same-length : tie.Need-same-length
 same-length c = search needs
 
 returns : tie.Need-returns
-returns c = let p = c .before .before .before .before .before .before .before .before .before .before .before .before .before .before .before .pre in
+returns c =
+    let p = c .before .before .before .before .before .before .before .before .before .before .before .before .before .before .before .pre in
+    let bits-at = c .before .before .before .before .before .before .before .before .before .bits-at in
+    let list-of = c .before .before .before .before .before .before .before .before .list-of in
+    let if1 = c .before .before .before .before .before .if1 in
     let w = p .1 .1 in
-    let cn = c .before .before .before .before .before .before .before .before .before .bits-at .ensures .0 ∙ count-in w in
-    let ls = c .before .before .before .before .before .before .before .before .list-of .ensures _ w in
+    let cn = bits-at .ensures .0 ∙ count-in w in
+    let ls = list-of .ensures _ w in
     let d = c .before .before .put-lines .ensures in (
       (d .1, omega (arith, p .1 .0 .2, span-next w _ ls)),
       (
-        (λ y. span-next y _ (c .before .before .before .before .before .before .before .before .list-of .ensures _ y)),
-        (λ y keep are leads. let g = gone-both y keep _ are leads _ _ _ _ _ refl (c .before .before .before .before .before .if1 .taken) refl (c .before .before .before .before .before .before .before .before .before .bits-at .ensures .0 ∙ count-in y) in (put-same (d .0) (g .0), g .1)),
+        (λ y. span-next y _ (list-of .ensures _ y)),
+        (λ y keep are leads. let g = gone-both y keep _ are leads _ _ _ _ _ refl (if1 .taken) refl (bits-at .ensures .0 ∙ count-in y) in
+            (put-same (d .0) (g .0), g .1)),
       ),
     )
 
@@ -60,19 +70,31 @@ slice-aggregate-put-template : tie.Need-slice-aggregate-put-template
 slice-aggregate-put-template c = search needs
 
 put-template-requires : tie.Need-put-template-requires
-put-template-requires c κs = let p = c .before .before .before .before .before .before .before .before .before .before .before .before .before .before .before .pre in
+put-template-requires c κs =
+    let p = c .before .before .before .before .before .before .before .before .before .before .before .before .before .before .before .pre in
+    let bits-at = c .before .before .before .before .before .before .before .before .before .bits-at in
+    let list-of = c .before .before .before .before .before .before .before .before .list-of in
+    let number-names = c .before .before .before .number-names in
     let w = p .1 .1 in
-    let cn = c .before .before .before .before .before .before .before .before .before .bits-at .ensures .0 ∙ count-in w in
-    let ls = c .before .before .before .before .before .before .before .before .list-of .ensures _ w in ((p .0 .0, p .0 .2, c .before .before .before .number-names .kept .1 .1 .1 .1 .1 .1 .0, p .1 .0 .0, p .1 .0 .2), with-list w _ _ ls cn)
+    let cn = bits-at .ensures .0 ∙ count-in w in
+    let ls = list-of .ensures _ w in
+    ((p .0 .0, p .0 .2, number-names .kept .1 .1 .1 .1 .1 .1 .0, p .1 .0 .0, p .1 .0 .2), with-list w _ _ ls cn)
 
 slice-aggregate-put-lines-2 : tie.Need-slice-aggregate-put-lines-2
 slice-aggregate-put-lines-2 c = search needs
 
 put-lines-requires-2 : tie.Need-put-lines-requires-2
-put-lines-requires-2 c κs = let p = c .before .before .before .before .before .before .before .before .before .before .before .before .before .before .before .before .before .before .before .before .pre in
+put-lines-requires-2 c κs =
+    let p = c .before .before .before .before .before .before .before .before .before .before .before .before .before .before .before .before .before
+    .before .before .before .pre in
+    let bits-at = c .before .before .before .before .before .before .before .before .before .before .before .before .before .before .bits-at in
+    let list-of = c .before .before .before .before .before .before .before .before .before .before .before .before .before .list-of in
+    let number-names = c .before .before .before .before .before .before .before .before .number-names in
     let w = p .1 .1 in
-    let cn = c .before .before .before .before .before .before .before .before .before .before .before .before .before .before .bits-at .ensures .0 ∙ count-in w in
-    let ls = c .before .before .before .before .before .before .before .before .before .before .before .before .before .list-of .ensures _ w in let f = count-few (with-list w _ _ ls cn) in (omega (arith, p .1 .0 .1, p .1 .0 .3, p .0 .3), p .0 .3, f, c .before .before .before .before .before .before .before .before .number-names .kept .1 .1 .1 .1 .1 .1 .0)
+    let cn = bits-at .ensures .0 ∙ count-in w in
+    let ls = list-of .ensures _ w in
+    let f = count-few (with-list w _ _ ls cn) in
+    (omega (arith, p .1 .0 .1, p .1 .0 .3, p .0 .3), p .0 .3, f, number-names .kept .1 .1 .1 .1 .1 .1 .0)
 
 same-length-2 : tie.Need-same-length-2
 same-length-2 c = search needs
@@ -81,21 +103,27 @@ same-length-3 : tie.Need-same-length-3
 same-length-3 c = search needs
 
 returns-2 : tie.Need-returns-2
-returns-2 c = let p = c .before .before .before .before .before .before .before .before .before .before .before .before .before .before .before .before .before .before .before .before .before .before .before .pre in
+returns-2 c =
+    let p = c .before .before .before .before .before .before .before .before .before .before .before .before .before .before .before .before .before
+    .before .before .before .before .before .before .pre in
+    let bits-at = c .before .before .before .before .before .before .before .before .before .before .before .before .before .before .before .before .before
+    .bits-at in
+    let list-of = c .before .before .before .before .before .before .before .before .before .before .before .before .before .before .before .before .list-of in
+    let if1 = c .before .before .before .before .before .before .before .before .before .before .before .before .before .if1 in
+    let number-names = c .before .before .before .before .before .before .before .before .before .before .before .number-names in
+    let put-template = c .before .before .before .before .before .before .before .put-template in
     let w = p .1 .1 in
-    let cn = c .before .before .before .before .before .before .before .before .before .before .before .before .before .before .before .before .before .bits-at .ensures .0 ∙ count-in w in
-    let ls = c .before .before .before .before .before .before .before .before .before .before .before .before .before .before .before .before .list-of .ensures _ w in
+    let cn = bits-at .ensures .0 ∙ count-in w in
+    let ls = list-of .ensures _ w in
     let d = c .before .before .put-lines2 .ensures in
-    let n = c .before .before .before .before .before .before .before .before .before .before .before .number-names .ensures (with-list w _ _ ls cn) in
-    let k = c .before .before .before .before .before .before .before .put-template .ensures (with-list w _ _ ls cn) (n .0) (n .1) in (
+    let n = number-names .ensures (with-list w _ _ ls cn) in
+    let k = put-template .ensures (with-list w _ _ ls cn) (n .0) (n .1) in (
       (d .1, omega (arith, p .1 .0 .2, k .0, span-next w _ ls)),
       (
-        (λ y. span-next y _ (c .before .before .before .before .before .before .before .before .before .before .before .before .before .before .before .before .list-of .ensures _ y)),
-        (λ y keep are leads.
-            let z = with-list y _ _ (c .before .before .before .before .before .before .before .before .before .before .before .before .before .before .before .before .list-of .ensures _ y) (c .before .before .before .before .before .before .before .before .before .before .before .before .before .before .before .before .before .bits-at .ensures .0 ∙ count-in y) in
-            let m = c .before .before .before .before .before .before .before .before .before .before .before .number-names .ensures z in
-            let t = c .before .before .before .before .before .before .before .put-template .ensures z (m .0) (m .1) in
-            let g = kept-both y keep _ are leads _ _ _ _ _ _ _ refl (c .before .before .before .before .before .before .before .before .before .before .before .before .before .if1 .left) (m .0) (c .before .before .before .before .before .before .before .before .before .before .before .before .before .before .before .before .before .bits-at .ensures .0 ∙ count-in y) (t .1) in (put-same (d .0) (g .0), g .1)),
+        (λ y. span-next y _ (list-of .ensures _ y)),
+        (λ y keep are leads. let z = with-list y _ _ (list-of .ensures _ y) (bits-at .ensures .0 ∙ count-in y) in let m = number-names .ensures z in let t =
+            put-template .ensures z (m .0) (m .1) in let g = kept-both y keep _ are leads _ _ _ _ _ _ _ refl (if1 .left) (m .0) (bits-at .ensures .0 ∙ count-in y)
+            (t .1) in (put-same (d .0) (g .0), g .1)),
       ),
     )
 

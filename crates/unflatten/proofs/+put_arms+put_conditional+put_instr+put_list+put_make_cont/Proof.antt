@@ -274,10 +274,9 @@ put-conditional-returns : (t : ℕ) → put-conditional-lts.Need-returns (
 ) (put-conditional-at t) put-conditional.Post
 put-conditional-returns t c =
     let pre = c .before .before .before .before .before .before .before .before .before .before .before .before .before .pre in
-    let args = c .before .before .before .before .before .before .before .before .before .before .before .before .before .args in
+    let a = c .before .before .before .before .before .before .before .before .before .before .before .before .before .args in
     let put-field = c .before .before .before .before .before .before .before .before .put-field in
     let put-arms′ = c .before .before .before .before .put-arms in
-    let a = args in
     let h = pre .1 in
     let f = put-field .ensures in
     arms-none (slotNamed (a .table .now) (a .own)) (a .s .now) (a .levels) (a .closed) (a .p) (a .to) (a .at .0) (a .out .now) _ (h .5) (a .arms) (h .6) _
@@ -306,11 +305,10 @@ put-conditional-returns-2 : (t : ℕ) → put-conditional-lts.Need-returns-2 (
 ) (put-conditional-at t) put-conditional.Post
 put-conditional-returns-2 t c =
     let pre = c .before .before .before .before .before .before .before .before .before .before .before .before .before .before .before .before .pre in
-    let args = c .before .before .before .before .before .before .before .before .before .before .before .before .before .before .before .before .args in
+    let a = c .before .before .before .before .before .before .before .before .before .before .before .before .before .before .before .before .args in
     let put-field = c .before .before .before .before .before .before .before .before .before .before .before .put-field in
     let put-arms′ = c .before .before .before .before .before .before .before .put-arms in
     let past = c .before .before .before .past in
-    let a = args in
     let h = pre .1 in
     let f = put-field .ensures in
     arms-more (slotNamed (a .table .now) (a .own)) (a .s .now) (a .levels) (a .closed) (a .p) (a .to) (a .at .0) (a .out .now) _ (h .5) (a .arms) (h .6) _
@@ -435,8 +433,7 @@ put-instr-returns : (t : ℕ) → put-instr-lts.Need-returns (
   put-make-cont.Post,
 ) (put-instr-at t) put-instr.Post
 put-instr-returns t c =
-    let args = c .before .before .before .before .before .before .args in
-    let a = args in
+    let a = c .before .before .before .before .before .before .args in
     head-none (slotNamed (a .table .now) (a .own)) (a .s .now) (a .levels) (a .closed) (a .p) (a .to) (a .out .now) (a .at .0)
     (c .before .before .first-of .ensures) (c .enum-told .given .1)
 
@@ -787,12 +784,11 @@ put-make-cont-returns : (t : ℕ) → put-make-cont-lts.Need-returns (
 put-make-cont-returns t c =
     let pre = c .before .before .before .before .before .before .before .before .before .before .before .before .before .before .before .before .before
     .before .pre in
-    let args = c .before .before .before .before .before .before .before .before .before .before .before .before .before .before .before .before .before
+    let a = c .before .before .before .before .before .before .before .before .before .before .before .before .before .before .before .before .before
     .before .args in
     let put-field = c .before .before .before .before .before .before .before .before .before .before .before .before .before .put-field in
     let put-field2 = c .before .before .before .before .before .before .before .before .put-field2 in
     let put-list′ = c .before .before .before .before .put-list in
-    let a = args in
     let h = pre .1 in
     let f = put-field .ensures in
     let i = put-field2 .ensures in
@@ -820,12 +816,11 @@ put-make-cont-returns-2 : (t : ℕ) → put-make-cont-lts.Need-returns-2 (
 put-make-cont-returns-2 t c =
     let pre = c .before .before .before .before .before .before .before .before .before .before .before .before .before .before .before .before .before
     .before .before .pre in
-    let args = c .before .before .before .before .before .before .before .before .before .before .before .before .before .before .before .before .before
+    let a = c .before .before .before .before .before .before .before .before .before .before .before .before .before .before .before .before .before
     .before .before .args in
     let put-field = c .before .before .before .before .before .before .before .before .before .before .before .before .before .before .put-field in
     let put-field2 = c .before .before .before .before .before .before .before .before .before .put-field2 in
     let put-list′ = c .before .before .before .before .before .put-list in
-    let a = args in
     let h = pre .1 in
     let f = put-field .ensures in
     let i = put-field2 .ensures in

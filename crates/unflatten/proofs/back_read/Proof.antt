@@ -19,10 +19,8 @@ use Rattle.unflatten.proofs.put_templates.Reads as put-templates-reads
 
 bits-at-requires : tie.Need-bits-at-requires
 bits-at-requires c κs =
-    let pre = c .before .before .before .before .pre in
-    let args = c .before .before .before .before .args in
-    let h = pre in
-    let a = args in
+    let h = c .before .before .before .before .pre in
+    let a = c .before .before .before .before .args in
     let p = file (a .s .now) (h .0) in
     (p .short, (omega arith, p .some))
 
@@ -34,13 +32,11 @@ cast-put-templates c = search needs
 
 put-templates-requires : tie.Need-put-templates-requires
 put-templates-requires c κs =
-    let pre = c .before .before .before .before .before .before .before .before .before .before .before .pre in
-    let args = c .before .before .before .before .before .before .before .before .before .before .before .args in
+    let h = c .before .before .before .before .before .before .before .before .before .before .before .pre in
+    let a = c .before .before .before .before .before .before .before .before .before .before .before .args in
     let shared-slice-known = c .before .before .before .before .before .before .before .before .before .before .shared-slice-known in
     let bits-at = c .before .before .before .before .before .before .bits-at in
     let put-field = c .before .before .before .before .put-field in
-    let h = pre in
-    let a = args in
     let f = put-field .ensures in
     let b = bits-at .ensures in
     let w = templates-in (a .s .now) (h .0) _ _ (a .table .now) (a .tree .now) _ (b .0)
@@ -56,17 +52,15 @@ enum-known-end c = search needs
 
 past-requires : tie.Need-past-requires
 past-requires c κs =
-    let pre = c .before .before .before .before .before .before .before .before .before .before .before .before .before .before .before .before .before
+    let h = c .before .before .before .before .before .before .before .before .before .before .before .before .before .before .before .before .before
     .before .before .before .pre in
-    let args = c .before .before .before .before .before .before .before .before .before .before .before .before .before .before .before .before .before
+    let a = c .before .before .before .before .before .before .before .before .before .before .before .before .before .before .before .before .before
     .before .before .before .args in
     let shared-slice-known = c .before .before .before .before .before .before .before .before .before .before .before .before .before .before .before
     .before .before .before .before .shared-slice-known in
     let bits-at = c .before .before .before .before .before .before .before .before .before .before .before .before .before .before .before .bits-at in
     let put-field = c .before .before .before .before .before .before .before .before .before .before .before .before .before .put-field in
     let put-templates = c .before .before .before .before .before .before .before .before .put-templates in
-    let h = pre in
-    let a = args in
     let f = put-field .ensures in
     let b = bits-at .ensures in
     let w = templates-in (a .s .now) (h .0) _ _ (a .table .now) (a .tree .now) _ (b .0)
@@ -79,9 +73,9 @@ byte-requires c κs = search needs
 
 give-requires : tie.Need-give-requires
 give-requires c κs =
-    let pre = c .before .before .before .before .before .before .before .before .before .before .before .before .before .before .before .before .before
+    let h = c .before .before .before .before .before .before .before .before .before .before .before .before .before .before .before .before .before
     .before .before .before .before .before .before .pre in
-    let args = c .before .before .before .before .before .before .before .before .before .before .before .before .before .before .before .before .before
+    let a = c .before .before .before .before .before .before .before .before .before .before .before .before .before .before .before .before .before
     .before .before .before .before .before .before .args in
     let shared-slice-known = c .before .before .before .before .before .before .before .before .before .before .before .before .before .before .before
     .before .before .before .before .before .before .before .shared-slice-known in
@@ -91,8 +85,6 @@ give-requires c κs =
     .put-field in
     let put-templates = c .before .before .before .before .before .before .before .before .before .before .before .put-templates in
     let end = c .before .before .before .before .before .end in
-    let h = pre in
-    let a = args in
     let f = put-field .ensures in
     let b = bits-at .ensures in
     let w = templates-in (a .s .now) (h .0) _ _ (a .table .now) (a .tree .now) _ (b .0)
@@ -108,17 +100,15 @@ same-length-2 c = search needs
 
 returns : tie.Need-returns
 returns c =
-    let pre = c .before .before .before .before .before .before .before .before .before .before .before .before .before .before .before .before .before
+    let h = c .before .before .before .before .before .before .before .before .before .before .before .before .before .before .before .before .before
     .before .before .pre in
-    let args = c .before .before .before .before .before .before .before .before .before .before .before .before .before .before .before .before .before
+    let a = c .before .before .before .before .before .before .before .before .before .before .before .before .before .before .before .before .before
     .before .before .args in
     let shared-slice-known = c .before .before .before .before .before .before .before .before .before .before .before .before .before .before .before
     .before .before .before .shared-slice-known in
     let bits-at = c .before .before .before .before .before .before .before .before .before .before .before .before .before .before .bits-at in
     let put-field = c .before .before .before .before .before .before .before .before .before .before .before .before .put-field in
     let put-templates = c .before .before .before .before .before .before .before .put-templates in
-    let h = pre in
-    let a = args in
     let f = put-field .ensures in
     let b = bits-at .ensures in
     let w = templates-in (a .s .now) (h .0) _ _ (a .table .now) (a .tree .now) _ (b .0)
@@ -136,9 +126,9 @@ same-length-5 c = search needs
 
 returns-2 : tie.Need-returns-2
 returns-2 c =
-    let pre = c .before .before .before .before .before .before .before .before .before .before .before .before .before .before .before .before .before
+    let h = c .before .before .before .before .before .before .before .before .before .before .before .before .before .before .before .before .before
     .before .before .before .before .before .before .before .before .before .pre in
-    let args = c .before .before .before .before .before .before .before .before .before .before .before .before .before .before .before .before .before
+    let a = c .before .before .before .before .before .before .before .before .before .before .before .before .before .before .before .before .before
     .before .before .before .before .before .before .before .before .before .args in
     let shared-slice-known = c .before .before .before .before .before .before .before .before .before .before .before .before .before .before .before
     .before .before .before .before .before .before .before .before .before .before .shared-slice-known in
@@ -151,8 +141,6 @@ returns-2 c =
     let past = c .before .before .before .before .before .past in
     let byte = c .before .before .before .before .byte in
     let give = c .before .before .give in
-    let h = pre in
-    let a = args in
     let f = put-field .ensures in
     let b = bits-at .ensures in
     let w = templates-in (a .s .now) (h .0) _ _ (a .table .now) (a .tree .now) _ (b .0)

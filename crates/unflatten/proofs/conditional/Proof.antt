@@ -35,9 +35,8 @@ sub-if3 c = search needs
 
 returns-3 : tie.Need-returns-3
 returns-3 c =
-    let pre = c .before .before .before .before .before .pre in
+    let h = c .before .before .before .before .before .pre in
     let if1 = c .before .before .before .if1 in
-    let h = pre in
     levelled _ _ _ _ _ _ (if1 .left) (cond-far _ _ _ _ _ _ (h .2) (omega arith) (h .3) (c .before .offset-at .ensures) (omega (arith, c .if3 .taken)))
 
 add-turn : tie.Need-add-turn
@@ -54,37 +53,33 @@ ends-in-jump-requires c κs = let h = c .before .before .before .before .before 
 
 open-arms-requires : tie.Need-open-arms-requires
 open-arms-requires c κs =
-    let pre = c .before .before .before .before .before .before .before .pre in
-    let h = pre in
+    let h = c .before .before .before .before .before .before .before .pre in
     (h .0, omega arith, omega (arith, c .before .before .if3 .left), h .2)
 
 returns-4 : tie.Need-returns-4
 returns-4 c =
-    let pre = c .before .before .before .before .before .before .before .before .pre in
+    let h = c .before .before .before .before .before .before .before .before .pre in
     let if1 = c .before .before .before .before .before .before .if1 in
     let offset-at = c .before .before .before .before .offset-at in
     let if3 = c .before .before .before .if3 in
-    let h = pre in
     levelled _ _ _ _ _ _ (if1 .left) (open-told _ _ _ _ _ _ (h .2) (omega arith) (h .3) (offset-at .ensures) (if3 .left)
     (sym (c .before .before .ends-in-jump .ensures) ∙ c .before .if4 .taken) (c .open-arms .ensures))
 
 returns-5 : tie.Need-returns-5
 returns-5 c =
-    let pre = c .before .before .before .before .before .before .before .before .pre in
+    let h = c .before .before .before .before .before .before .before .before .pre in
     let if1 = c .before .before .before .before .before .before .if1 in
     let offset-at = c .before .before .before .before .offset-at in
     let if3 = c .before .before .before .if3 in
-    let h = pre in
     levelled _ _ _ _ _ _ (if1 .left) (cond-closed _ _ _ _ _ _ (h .2) (omega arith) (h .3) (offset-at .ensures) (if3 .left) (c .if5 .taken)
     (sym (c .before .before .ends-in-jump .ensures) ∙ c .before .if4 .left))
 
 returns-6 : tie.Need-returns-6
 returns-6 c =
-    let pre = c .before .before .before .before .before .before .before .before .pre in
+    let h = c .before .before .before .before .before .before .before .before .pre in
     let if1 = c .before .before .before .before .before .before .if1 in
     let offset-at = c .before .before .before .before .offset-at in
     let if3 = c .before .before .before .if3 in
-    let h = pre in
     levelled _ _ _ _ _ _ (if1 .left) (cond-loose _ _ _ _ _ _ (h .2) (omega arith) (h .3) (offset-at .ensures) (if3 .left) (c .if5 .left)
     (sym (c .before .before .ends-in-jump .ensures) ∙ c .before .if4 .left))
 

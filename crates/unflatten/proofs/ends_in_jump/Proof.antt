@@ -38,10 +38,9 @@ loop-less c = omega arith
 
 loop-again : tie.Need-loop-again Inv-loop μ-loop
 loop-again c =
-    let pre = c .before .before .before .before .before .pre in
+    let h = c .before .before .before .before .before .pre in
     let loop = c .before .before .before .loop in
     let i = loop .inv in
-    let h = pre in
     (scan-on _ _ _ _ _ _ _ (h .2) (c .before .before .loop-test .taken) refl (c .after .ensures) (i .0), omega (arith, after-low _ _ (c .after .ensures)))
 
 returns : tie.Need-returns Inv-loop μ-loop

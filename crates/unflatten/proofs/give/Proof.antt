@@ -53,10 +53,9 @@ same-length c = c .before .loop .inv .1
 returns-3 : tie.Need-returns-3 Inv-loop μ-loop
 returns-3 c =
     let pre = c .before .before .before .before .pre in
-    let args = c .before .before .before .before .args in
+    let a = c .before .before .before .before .args in
     let if1 = c .before .before .before .if1 in
     let loop = c .before .loop in
-    let a = args in
     let i = loop .inv in
     let e : loop .i ≡ a .n = omega (arith, i .0, c .loop-test .left) in
     give-all (a .tree .now) (a .out .now) (a .n) (pre) (if1 .left) (c .before .before .if2 .left) (i .2 ∙ ap (paste (a .out .now) 0 (a .tree .now)) e)

@@ -31,9 +31,8 @@ sub-if3 c = search needs
 
 returns-3 : tie.Need-returns-3
 returns-3 c =
-    let pre = c .before .before .before .before .before .pre in
+    let h = c .before .before .before .before .before .pre in
     let if1 = c .before .before .before .if1 in
-    let h = pre in
     levelled _ _ _ _ _ _ (if1 .left) (cont-far _ _ _ _ _ _ (h .2) (omega arith) (h .3) (c .before .offset-at .ensures) (c .if3 .taken))
 
 add-t8 : tie.Need-add-t8
@@ -44,9 +43,8 @@ add-t9 c = search needs
 
 returns-4 : tie.Need-returns-4
 returns-4 c =
-    let pre = c .before .before .before .before .before .pre in
+    let h = c .before .before .before .before .before .pre in
     let if1 = c .before .before .before .if1 in
-    let h = pre in
     levelled _ _ _ _ _ _ (if1 .left) (cont-head _ _ _ _ _ _ (h .2) (omega arith) (h .3) (c .before .offset-at .ensures) (c .if3 .left))
 
 pub make-cont-spec : {M : Type 1} → statement M

@@ -17,8 +17,7 @@ shape-requires c κs = search needs
 
 returns : tie.Need-returns
 returns c =
-    let pre = c .before .before .before .before .pre in
-    let h = pre in
+    let h = c .before .before .before .before .pre in
     head-no-code _ _ _ _ _ (h .1) (h .2) _ refl (h .3) (omega (arith, c .if1 .taken, c .before .shape .ensures))
 
 sub-n : tie.Need-sub-n
@@ -35,16 +34,14 @@ add-if2 c = search needs
 
 returns-2 : tie.Need-returns-2
 returns-2 c =
-    let pre = c .before .before .before .before .before .pre in
+    let h = c .before .before .before .before .before .pre in
     let shape = c .before .before .shape in
-    let h = pre in
     head-cut _ _ _ _ _ (h .1) (h .2) _ refl (h .3) _ (omega (arith, c .before .if1 .left, shape .ensures)) (omega (arith, shape .ensures)) (c .if2 .taken)
 
 returns-3 : tie.Need-returns-3
 returns-3 c =
-    let pre = c .before .before .before .before .before .pre in
+    let h = c .before .before .before .before .before .pre in
     let shape = c .before .before .shape in
-    let h = pre in
     head-neutral _ _ _ _ _ (h .1) (h .2) _ refl (h .3) _ (omega (arith, c .before .if1 .left, shape .ensures)) (omega (arith, shape .ensures)) (c .if2 .left)
 
 pub neutral-spec : {M : Type 1} → statement M

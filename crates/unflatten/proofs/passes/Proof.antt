@@ -21,8 +21,7 @@ slot-named-requires c κs = search needs
 
 returns-2 : tie.Need-returns-2
 returns-2 c =
-    let args = c .before .before .before .before .before .before .args in
-    let a = args in
+    let a = c .before .before .before .before .before .before .args in
     c .slot-named .ensures ∙ passes-none (slotNamed (a .table .now) (a .own)) (a .s .now) (a .p) (a .n) (c .before .before .if1 .left) (c .before .if2 .taken)
 
 add-slot-named : tie.Need-add-slot-named
@@ -36,11 +35,9 @@ slot-named-requires-2 c κs = search needs
 
 returns-3 : tie.Need-returns-3
 returns-3 c =
-    let pre = c .before .before .before .before .before .before .before .pre in
-    let args = c .before .before .before .before .before .before .before .args in
+    let h = c .before .before .before .before .before .before .before .pre in
+    let a = c .before .before .before .before .before .before .before .args in
     let if1 = c .before .before .before .if1 in
-    let a = args in
-    let h = pre in
     c .slot-named2 .ensures ∙ passes-first (slotNamed (a .table .now) (a .own)) (a .s .now) (a .p) (a .n) (if1 .left) (c .before .before .if2 .left) (h .3)
 
 pub passes-spec : {M : Type 1} → statement M

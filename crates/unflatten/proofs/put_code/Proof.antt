@@ -33,17 +33,15 @@ cast-to c = search needs
 
 add-to : tie.Need-add-to
 add-to c =
-    let pre = c .before .before .before .before .before .before .before .pre in
+    let h = c .before .before .before .before .before .before .before .pre in
     let read-three = c .before .before .before .read-three in
-    let h = pre in
     let z = told-read _ _ _ (h .4 .read) (read-three .ensures) (c .before .n .given .1) in
     omega (arith, h .0, h .4 .inside, z)
 
 put-list-requires : tie.Need-put-list-requires
 put-list-requires c κs =
-    let pre = c .before .before .before .before .before .before .before .before .pre in
+    let h = c .before .before .before .before .before .before .before .before .pre in
     let read-three = c .before .before .before .before .read-three in
-    let h = pre in
     let z = told-read _ _ _ (h .4 .read) (read-three .ensures) (c .before .before .n .given .1) in
     (h .0, h .1, h .2, omega arith, omega (arith, h .4 .inside, z), h .3, omega (arith, h .4 .room, z))
 

@@ -51,14 +51,12 @@ same-length c = search needs
 
 returns : tie.Need-returns
 returns c =
-    let pre = c .before .before .before .before .before .before .before .before .before .before .before .before .before .before .before .pre in
-    let args = c .before .before .before .before .before .before .before .before .before .before .before .before .before .before .before .args in
+    let h = c .before .before .before .before .before .before .before .before .before .before .before .before .before .before .before .pre in
+    let a = c .before .before .before .before .before .before .before .before .before .before .before .before .before .before .before .args in
     let passes = c .before .before .before .before .before .before .before .before .before .before .before .passes in
     let if1 = c .before .before .before .before .before .before .before .before .before .before .if1 in
     let put-field = c .before .before .before .before .before .before .before .put-field in
     let copy-bits = c .before .before .before .copy-bits in
-    let a = args in
-    let h = pre in
     let f = put-field .ensures in
     let i = copy-bits .ensures in
     plain-more (slotNamed (a .table .now) (a .own)) (a .s .now) (a .levels) (a .closed) (a .p) (a .to) (a .at .0) (a .out .now) _ (h .5) (a .n) (h .6) _
@@ -66,10 +64,8 @@ returns c =
 
 returns-2 : tie.Need-returns-2
 returns-2 c =
-    let pre = c .before .before .before .before .before .pre in
-    let args = c .before .before .before .before .before .args in
-    let a = args in
-    let h = pre in
+    let h = c .before .before .before .before .before .pre in
+    let a = c .before .before .before .before .before .args in
     plain-none (slotNamed (a .table .now) (a .own)) (a .s .now) (a .levels) (a .closed) (a .p) (a .to) (a .at .0) (a .out .now) (a .out .now) (h .5) (a .n)
     (h .6) (sym (c .before .passes .ensures) ∙ c .if1 .left)
 

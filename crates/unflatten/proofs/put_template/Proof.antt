@@ -18,19 +18,15 @@ use Rattle.unflatten.proofs.put_code.Reads as put-code-reads
 
 mul-read-entries : tie.Need-mul-read-entries
 mul-read-entries c =
-    let pre = c .before .before .before .pre in
-    let args = c .before .before .before .args in
-    let h = pre in
-    let a = args in
+    let h = c .before .before .before .pre in
+    let a = c .before .before .before .args in
     let p = parts (a .s .now) (a .table .now) (a .out .now) (a .own) (a .count) (a .byte) (a .at .0) (h .1) (h .2) (h .3) (h .5) in
     omega (arith, h .0, p .inside, p .end-is)
 
 bits-at-requires : tie.Need-bits-at-requires
 bits-at-requires c κs =
-    let pre = c .before .before .before .pre in
-    let args = c .before .before .before .args in
-    let h = pre in
-    let a = args in
+    let h = c .before .before .before .pre in
+    let a = c .before .before .before .args in
     let p = parts (a .s .now) (a .table .now) (a .out .now) (a .own) (a .count) (a .byte) (a .at .0) (h .1) (h .2) (h .3) (h .5) in
     (h .0, (omega arith, omega (arith, p .inside, p .end-is)))
 
@@ -39,17 +35,14 @@ cast-read-entries c = search needs
 
 past-requires : tie.Need-past-requires
 past-requires c κs =
-    let pre = c .before .before .before .before .before .pre in
-    let args = c .before .before .before .before .before .args in
-    let h = pre in
-    let a = args in
+    let h = c .before .before .before .before .before .pre in
+    let a = c .before .before .before .before .before .args in
     let p = parts (a .s .now) (a .table .now) (a .out .now) (a .own) (a .count) (a .byte) (a .at .0) (h .1) (h .2) (h .3) (h .5) in
     omega (arith, h .0, p .inside, p .end-is)
 
 read-entries-requires : tie.Need-read-entries-requires
 read-entries-requires c κs =
-    let pre = c .before .before .before .before .before .before .pre in
-    let h = pre in
+    let h = c .before .before .before .before .before .before .pre in
     (h .0, (omega (arith, h .1, h .2), (h .3, c .before .before .bits-at .ensures .1)))
 
 enum-known-past : tie.Need-enum-known-past
@@ -57,13 +50,11 @@ enum-known-past c = search needs
 
 since-requires : tie.Need-since-requires
 since-requires c κs =
-    let pre = c .before .before .before .before .before .before .before .before .before .before .before .before .pre in
-    let args = c .before .before .before .before .before .before .before .before .before .before .before .before .args in
+    let h = c .before .before .before .before .before .before .before .before .before .before .before .before .pre in
+    let a = c .before .before .before .before .before .before .before .before .before .before .before .before .args in
     let bits-at = c .before .before .before .before .before .before .before .before .bits-at in
     let past = c .before .before .before .before .before .before .past in
     let read-entries = c .before .before .before .before .before .read-entries in
-    let h = pre in
-    let a = args in
     let p = parts (a .s .now) (a .table .now) (a .out .now) (a .own) (a .count) (a .byte) (a .at .0) (h .1) (h .2) (h .3) (h .5) in
     let e = ends-at (a .s .now) (a .table .now) (a .out .now) (a .own) (a .count) (a .byte) (a .at .0) (h .1) (h .2) (h .3) (h .5) (bits-at .ensures .0)
     (past .ensures) (read-entries .ensures .0) (c .before .past2 .given .1) in
@@ -71,15 +62,13 @@ since-requires c κs =
 
 copy-bits-requires : tie.Need-copy-bits-requires
 copy-bits-requires c κs =
-    let pre = c .before .before .before .before .before .before .before .before .before .before .before .before .before .before .pre in
-    let args = c .before .before .before .before .before .before .before .before .before .before .before .before .before .before .args in
+    let h = c .before .before .before .before .before .before .before .before .before .before .before .before .before .before .pre in
+    let a = c .before .before .before .before .before .before .before .before .before .before .before .before .before .before .args in
     let bits-at = c .before .before .before .before .before .before .before .before .before .before .bits-at in
     let past = c .before .before .before .before .before .before .before .before .past in
     let read-entries = c .before .before .before .before .before .before .before .read-entries in
     let past2 = c .before .before .before .past2 in
     let since = c .before .since in
-    let h = pre in
-    let a = args in
     let p = parts (a .s .now) (a .table .now) (a .out .now) (a .own) (a .count) (a .byte) (a .at .0) (h .1) (h .2) (h .3) (h .5) in
     let e = ends-at (a .s .now) (a .table .now) (a .out .now) (a .own) (a .count) (a .byte) (a .at .0) (h .1) (h .2) (h .3) (h .5) (bits-at .ensures .0)
     (past .ensures) (read-entries .ensures .0) (past2 .given .1) in
@@ -87,16 +76,14 @@ copy-bits-requires c κs =
 
 past-requires-2 : tie.Need-past-requires-2
 past-requires-2 c κs =
-    let pre = c .before .before .before .before .before .before .before .before .before .before .before .before .before .before .before .before .before
+    let h = c .before .before .before .before .before .before .before .before .before .before .before .before .before .before .before .before .before
     .before .pre in
-    let args = c .before .before .before .before .before .before .before .before .before .before .before .before .before .before .before .before .before
+    let a = c .before .before .before .before .before .before .before .before .before .before .before .before .before .before .before .before .before
     .before .args in
     let bits-at = c .before .before .before .before .before .before .before .before .before .before .before .before .before .before .bits-at in
     let past = c .before .before .before .before .before .before .before .before .before .before .before .before .past in
     let read-entries = c .before .before .before .before .before .before .before .before .before .before .before .read-entries in
     let past2 = c .before .before .before .before .before .before .before .past2 in
-    let h = pre in
-    let a = args in
     let p = parts (a .s .now) (a .table .now) (a .out .now) (a .own) (a .count) (a .byte) (a .at .0) (h .1) (h .2) (h .3) (h .5) in
     let e = ends-at (a .s .now) (a .table .now) (a .out .now) (a .own) (a .count) (a .byte) (a .at .0) (h .1) (h .2) (h .3) (h .5) (bits-at .ensures .0)
     (past .ensures) (read-entries .ensures .0) (past2 .given .1) in
@@ -107,9 +94,9 @@ byte-requires c κs = search needs
 
 put-code-requires : tie.Need-put-code-requires
 put-code-requires c κs =
-    let pre = c .before .before .before .before .before .before .before .before .before .before .before .before .before .before .before .before .before
+    let h = c .before .before .before .before .before .before .before .before .before .before .before .before .before .before .before .before .before
     .before .before .before .before .pre in
-    let args = c .before .before .before .before .before .before .before .before .before .before .before .before .before .before .before .before .before
+    let a = c .before .before .before .before .before .before .before .before .before .before .before .before .before .before .before .before .before
     .before .before .before .before .args in
     let bits-at = c .before .before .before .before .before .before .before .before .before .before .before .before .before .before .before .before .before
     .bits-at in
@@ -118,8 +105,6 @@ put-code-requires c κs =
     let past2 = c .before .before .before .before .before .before .before .before .before .before .past2 in
     let since = c .before .before .before .before .before .before .before .before .since in
     let copy-bits = c .before .before .before .before .before .before .copy-bits in
-    let h = pre in
-    let a = args in
     let p = parts (a .s .now) (a .table .now) (a .out .now) (a .own) (a .count) (a .byte) (a .at .0) (h .1) (h .2) (h .3) (h .5) in
     let k = copy-bits .kept .1 .1 .1 .0 in (
       h .0,
@@ -142,9 +127,9 @@ same-length-2 c = search needs
 
 returns : tie.Need-returns
 returns c =
-    let pre = c .before .before .before .before .before .before .before .before .before .before .before .before .before .before .before .before .before
+    let h = c .before .before .before .before .before .before .before .before .before .before .before .before .before .before .before .before .before
     .before .before .before .before .before .before .before .pre in
-    let args = c .before .before .before .before .before .before .before .before .before .before .before .before .before .before .before .before .before
+    let a = c .before .before .before .before .before .before .before .before .before .before .before .before .before .before .before .before .before
     .before .before .before .before .before .before .before .args in
     let bits-at = c .before .before .before .before .before .before .before .before .before .before .before .before .before .before .before .before .before
     .before .before .before .bits-at in
@@ -156,9 +141,7 @@ returns c =
     let since = c .before .before .before .before .before .before .before .before .before .before .before .since in
     let copy-bits = c .before .before .before .before .before .before .before .before .before .copy-bits in
     let past3 = c .before .before .before .before .before .past3 in
-    let byte = c .before .before .before .before .byte in
-    let h = pre in
-    let a = args in (
+    let byte = c .before .before .before .before .byte in (
       λ w. template-put (a .s .now) (a .table .now) (a .out .now) (a .own) (a .count) (a .byte) (a .at .0) (h .1) (h .2) (h .3) w (bits-at .ensures .0)
           (past .ensures) (read-entries .ensures .0) (past2 .given .1) (read-entries .ensures .1) (since .ensures) (copy-bits .ensures .1) (copy-bits .ensures .0)
           (byte .ensures ∙ ap (λ x. x / 8) (past3 .ensures)) (c .before .before .put-code .ensures),
@@ -170,13 +153,11 @@ same-length-3 c = search needs
 
 returns-2 : tie.Need-returns-2
 returns-2 c =
-    let pre = c .before .before .before .before .before .before .before .before .before .before .before .pre in
-    let args = c .before .before .before .before .before .before .before .before .before .before .before .args in
+    let h = c .before .before .before .before .before .before .before .before .before .before .before .pre in
+    let a = c .before .before .before .before .before .before .before .before .before .before .before .args in
     let bits-at = c .before .before .before .before .before .before .before .bits-at in
     let past = c .before .before .before .before .before .past in
-    let read-entries = c .before .before .before .before .read-entries in
-    let h = pre in
-    let a = args in (
+    let read-entries = c .before .before .before .before .read-entries in (
       λ w. absurd (not-refused (a .s .now) (a .table .now) (a .out .now) (a .own) (a .count) (a .byte) (a .at .0) (h .1) (h .2) (h .3) w (bits-at .ensures .0)
           (past .ensures) (read-entries .ensures .0) (c .enum-told .given .1)),
       slots-same (a .s .now) (a .own) (a .count) (a .byte) _ _ (a .table .now) _ (bits-at .ensures .0) (past .ensures) (read-entries .ensures .1),

@@ -22,10 +22,9 @@ loop-holds c = let h = c .before .before .before .pre in growing-begun _ _ _ _ _
 
 put-template-requires : tie.Need-put-template-requires Inv-loop μ-loop
 put-template-requires c κs =
-    let pre = c .before .before .before .before .before .before .before .pre in
+    let h = c .before .before .before .before .before .before .before .pre in
     let loop = c .before .before .before .loop in
     let loop-test = c .before .before .loop-test in
-    let h = pre in
     let g = loop .inv in (
       h .0,
       g .rows ∙ h .1,
@@ -52,11 +51,10 @@ same-length-2 c =
 
 returns : tie.Need-returns Inv-loop μ-loop
 returns c =
-    let pre = c .before .before .before .before .before .before .before .before .before .before .before .before .before .before .pre in
+    let h = c .before .before .before .before .before .before .before .before .before .before .before .before .before .before .pre in
     let loop = c .before .before .before .before .before .before .before .before .before .before .loop in
     let loop-test = c .before .before .before .before .before .before .before .before .before .loop-test in
     let put-template = c .before .before .before .before .before .before .put-template in
-    let h = pre in
     let g = loop .inv in
     let t = loop-test .taken in
     growing-stuck _ _ _ _ _ _ _ _ _ _ _ _ g t (h .2) (put-template .ensures .0 (this-one _ _ _ _ _ _ _ _ _ _ _ _ g t (h .2))) (c .enum-told .given .1)
@@ -66,9 +64,8 @@ enum-known-next c = search needs
 
 add-own : tie.Need-add-own Inv-loop μ-loop
 add-own c =
-    let pre = c .before .before .before .before .before .before .before .before .before .before .before .before .before .before .before .pre in
+    let h = c .before .before .before .before .before .before .before .before .before .before .before .before .before .before .before .pre in
     let loop-test = c .before .before .before .before .before .before .before .before .before .before .loop-test in
-    let h = pre in
     omega (arith, loop-test .taken, h .2)
 
 loop-less : tie.Need-loop-less Inv-loop μ-loop
@@ -76,11 +73,10 @@ loop-less c = let t = c .before .before .before .before .before .before .before 
 
 loop-again : tie.Need-loop-again Inv-loop μ-loop
 loop-again c =
-    let pre = c .before .before .before .before .before .before .before .before .before .before .before .before .before .before .before .pre in
+    let h = c .before .before .before .before .before .before .before .before .before .before .before .before .before .before .before .pre in
     let loop = c .before .before .before .before .before .before .before .before .before .before .before .loop in
     let loop-test = c .before .before .before .before .before .before .before .before .before .before .loop-test in
     let put-template = c .before .before .before .before .before .before .before .put-template in
-    let h = pre in
     let g = loop .inv in
     let t = loop-test .taken in
     let w = this-one _ _ _ _ _ _ _ _ _ _ _ _ g t (h .2) in

@@ -36,9 +36,8 @@ slot-fits-requires c κs = search needs
 returns-3 : tie.Need-returns-3
 unfolding slotNamed
 returns-3 c =
-    let args = c .before .before .before .before .before .args in
+    let a = c .before .before .before .before .before .args in
     let if1 = c .before .before .before .if1 in
-    let a = args in
     c .slot-fits .ensures ∙ rw (le-leb (a .code) 9 (if1 .left), ne-eqb (a .n) 0 (c .before .before .if2 .left)) refl
 
 pub slot-named-spec : {M : Type 1} → statement M
