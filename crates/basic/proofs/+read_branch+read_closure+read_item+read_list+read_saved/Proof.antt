@@ -95,46 +95,6 @@ abbrev read-saved-below : ℕ → In 1 read-saved-kinds.ps
 read-saved-below t =
     and 1 read-saved-kinds.ps (falls 1 read-saved-kinds.ps _<_ μ-read-saved t) read-saved.Pre
 
-read-branch-read-list-requires : (t : ℕ) → read-branch-lts.Need-read-list-requires (
-  read-list-below t,
-  read-list.Post,
-  branch-kind-reads.Asked,
-  branch-kind-reads.Learnt,
-) (read-branch-at t) read-branch.Post
-read-branch-read-list-requires t c κs = search needs
-
-read-branch-enum-known-mid : (t : ℕ) → read-branch-lts.Need-enum-known-mid (
-  read-list-below t,
-  read-list.Post,
-  branch-kind-reads.Asked,
-  branch-kind-reads.Learnt,
-) (read-branch-at t) read-branch.Post
-read-branch-enum-known-mid t c = search needs
-
-read-branch-read-list-requires-2 : (t : ℕ) → read-branch-lts.Need-read-list-requires-2 (
-  read-list-below t,
-  read-list.Post,
-  branch-kind-reads.Asked,
-  branch-kind-reads.Learnt,
-) (read-branch-at t) read-branch.Post
-read-branch-read-list-requires-2 t c κs = search needs
-
-read-branch-enum-known-past : (t : ℕ) → read-branch-lts.Need-enum-known-past (
-  read-list-below t,
-  read-list.Post,
-  branch-kind-reads.Asked,
-  branch-kind-reads.Learnt,
-) (read-branch-at t) read-branch.Post
-read-branch-enum-known-past t c = search needs
-
-read-branch-branch-kind-requires : (t : ℕ) → read-branch-lts.Need-branch-kind-requires (
-  read-list-below t,
-  read-list.Post,
-  branch-kind-reads.Asked,
-  branch-kind-reads.Learnt,
-) (read-branch-at t) read-branch.Post
-read-branch-branch-kind-requires t c κs = search needs
-
 read-branch-add-t17 : (t : ℕ) → read-branch-lts.Need-add-t17 (
   read-list-below t,
   read-list.Post,
@@ -150,22 +110,6 @@ read-branch-add-t17 t c =
     let w = inside-few (pre .1) (list-is _ _ _ _ _ (sym (mid .given .1) ∙ read-list′ .ensures)) in
     let v = inside-few (pre .1) (list-is _ _ _ _ _ (sym (past .given .1) ∙ read-list2 .ensures)) in
     omega (arith, w, v)
-
-read-branch-enum-known-no : (t : ℕ) → read-branch-lts.Need-enum-known-no (
-  read-list-below t,
-  read-list.Post,
-  branch-kind-reads.Asked,
-  branch-kind-reads.Learnt,
-) (read-branch-at t) read-branch.Post
-read-branch-enum-known-no t c = search needs
-
-read-branch-enum-known-no-2 : (t : ℕ) → read-branch-lts.Need-enum-known-no-2 (
-  read-list-below t,
-  read-list.Post,
-  branch-kind-reads.Asked,
-  branch-kind-reads.Learnt,
-) (read-branch-at t) read-branch.Post
-read-branch-enum-known-no-2 t c = search needs
 
 read-branch-returns : (t : ℕ) → read-branch-lts.Need-returns (
   read-list-below t,
@@ -205,18 +149,6 @@ read-branch-returns-3 t c =
     let read-list′ = c .before .before .before .read-list in
     λ p e. branch-bad _ _ p _ e _ _ (list-refused _ _ _ _ _ (sym (c .before .no2 .given .1) ∙ read-list′ .ensures))
 
-read-closure-read-list-requires : (t : ℕ) → read-closure-lts.Need-read-list-requires (
-  read-list-below t,
-  read-list.Post,
-) (read-closure-at t) read-closure.Post
-read-closure-read-list-requires t c κs = search needs
-
-read-closure-enum-known-past : (t : ℕ) → read-closure-lts.Need-enum-known-past (
-  read-list-below t,
-  read-list.Post,
-) (read-closure-at t) read-closure.Post
-read-closure-enum-known-past t c = search needs
-
 read-closure-add-t11 :
     (t : ℕ) →
     read-closure-lts.Need-add-t11
@@ -228,12 +160,6 @@ read-closure-add-t11 t c =
     let read-list′ = c .before .before .before .before .read-list in
     let w = inside-few (pre .1) (list-is _ _ _ _ _ (sym (c .before .before .past .given .1) ∙ read-list′ .ensures)) in
     omega (arith, w)
-
-read-closure-enum-known-no : (t : ℕ) → read-closure-lts.Need-enum-known-no (
-  read-list-below t,
-  read-list.Post,
-) (read-closure-at t) read-closure.Post
-read-closure-enum-known-no t c = search needs
 
 read-closure-returns :
     (t : ℕ) →
@@ -252,90 +178,6 @@ read-closure-returns-2 : (t : ℕ) → read-closure-lts.Need-returns-2 (
 read-closure-returns-2 t c =
     let read-list′ = c .before .before .before .read-list in
     λ p e. closure-bad _ _ p _ e _ _ (list-refused _ _ _ _ _ (sym (c .before .no .given .1) ∙ read-list′ .ensures))
-
-read-item-read-token-requires : (t : ℕ) → read-item-lts.Need-read-token-requires (
-  read-token-reads.Asked,
-  read-token-reads.Learnt,
-  read-closure-below t,
-  read-closure.Post,
-  read-branch-below t,
-  read-branch.Post,
-  read-saved-below t,
-  read-saved.Post,
-) (read-item-at t) read-item.Post
-read-item-read-token-requires t c κs = search needs
-
-read-item-enum-known-next : (t : ℕ) → read-item-lts.Need-enum-known-next (
-  read-token-reads.Asked,
-  read-token-reads.Learnt,
-  read-closure-below t,
-  read-closure.Post,
-  read-branch-below t,
-  read-branch.Post,
-  read-saved-below t,
-  read-saved.Post,
-) (read-item-at t) read-item.Post
-read-item-enum-known-next t c = search needs
-
-read-item-enum-known-next-2 : (t : ℕ) → read-item-lts.Need-enum-known-next-2 (
-  read-token-reads.Asked,
-  read-token-reads.Learnt,
-  read-closure-below t,
-  read-closure.Post,
-  read-branch-below t,
-  read-branch.Post,
-  read-saved-below t,
-  read-saved.Post,
-) (read-item-at t) read-item.Post
-read-item-enum-known-next-2 t c = search needs
-
-read-item-enum-known-next-3 : (t : ℕ) → read-item-lts.Need-enum-known-next-3 (
-  read-token-reads.Asked,
-  read-token-reads.Learnt,
-  read-closure-below t,
-  read-closure.Post,
-  read-branch-below t,
-  read-branch.Post,
-  read-saved-below t,
-  read-saved.Post,
-) (read-item-at t) read-item.Post
-read-item-enum-known-next-3 t c = search needs
-
-read-item-enum-known-next-4 : (t : ℕ) → read-item-lts.Need-enum-known-next-4 (
-  read-token-reads.Asked,
-  read-token-reads.Learnt,
-  read-closure-below t,
-  read-closure.Post,
-  read-branch-below t,
-  read-branch.Post,
-  read-saved-below t,
-  read-saved.Post,
-) (read-item-at t) read-item.Post
-read-item-enum-known-next-4 t c = search needs
-
-read-item-enum-known-next-5 : (t : ℕ) → read-item-lts.Need-enum-known-next-5 (
-  read-token-reads.Asked,
-  read-token-reads.Learnt,
-  read-closure-below t,
-  read-closure.Post,
-  read-branch-below t,
-  read-branch.Post,
-  read-saved-below t,
-  read-saved.Post,
-) (read-item-at t) read-item.Post
-read-item-enum-known-next-5 t c = search needs
-
-read-item-enum-known-next-6 : (t : ℕ) → read-item-lts.Need-enum-known-next-6 (
-  read-token-reads.Asked,
-  read-token-reads.Learnt,
-  read-closure-below t,
-  read-closure.Post,
-  read-branch-below t,
-  read-branch.Post,
-  read-saved-below t,
-  read-saved.Post,
-) (read-item-at t) read-item.Post
-read-item-enum-known-next-6 t c = search needs
 
 read-item-sub-read-closure : (t : ℕ) → read-item-lts.Need-sub-read-closure (
   read-token-reads.Asked,
@@ -365,18 +207,6 @@ read-item-read-closure-requires t c κs =
     let h = closure-level _ _ _ _ (is-closure _ _ (turned (c .before .next6 .given .1) (read-token .ensures))) in
     (omega (arith, h), pre .1)
 
-read-item-enum-known-next-7 : (t : ℕ) → read-item-lts.Need-enum-known-next-7 (
-  read-token-reads.Asked,
-  read-token-reads.Learnt,
-  read-closure-below t,
-  read-closure.Post,
-  read-branch-below t,
-  read-branch.Post,
-  read-saved-below t,
-  read-saved.Post,
-) (read-item-at t) read-item.Post
-read-item-enum-known-next-7 t c = search needs
-
 read-item-sub-read-branch : (t : ℕ) → read-item-lts.Need-sub-read-branch (
   read-token-reads.Asked,
   read-token-reads.Learnt,
@@ -405,18 +235,6 @@ read-item-read-branch-requires t c κs =
     let h = branch-level _ _ _ _ (is-branch _ _ (turned (c .before .next7 .given .1) (read-token .ensures))) in
     (omega (arith, h), pre .1)
 
-read-item-enum-known-next-8 : (t : ℕ) → read-item-lts.Need-enum-known-next-8 (
-  read-token-reads.Asked,
-  read-token-reads.Learnt,
-  read-closure-below t,
-  read-closure.Post,
-  read-branch-below t,
-  read-branch.Post,
-  read-saved-below t,
-  read-saved.Post,
-) (read-item-at t) read-item.Post
-read-item-enum-known-next-8 t c = search needs
-
 read-item-sub-read-saved : (t : ℕ) → read-item-lts.Need-sub-read-saved (
   read-token-reads.Asked,
   read-token-reads.Learnt,
@@ -444,18 +262,6 @@ read-item-read-saved-requires t c κs =
     let read-token = c .before .before .before .read-token in
     let h = save-level _ _ _ _ _ (is-save _ _ (turned (c .before .next8 .given .1) (read-token .ensures)) .1) in
     (omega (arith, h), pre .1)
-
-read-item-enum-known-no : (t : ℕ) → read-item-lts.Need-enum-known-no (
-  read-token-reads.Asked,
-  read-token-reads.Learnt,
-  read-closure-below t,
-  read-closure.Post,
-  read-branch-below t,
-  read-branch.Post,
-  read-saved-below t,
-  read-saved.Post,
-) (read-item-at t) read-item.Post
-read-item-enum-known-no t c = search needs
 
 read-item-returns : (t : ℕ) → read-item-lts.Need-returns (
   read-token-reads.Asked,
@@ -589,22 +395,6 @@ read-list-loop-holds : (t : ℕ) → read-list-lts.Need-loop-holds (
 ) (read-list-at t) read-list.Post read-list-Inv-loop read-list-μ-loop
 read-list-loop-holds t c = (told-begun _, omega arith)
 
-read-list-read-item-requires : (t : ℕ) → read-list-lts.Need-read-item-requires (
-  read-item-below t,
-  read-item.Post,
-  kind-after-reads.Asked,
-  kind-after-reads.Learnt,
-) (read-list-at t) read-list.Post read-list-Inv-loop read-list-μ-loop
-read-list-read-item-requires t c κs = search needs
-
-read-list-enum-known-next : (t : ℕ) → read-list-lts.Need-enum-known-next (
-  read-item-below t,
-  read-item.Post,
-  kind-after-reads.Asked,
-  kind-after-reads.Learnt,
-) (read-list-at t) read-list.Post read-list-Inv-loop read-list-μ-loop
-read-list-enum-known-next t c = search needs
-
 read-list-returns : (t : ℕ) → read-list-lts.Need-returns (
   read-item-below t,
   read-item.Post,
@@ -615,22 +405,6 @@ read-list-returns t c =
     let loop = c .before .before .before .before .loop in
     let read-item′ = c .before .before .before .read-item in
     sym (loop .inv .0 ∙ turn-end _ _ _ _ _ _ (stepped (c .before .next .given .1) (read-item′ .ensures)))
-
-read-list-enum-known-next-2 : (t : ℕ) → read-list-lts.Need-enum-known-next-2 (
-  read-item-below t,
-  read-item.Post,
-  kind-after-reads.Asked,
-  kind-after-reads.Learnt,
-) (read-list-at t) read-list.Post read-list-Inv-loop read-list-μ-loop
-read-list-enum-known-next-2 t c = search needs
-
-read-list-kind-after-requires : (t : ℕ) → read-list-lts.Need-kind-after-requires (
-  read-item-below t,
-  read-item.Post,
-  kind-after-reads.Asked,
-  kind-after-reads.Learnt,
-) (read-list-at t) read-list.Post read-list-Inv-loop read-list-μ-loop
-read-list-kind-after-requires t c κs = search needs
 
 read-list-add-inside : (t : ℕ) → read-list-lts.Need-add-inside (
   read-item-below t,
@@ -668,14 +442,6 @@ read-list-loop-again t c =
     let w = turn-bits _ _ _ _ _ _ (stepped (next2 .given .1) (read-item′ .ensures)) in
     rw (c .kind-after .ensures) (loop .inv .0 ∙ turn-more _ _ _ _ _ _ _ _ (stepped (next2 .given .1) (read-item′ .ensures)), omega (arith, w .0, loop .inv .1))
 
-read-list-enum-known-no : (t : ℕ) → read-list-lts.Need-enum-known-no (
-  read-item-below t,
-  read-item.Post,
-  kind-after-reads.Asked,
-  kind-after-reads.Learnt,
-) (read-list-at t) read-list.Post read-list-Inv-loop read-list-μ-loop
-read-list-enum-known-no t c = search needs
-
 read-list-returns-2 : (t : ℕ) → read-list-lts.Need-returns-2 (
   read-item-below t,
   read-item.Post,
@@ -686,38 +452,6 @@ read-list-returns-2 t c =
     let loop = c .before .before .before .before .loop in
     let read-item′ = c .before .before .before .read-item in
     sym (loop .inv .0 ∙ turn-bad _ _ _ _ _ _ _ (stepped (c .before .no .given .1) (read-item′ .ensures)))
-
-read-saved-read-list-requires : (t : ℕ) → read-saved-lts.Need-read-list-requires (
-  read-list-below t,
-  read-list.Post,
-  save-kind-reads.Asked,
-  save-kind-reads.Learnt,
-) (read-saved-at t) read-saved.Post
-read-saved-read-list-requires t c κs = search needs
-
-read-saved-enum-known-past : (t : ℕ) → read-saved-lts.Need-enum-known-past (
-  read-list-below t,
-  read-list.Post,
-  save-kind-reads.Asked,
-  save-kind-reads.Learnt,
-) (read-saved-at t) read-saved.Post
-read-saved-enum-known-past t c = search needs
-
-read-saved-save-kind-requires : (t : ℕ) → read-saved-lts.Need-save-kind-requires (
-  read-list-below t,
-  read-list.Post,
-  save-kind-reads.Asked,
-  save-kind-reads.Learnt,
-) (read-saved-at t) read-saved.Post
-read-saved-save-kind-requires t c κs = search needs
-
-read-saved-enum-known-no : (t : ℕ) → read-saved-lts.Need-enum-known-no (
-  read-list-below t,
-  read-list.Post,
-  save-kind-reads.Asked,
-  save-kind-reads.Learnt,
-) (read-saved-at t) read-saved.Post
-read-saved-enum-known-no t c = search needs
 
 read-saved-returns : (t : ℕ) → read-saved-lts.Need-returns (
   read-list-below t,
@@ -740,43 +474,12 @@ read-saved-returns-2 t c =
     λ p n e. save-bad _ _ p _ n e _ _ (list-refused _ _ _ _ _ (sym (c .before .no .given .1) ∙ read-list′ .ensures))
 
 pub +read-branch+read-closure+read-item+read-list+read-saved-spec : {M : Type 1} → statement M
-+read-branch+read-closure+read-item+read-list+read-saved-spec =
-    close
-    μ-read-branch
-    μ-read-closure
-    μ-read-item
-    μ-read-list
-    μ-read-saved
-    (λ t. read-branch-lts.spec (
-      read-list-below t,
-      read-list.Post,
-      branch-kind-reads.Asked,
-      branch-kind-reads.Learnt,
-    )
-    (read-branch-at t)
-    read-branch.Post
-    (read-branch-read-list-requires t)
-    (read-branch-enum-known-mid t)
-    (read-branch-read-list-requires-2 t)
-    (read-branch-enum-known-past t)
-    (read-branch-branch-kind-requires t)
-    (read-branch-add-t17 t)
-    (read-branch-enum-known-no t)
-    (read-branch-enum-known-no-2 t)
-    (read-branch-returns t)
-    (read-branch-returns-2 t)
-    (read-branch-returns-3 t))
-    (λ t. read-closure-lts.spec
-    (read-list-below t, read-list.Post)
-    (read-closure-at t)
-    read-closure.Post
-    (read-closure-read-list-requires t)
-    (read-closure-enum-known-past t)
-    (read-closure-add-t11 t)
-    (read-closure-enum-known-no t)
-    (read-closure-returns t)
-    (read-closure-returns-2 t))
-    (λ t. read-item-lts.spec (
++read-branch+read-closure+read-item+read-list+read-saved-spec = close μ-read-branch μ-read-closure μ-read-item μ-read-list μ-read-saved (λ t.
+    read-branch-lts.spec (read-list-below t, read-list.Post, branch-kind-reads.Asked, branch-kind-reads.Learnt) (read-branch-at t) read-branch.Post
+    (search needs) (search needs) (search needs) (search needs) (search needs) (read-branch-add-t17 t) (search needs) (search needs)
+    (read-branch-returns t) (read-branch-returns-2 t) (read-branch-returns-3 t)) (λ t. read-closure-lts.spec (read-list-below t, read-list.Post)
+    (read-closure-at t) read-closure.Post (search needs) (search needs) (read-closure-add-t11 t) (search needs) (read-closure-returns t)
+    (read-closure-returns-2 t)) (λ t. read-item-lts.spec (
       read-token-reads.Asked,
       read-token-reads.Learnt,
       read-closure-below t,
@@ -785,62 +488,13 @@ pub +read-branch+read-closure+read-item+read-list+read-saved-spec : {M : Type 1}
       read-branch.Post,
       read-saved-below t,
       read-saved.Post,
-    )
-    (read-item-at t)
-    read-item.Post
-    (read-item-read-token-requires t)
-    (read-item-enum-known-next t)
-    (read-item-enum-known-next-2 t)
-    (read-item-enum-known-next-3 t)
-    (read-item-enum-known-next-4 t)
-    (read-item-enum-known-next-5 t)
-    (read-item-enum-known-next-6 t)
-    (read-item-sub-read-closure t)
-    (read-item-read-closure-requires t)
-    (read-item-enum-known-next-7 t)
-    (read-item-sub-read-branch t)
-    (read-item-read-branch-requires t)
-    (read-item-enum-known-next-8 t)
-    (read-item-sub-read-saved t)
-    (read-item-read-saved-requires t)
-    (read-item-enum-known-no t)
-    (read-item-returns t)
-    (read-item-returns-2 t)
-    (read-item-returns-3 t)
-    (read-item-returns-4 t)
-    (read-item-returns-5 t)
-    (read-item-returns-6 t)
-    (read-item-returns-7 t)
-    (read-item-returns-8 t)
-    (read-item-returns-9 t))
-    (λ t. read-list-lts.spec (
-      read-item-below t,
-      read-item.Post,
-      kind-after-reads.Asked,
-      kind-after-reads.Learnt,
-    )
-    (read-list-at t)
-    read-list.Post
-    read-list-Inv-loop
-    read-list-μ-loop
-    (read-list-loop-holds t)
-    (read-list-read-item-requires t)
-    (read-list-enum-known-next t)
-    (read-list-returns t)
-    (read-list-enum-known-next-2 t)
-    (read-list-kind-after-requires t)
-    (read-list-add-inside t)
-    (read-list-loop-less t)
-    (read-list-loop-again t)
-    (read-list-enum-known-no t)
-    (read-list-returns-2 t))
-    λ t. read-saved-lts.spec
-    (read-list-below t, read-list.Post, save-kind-reads.Asked, save-kind-reads.Learnt)
-    (read-saved-at t)
-    read-saved.Post
-    (read-saved-read-list-requires t)
-    (read-saved-enum-known-past t)
-    (read-saved-save-kind-requires t)
-    (read-saved-enum-known-no t)
-    (read-saved-returns t)
-    (read-saved-returns-2 t)
+    ) (read-item-at t) read-item.Post (search needs) (search needs)
+    (search needs) (search needs) (search needs) (search needs) (search needs) (read-item-sub-read-closure t) (read-item-read-closure-requires t)
+    (search needs) (read-item-sub-read-branch t) (read-item-read-branch-requires t) (search needs) (read-item-sub-read-saved t)
+    (read-item-read-saved-requires t) (search needs) (read-item-returns t) (read-item-returns-2 t) (read-item-returns-3 t) (read-item-returns-4 t)
+    (read-item-returns-5 t) (read-item-returns-6 t) (read-item-returns-7 t) (read-item-returns-8 t) (read-item-returns-9 t)) (λ t. read-list-lts.spec
+    (read-item-below t, read-item.Post, kind-after-reads.Asked, kind-after-reads.Learnt) (read-list-at t) read-list.Post read-list-Inv-loop
+    read-list-μ-loop (read-list-loop-holds t) (search needs) (search needs) (read-list-returns t) (search needs) (search needs)
+    (read-list-add-inside t) (read-list-loop-less t) (read-list-loop-again t) (search needs) (read-list-returns-2 t)) λ t. read-saved-lts.spec
+    (read-list-below t, read-list.Post, save-kind-reads.Asked, save-kind-reads.Learnt) (read-saved-at t) read-saved.Post (search needs) (search needs)
+    (search needs) (search needs) (read-saved-returns t) (read-saved-returns-2 t)

@@ -5,15 +5,9 @@ use borrow.Author.Needs.{needs}
 use Rattle.basic.proofs.branch_kind.Statement.{statement}
 use Rattle.basic.proofs.branch_kind.Tie as tie
 
-both-requires : tie.Need-both-requires
-both-requires c κs = search needs
-
 returns : tie.Need-returns
 unfolding branchKind
 returns c = rw (sym (c .before .both .ensures) ∙ c .if1 .taken) refl
-
-both-requires-2 : tie.Need-both-requires-2
-both-requires-2 c κs = search needs
 
 returns-2 : tie.Need-returns-2
 unfolding branchKind
@@ -24,4 +18,4 @@ unfolding branchKind
 returns-3 c = rw (sym (c .before .before .before .both .ensures) ∙ c .before .before .if1 .left, sym (c .before .both2 .ensures) ∙ c .if2 .left) refl
 
 pub branch-kind-spec : {M : Type 1} → statement M
-branch-kind-spec = tie.close (tie.spec both-requires returns both-requires-2 returns-2 returns-3)
+branch-kind-spec = tie.close (tie.spec (search needs) returns (search needs) returns-2 returns-3)

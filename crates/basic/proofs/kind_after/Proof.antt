@@ -5,21 +5,6 @@ use borrow.Author.Needs.{needs}
 use Rattle.basic.proofs.kind_after.Statement.{statement}
 use Rattle.basic.proofs.kind_after.Tie as tie
 
-enum-told : tie.Need-enum-told
-enum-told c = search needs
-
-enum-told-2 : tie.Need-enum-told-2
-enum-told-2 c = search needs
-
-enum-told-3 : tie.Need-enum-told-3
-enum-told-3 c = search needs
-
-enum-told-4 : tie.Need-enum-told-4
-enum-told-4 c = search needs
-
-enum-told-5 : tie.Need-enum-told-5
-enum-told-5 c = search needs
-
 returns : tie.Need-returns
 unfolding kindAfter
 returns c = rw (c .enum-told .given .1) refl
@@ -41,16 +26,5 @@ unfolding kindAfter
 returns-5 c = rw (c .enum-told5 .given .1) refl
 
 pub kind-after-spec : {M : Type 1} → statement M
-kind-after-spec =
-    tie.close
-    (tie.spec
-    enum-told
-    enum-told-2
-    enum-told-3
-    enum-told-4
-    enum-told-5
-    returns
-    returns-2
-    returns-3
-    returns-4
+kind-after-spec = tie.close (tie.spec (search needs) (search needs) (search needs) (search needs) (search needs) returns returns-2 returns-3 returns-4
     returns-5)

@@ -10,39 +10,12 @@ use Rattle.basic.proofs.read_basic.Tie as tie
 returns : tie.Need-returns
 returns c = file-long _ (c .if1 .taken)
 
-read-list-requires : tie.Need-read-list-requires
-read-list-requires c κs = search needs
-
-enum-known-end : tie.Need-enum-known-end
-enum-known-end c = search needs
-
-to-byte-requires : tie.Need-to-byte-requires
-to-byte-requires c κs = search needs
-
 zero-bits-requires : tie.Need-zero-bits-requires
 zero-bits-requires c κs =
     let if1 = c .before .before .before .before .before .if1 in
     let read-list = c .before .before .before .before .read-list in
     let w = list-is _ _ _ _ _ (sym (c .before .before .end .given .1) ∙ read-list .ensures) in
     (omega (arith, if1 .left), rw (c .to-byte .ensures) (padding-within _ (if1 .left) _ _ w))
-
-enum-known-next : tie.Need-enum-known-next
-enum-known-next c = search needs
-
-nothing-more-requires : tie.Need-nothing-more-requires
-nothing-more-requires c κs = search needs
-
-enum-told : tie.Need-enum-told
-enum-told c = search needs
-
-enum-known-place : tie.Need-enum-known-place
-enum-known-place c = search needs
-
-enum-known-place-2 : tie.Need-enum-known-place-2
-enum-known-place-2 c = search needs
-
-enum-known-no : tie.Need-enum-known-no
-enum-known-no c = search needs
 
 returns-2 : tie.Need-returns-2
 returns-2 c =
@@ -86,21 +59,5 @@ returns-5 c =
     file-unread _ (if1 .left) _ _ (list-refused _ _ _ _ _ (sym (c .before .no .given .1) ∙ read-list .ensures))
 
 pub read-basic-spec : {M : Type 1} → statement M
-read-basic-spec =
-    tie.close
-    (tie.spec
-    returns
-    read-list-requires
-    enum-known-end
-    to-byte-requires
-    zero-bits-requires
-    enum-known-next
-    nothing-more-requires
-    enum-told
-    enum-known-place
-    enum-known-place-2
-    enum-known-no
-    returns-2
-    returns-3
-    returns-4
-    returns-5)
+read-basic-spec = tie.close (tie.spec returns (search needs) (search needs) (search needs) zero-bits-requires (search needs) (search needs)
+    (search needs) (search needs) (search needs) (search needs) returns-2 returns-3 returns-4 returns-5)

@@ -12,22 +12,10 @@ use Rattle.basic.proofs.read_constant.Tie as tie
 returns : tie.Need-returns
 returns c = constant-plain _ _ _ _ (c .before .before .pre .1) (c .if1 .taken)
 
-read-word-requires : tie.Need-read-word-requires
-read-word-requires c κs = search needs
-
-enum-known-x : tie.Need-enum-known-x
-enum-known-x c = search needs
-
-enum-told : tie.Need-enum-told
-enum-told c = search needs
-
 returns-2 : tie.Need-returns-2
 returns-2 c =
     let if2 = c .before .before .before .if2 in
     constant-cut _ _ _ _ 32 (omega arith) (width-narrow _ (if2 .taken)) (field-cut _ _ 32 (c .before .before .read-word .ensures) (c .enum-told .given .1))
-
-cast-t9 : tie.Need-cast-t9
-cast-t9 c = search needs
 
 returns-3 : tie.Need-returns-3
 returns-3 c =
@@ -35,17 +23,11 @@ returns-3 c =
     let read-word = c .before .before .before .read-word in
     constant-read _ _ _ _ 32 (omega arith) (width-narrow _ (if2 .taken)) _ _ (field-read _ _ 32 (read-word .ensures) (c .before .x .given .1))
 
-within-requires : tie.Need-within-requires
-within-requires c κs = search needs
-
 wide-at-requires : tie.Need-wide-at-requires
 wide-at-requires c κs =
     let a = c .before .before .before .before .before .before .args in
     let h = lies (a .s .now) (a .at .0) 48 (c .before .within .ensures) (c .if4 .taken) in
     (search needs, omega (arith, h))
-
-past-requires : tie.Need-past-requires
-past-requires c κs = search needs
 
 returns-4 : tie.Need-returns-4
 returns-4 c =
@@ -63,19 +45,5 @@ returns-6 : tie.Need-returns-6
 returns-6 c = constant-bad _ _ _ _ (omega (arith, c .before .before .if1 .left, c .before .if2 .left, c .if3 .left))
 
 pub read-constant-spec : {M : Type 1} → statement M
-read-constant-spec =
-    tie.close
-    (tie.spec
-    returns
-    read-word-requires
-    enum-known-x
-    enum-told
-    returns-2
-    cast-t9
-    returns-3
-    within-requires
-    wide-at-requires
-    past-requires
-    returns-4
-    returns-5
-    returns-6)
+read-constant-spec = tie.close (tie.spec returns (search needs) (search needs) (search needs) returns-2 (search needs) returns-3 (search needs)
+    wide-at-requires (search needs) returns-4 returns-5 returns-6)

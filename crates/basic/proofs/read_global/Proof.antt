@@ -5,15 +5,6 @@ use borrow.Author.Needs.{needs}
 use Rattle.basic.proofs.read_global.Statement.{statement}
 use Rattle.basic.proofs.read_global.Tie as tie
 
-read-field-requires : tie.Need-read-field-requires
-read-field-requires c κs = search needs
-
-enum-known-g : tie.Need-enum-known-g
-enum-known-g c = search needs
-
-enum-told : tie.Need-enum-told
-enum-told c = search needs
-
 returns : tie.Need-returns
 returns c = global-cut _ _ _ (field-cut _ _ 8 (c .before .before .read-field .ensures) (c .enum-told .given .1))
 
@@ -21,5 +12,4 @@ returns-2 : tie.Need-returns-2
 returns-2 c = global-read _ _ _ _ _ (field-read _ _ 8 (c .before .before .before .read-field .ensures) (c .before .g .given .1))
 
 pub read-global-spec : {M : Type 1} → statement M
-read-global-spec =
-    tie.close (tie.spec read-field-requires enum-known-g enum-told returns returns-2)
+read-global-spec = tie.close (tie.spec (search needs) (search needs) (search needs) returns returns-2)

@@ -6,29 +6,11 @@ use borrow.Author.Needs.{needs}
 use Rattle.basic.proofs.read_literal.Statement.{statement}
 use Rattle.basic.proofs.read_literal.Tie as tie
 
-read-field-requires : tie.Need-read-field-requires
-read-field-requires c κs = search needs
-
-enum-known-kind : tie.Need-enum-known-kind
-enum-known-kind c = search needs
-
-enum-told : tie.Need-enum-told
-enum-told c = search needs
-
 returns : tie.Need-returns
 returns c = kind-cut _ _ (field-cut _ _ 2 (c .before .before .read-field .ensures) (c .enum-told .given .1))
 
 returns-2 : tie.Need-returns-2
 returns-2 c = kind-bad _ _ _ _ (field-read _ _ 2 (c .before .before .before .before .read-field .ensures) (c .before .before .kind .given .1)) (c .if1 .taken)
-
-read-field-requires-2 : tie.Need-read-field-requires-2
-read-field-requires-2 c κs = search needs
-
-enum-known-t : tie.Need-enum-known-t
-enum-known-t c = search needs
-
-enum-told-2 : tie.Need-enum-told-2
-enum-told-2 c = search needs
 
 returns-3 : tie.Need-returns-3
 returns-3 c =
@@ -54,17 +36,5 @@ returns-4 c =
     (field-read _ _ 3 (read-field2 .ensures) (c .before .before .t .given .1)) (c .read-constant .ensures)
 
 pub read-literal-spec : {M : Type 1} → statement M
-read-literal-spec =
-    tie.close
-    (tie.spec
-    read-field-requires
-    enum-known-kind
-    enum-told
-    returns
-    returns-2
-    read-field-requires-2
-    enum-known-t
-    enum-told-2
-    returns-3
-    read-constant-requires
-    returns-4)
+read-literal-spec = tie.close (tie.spec (search needs) (search needs) (search needs) returns returns-2 (search needs) (search needs) (search needs)
+    returns-3 read-constant-requires returns-4)

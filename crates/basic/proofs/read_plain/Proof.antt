@@ -6,26 +6,11 @@ use borrow.Author.Needs.{needs}
 use Rattle.basic.proofs.read_plain.Statement.{statement}
 use Rattle.basic.proofs.read_plain.Tie as tie
 
-plain-token-requires : tie.Need-plain-token-requires
-plain-token-requires c κs = search needs
-
 returns : tie.Need-returns
 returns c = λ l p. no-operands _ l p _ _ _ (c .before .if1 .taken) (c .plain-token .ensures)
 
-read-field-requires : tie.Need-read-field-requires
-read-field-requires c κs = search needs
-
-enum-known-second : tie.Need-enum-known-second
-enum-known-second c = search needs
-
-enum-told : tie.Need-enum-told
-enum-told c = search needs
-
 returns-2 : tie.Need-returns-2
 returns-2 c = λ l p. first-cut _ l p _ _ _ (omega arith) (omega arith) (field-cut _ _ 8 (c .before .before .read-field .ensures) (c .enum-told .given .1))
-
-plain-token-requires-2 : tie.Need-plain-token-requires-2
-plain-token-requires-2 c κs = search needs
 
 returns-3 : tie.Need-returns-3
 returns-3 c =
@@ -33,24 +18,12 @@ returns-3 c =
     let second = c .before .before .before .second in
     λ l p. one-operand _ l p _ _ _ _ (field-read _ _ 8 (read-field .ensures) (second .given .1)) _ (c .before .if2 .taken) (c .plain-token2 .ensures)
 
-read-field-requires-2 : tie.Need-read-field-requires-2
-read-field-requires-2 c κs = search needs
-
-enum-known-last : tie.Need-enum-known-last
-enum-known-last c = search needs
-
-enum-told-2 : tie.Need-enum-told-2
-enum-told-2 c = search needs
-
 returns-4 : tie.Need-returns-4
 returns-4 c =
     let read-field = c .before .before .before .before .before .before .before .read-field in
     let second = c .before .before .before .before .before .second in
     λ l p. second-cut _ l p _ _ _ _ _ (omega arith) (field-read _ _ 8 (read-field .ensures) (second .given .1))
     (field-cut _ _ 8 (c .before .before .read-field2 .ensures) (c .enum-told2 .given .1))
-
-plain-token-requires-3 : tie.Need-plain-token-requires-3
-plain-token-requires-3 c κs = search needs
 
 returns-5 : tie.Need-returns-5
 returns-5 c =
@@ -61,20 +34,5 @@ returns-5 c =
     (field-read _ _ 8 (read-field2 .ensures) (c .before .before .last .given .1)) (c .plain-token3 .ensures)
 
 pub read-plain-spec : {M : Type 1} → statement M
-read-plain-spec =
-    tie.close
-    (tie.spec
-    plain-token-requires
-    returns
-    read-field-requires
-    enum-known-second
-    enum-told
-    returns-2
-    plain-token-requires-2
-    returns-3
-    read-field-requires-2
-    enum-known-last
-    enum-told-2
-    returns-4
-    plain-token-requires-3
-    returns-5)
+read-plain-spec = tie.close (tie.spec (search needs) returns (search needs) (search needs) (search needs) returns-2 (search needs) returns-3
+    (search needs) (search needs) (search needs) returns-4 (search needs) returns-5)

@@ -6,15 +6,6 @@ use borrow.Author.Needs.{needs}
 use Rattle.basic.proofs.read_save.Statement.{statement}
 use Rattle.basic.proofs.read_save.Tie as tie
 
-read-field-requires : tie.Need-read-field-requires
-read-field-requires c κs = search needs
-
-enum-known-past : tie.Need-enum-known-past
-enum-known-past c = search needs
-
-enum-told : tie.Need-enum-told
-enum-told c = search needs
-
 returns : tie.Need-returns
 returns c = number-cut _ _ save-t (field-cut _ _ 8 (c .before .before .read-field .ensures) (c .enum-told .given .1))
 
@@ -22,5 +13,4 @@ returns-2 : tie.Need-returns-2
 returns-2 c = save-read _ _ _ _ (field-read _ _ 8 (c .before .before .before .read-field .ensures) (c .before .past .given .1))
 
 pub read-save-spec : {M : Type 1} → statement M
-read-save-spec =
-    tie.close (tie.spec read-field-requires enum-known-past enum-told returns returns-2)
+read-save-spec = tie.close (tie.spec (search needs) (search needs) (search needs) returns returns-2)

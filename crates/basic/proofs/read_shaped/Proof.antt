@@ -7,17 +7,11 @@ use borrow.Author.Needs.{needs}
 use Rattle.basic.proofs.read_shaped.Statement.{statement}
 use Rattle.basic.proofs.read_shaped.Tie as tie
 
-shape-of-requires : tie.Need-shape-of-requires
-shape-of-requires c κs = search needs
-
 returns : tie.Need-returns
 returns c = rw (← c .before .before .shape-of .ensures) (shaped-deep _ _ _ _ _ _ (c .if1 .taken) (omega arith) (omega arith))
 
 returns-2 : tie.Need-returns-2
 returns-2 c = rw (← c .before .before .shape-of .ensures) (shaped-deep _ _ _ _ _ _ (c .if2 .taken) (omega arith) (omega arith))
-
-read-save-requires : tie.Need-read-save-requires
-read-save-requires c κs = search needs
 
 read-plain-requires : tie.Need-read-plain-requires
 read-plain-requires c κs =
@@ -43,16 +37,5 @@ returns-7 : tie.Need-returns-7
 returns-7 c = rw (← c .before .before .shape-of .ensures) (c .read-plain .ensures _ _)
 
 pub read-shaped-spec : {M : Type 1} → statement M
-read-shaped-spec =
-    tie.close
-    (tie.spec
-    shape-of-requires
-    returns
-    returns-2
-    read-save-requires
-    read-plain-requires
-    returns-3
-    returns-4
-    returns-5
-    returns-6
+read-shaped-spec = tie.close (tie.spec (search needs) returns returns-2 (search needs) read-plain-requires returns-3 returns-4 returns-5 returns-6
     returns-7)

@@ -6,32 +6,14 @@ use borrow.Author.Needs.{needs}
 use Rattle.basic.proofs.read_token.Statement.{statement}
 use Rattle.basic.proofs.read_token.Tie as tie
 
-read-field-requires : tie.Need-read-field-requires
-read-field-requires c κs = search needs
-
-enum-known-code : tie.Need-enum-known-code
-enum-known-code c = search needs
-
-enum-told : tie.Need-enum-told
-enum-told c = search needs
-
 returns : tie.Need-returns
 returns c = code-cut _ _ _ (field-cut _ _ 5 (c .before .before .read-field .ensures) (c .enum-told .given .1))
-
-read-literal-requires : tie.Need-read-literal-requires
-read-literal-requires c κs = search needs
 
 returns-2 : tie.Need-returns-2
 returns-2 c =
     let read-field = c .before .before .before .before .before .read-field in
     let code = c .before .before .before .code in
     code-deep _ _ _ _ _ (field-read _ _ 5 (read-field .ensures) (code .given .1)) (c .before .match2 .keys2) (c .if1 .taken)
-
-read-global-requires : tie.Need-read-global-requires
-read-global-requires c κs = search needs
-
-read-global-requires-2 : tie.Need-read-global-requires-2
-read-global-requires-2 c κs = search needs
 
 read-shaped-requires : tie.Need-read-shaped-requires
 read-shaped-requires c κs =
@@ -71,20 +53,5 @@ returns-7 c =
     code-other _ _ _ _ _ (field-read _ _ 5 (read-field .ensures) (code .given .1)) (r .0 .0 .0 .1) (r .0 .0 .1) (r .0 .1) (r .1) (c .read-shaped .ensures)
 
 pub read-token-spec : {M : Type 1} → statement M
-read-token-spec =
-    tie.close
-    (tie.spec
-    read-field-requires
-    enum-known-code
-    enum-told
-    returns
-    read-literal-requires
-    returns-2
-    read-global-requires
-    read-global-requires-2
-    read-shaped-requires
-    returns-3
-    returns-4
-    returns-5
-    returns-6
-    returns-7)
+read-token-spec = tie.close (tie.spec (search needs) (search needs) (search needs) returns (search needs) returns-2 (search needs) (search needs)
+    read-shaped-requires returns-3 returns-4 returns-5 returns-6 returns-7)

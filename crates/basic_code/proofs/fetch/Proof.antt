@@ -8,21 +8,12 @@ use borrow.Author.Tests.{eqb-true, eqb-false}
 use Rattle.basic_code.proofs.fetch.Statement.{statement}
 use Rattle.basic_code.proofs.fetch.Tie as tie
 
-fetch-here-requires : tie.Need-fetch-here-requires
-fetch-here-requires c κs = search needs
-
 returns : tie.Need-returns
 returns c = (c .fetch-here .ensures .0 ∙ here-0 _ _ _ _ (c .before .if1 .taken), c .fetch-here .ensures .1)
-
-is-first-requires : tie.Need-is-first-requires
-is-first-requires c κs = search needs
 
 returns-2 : tie.Need-returns-2
 unfolding SavedFits
 returns-2 c = (no-template _ _ _ _ (c .before .before .if1 .left) (eqb-true _ 0 (sym (c .before .is-first .ensures) ∙ c .if2 .taken)), tt)
-
-fetch-here-requires-2 : tie.Need-fetch-here-requires-2
-fetch-here-requires-2 c κs = search needs
 
 returns-3 : tie.Need-returns-3
 returns-3 c = (
@@ -31,6 +22,4 @@ returns-3 c = (
 )
 
 pub fetch-spec : {M : Type 1} → statement M
-fetch-spec =
-    tie.close
-    (tie.spec fetch-here-requires returns is-first-requires returns-2 fetch-here-requires-2 returns-3)
+fetch-spec = tie.close (tie.spec (search needs) returns (search needs) returns-2 (search needs) returns-3)

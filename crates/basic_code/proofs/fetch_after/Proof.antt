@@ -8,21 +8,9 @@ use borrow.Author.Tests.{eqb-true, eqb-false}
 use Rattle.basic_code.proofs.fetch_after.Statement.{statement}
 use Rattle.basic_code.proofs.fetch_after.Tie as tie
 
-is-first-requires : tie.Need-is-first-requires
-is-first-requires c κs = search needs
-
 returns : tie.Need-returns
 unfolding SavedFits
 returns c = (nowhere-led _ _ _ (eqb-true _ 0 (sym (c .before .is-first .ensures) ∙ c .if1 .taken)), tt)
-
-read-field-requires : tie.Need-read-field-requires
-read-field-requires c κs = search needs
-
-enum-known-code : tie.Need-enum-known-code
-enum-known-code c = search needs
-
-enum-told : tie.Need-enum-told
-enum-told c = search needs
 
 returns-2 : tie.Need-returns-2
 unfolding SavedFits
@@ -45,6 +33,4 @@ returns-3 c =
     )
 
 pub fetch-after-spec : {M : Type 1} → statement M
-fetch-after-spec =
-    tie.close
-    (tie.spec is-first-requires returns read-field-requires enum-known-code enum-told returns-2 fetch-code-requires returns-3)
+fetch-after-spec = tie.close (tie.spec (search needs) returns (search needs) (search needs) (search needs) returns-2 fetch-code-requires returns-3)

@@ -8,15 +8,6 @@ use borrow.Author.Needs.{needs}
 use Rattle.basic_code.proofs.fetch_closure.Statement.{statement}
 use Rattle.basic_code.proofs.fetch_closure.Tie as tie
 
-link-at-requires : tie.Need-link-at-requires
-link-at-requires c κs = search needs
-
-number-requires : tie.Need-number-requires
-number-requires c κs = search needs
-
-cast-t7 : tie.Need-cast-t7
-cast-t7 c = search needs
-
 returns : tie.Need-returns
 unfolding SavedFits
 returns c =
@@ -24,4 +15,4 @@ returns c =
     (λ s v q h. closure-read s _ _ v q _ _ h (ap (λ n. n % 64) e) (ap (λ n. n / 64) e), tt)
 
 pub fetch-closure-spec : {M : Type 1} → statement M
-fetch-closure-spec = tie.close (tie.spec link-at-requires number-requires cast-t7 returns)
+fetch-closure-spec = tie.close (tie.spec (search needs) (search needs) (search needs) returns)

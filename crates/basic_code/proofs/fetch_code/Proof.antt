@@ -6,21 +6,6 @@ use borrow.Author.Needs.{needs}
 use Rattle.basic_code.proofs.fetch_code.Statement.{statement}
 use Rattle.basic_code.proofs.fetch_code.Tie as tie
 
-fetch-literal-requires : tie.Need-fetch-literal-requires
-fetch-literal-requires c κs = search needs
-
-fetch-closure-requires : tie.Need-fetch-closure-requires
-fetch-closure-requires c κs = search needs
-
-fetch-global-requires : tie.Need-fetch-global-requires
-fetch-global-requires c κs = search needs
-
-fetch-global-requires-2 : tie.Need-fetch-global-requires-2
-fetch-global-requires-2 c κs = search needs
-
-fetch-shaped-requires : tie.Need-fetch-shaped-requires
-fetch-shaped-requires c κs = search needs
-
 returns : tie.Need-returns
 returns c = (c .fetch-literal .ensures .0 _ _ _ (c .before .match .keys1), c .fetch-literal .ensures .1)
 
@@ -39,16 +24,5 @@ returns-5 c =
     (c .fetch-shaped .ensures .0 ∙ other-read _ _ _ _ _ (n .0 .0 .0 .1) (n .0 .0 .1) (n .0 .1) (n .1), c .fetch-shaped .ensures .1)
 
 pub fetch-code-spec : {M : Type 1} → statement M
-fetch-code-spec =
-    tie.close
-    (tie.spec
-    fetch-literal-requires
-    fetch-closure-requires
-    fetch-global-requires
-    fetch-global-requires-2
-    fetch-shaped-requires
-    returns
-    returns-2
-    returns-3
-    returns-4
+fetch-code-spec = tie.close (tie.spec (search needs) (search needs) (search needs) (search needs) (search needs) returns returns-2 returns-3 returns-4
     returns-5)

@@ -8,15 +8,6 @@ use borrow.Author.Needs.{needs}
 use Rattle.basic_code.proofs.fetch_global.Statement.{statement}
 use Rattle.basic_code.proofs.fetch_global.Tie as tie
 
-read-field-requires : tie.Need-read-field-requires
-read-field-requires c κs = search needs
-
-enum-known-g : tie.Need-enum-known-g
-enum-known-g c = search needs
-
-enum-told : tie.Need-enum-told
-enum-told c = search needs
-
 returns : tie.Need-returns
 unfolding SavedFits
 returns c =
@@ -42,14 +33,4 @@ returns-3 c =
     (λ L p. set-global-read _ L p _ _ _ _ (omega (arith, c .if1 .left)) (sym (read-field .ensures) ∙ c .before .before .g .given .1), tt)
 
 pub fetch-global-spec : {M : Type 1} → statement M
-fetch-global-spec =
-    tie.close
-    (tie.spec
-    read-field-requires
-    enum-known-g
-    enum-told
-    returns
-    cast-t9
-    cast-t11
-    returns-2
-    returns-3)
+fetch-global-spec = tie.close (tie.spec (search needs) (search needs) (search needs) returns cast-t9 cast-t11 returns-2 returns-3)

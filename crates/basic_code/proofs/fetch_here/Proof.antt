@@ -8,24 +8,9 @@ use borrow.Author.Tests.{eqb-true, eqb-false}
 use Rattle.basic_code.proofs.fetch_here.Statement.{statement}
 use Rattle.basic_code.proofs.fetch_here.Tie as tie
 
-read-field-requires : tie.Need-read-field-requires
-read-field-requires c κs = search needs
-
-enum-known-code : tie.Need-enum-known-code
-enum-known-code c = search needs
-
-enum-told : tie.Need-enum-told
-enum-told c = search needs
-
 returns : tie.Need-returns
 unfolding SavedFits
 returns c = (cut-here _ _ _ (sym (c .before .before .read-field .ensures) ∙ c .enum-told .given .1), tt)
-
-link-at-requires : tie.Need-link-at-requires
-link-at-requires c κs = search needs
-
-fetch-after-requires : tie.Need-fetch-after-requires
-fetch-after-requires c κs = search needs
 
 fetch-code-requires : tie.Need-fetch-code-requires
 fetch-code-requires c κs =
@@ -48,6 +33,5 @@ returns-3 c =
     (c .fetch-code .ensures .0 ∙ code-here _ _ _ _ _ (sym (read-field .ensures) ∙ code .given .1) (c .before .if1 .left), c .fetch-code .ensures .1)
 
 pub fetch-here-spec : {M : Type 1} → statement M
-fetch-here-spec =
-    tie.close
-    (tie.spec read-field-requires enum-known-code enum-told returns link-at-requires fetch-after-requires fetch-code-requires returns-2 returns-3)
+fetch-here-spec = tie.close (tie.spec (search needs) (search needs) (search needs) returns (search needs) (search needs) fetch-code-requires returns-2
+    returns-3)

@@ -6,15 +6,6 @@ use borrow.Author.Needs.{needs}
 use Rattle.basic_code.proofs.fetch_literal.Statement.{statement}
 use Rattle.basic_code.proofs.fetch_literal.Tie as tie
 
-read-entry-requires : tie.Need-read-entry-requires
-read-entry-requires c κs = search needs
-
-enum-known-cell : tie.Need-enum-known-cell
-enum-known-cell c = search needs
-
-enum-told : tie.Need-enum-told
-enum-told c = search needs
-
 returns : tie.Need-returns
 unfolding SavedFits
 returns c = (λ L p v h. literal-read _ L p v _ _ _ h (sym (c .before .before .before .read-entry .ensures) ∙ c .before .cell .given .1), tt)
@@ -24,4 +15,4 @@ unfolding SavedFits
 returns-2 c = (λ L p v h. literal-none _ L p v _ _ _ h (sym (c .before .before .read-entry .ensures) ∙ c .enum-told .given .1), tt)
 
 pub fetch-literal-spec : {M : Type 1} → statement M
-fetch-literal-spec = tie.close (tie.spec read-entry-requires enum-known-cell enum-told returns returns-2)
+fetch-literal-spec = tie.close (tie.spec (search needs) (search needs) (search needs) returns returns-2)

@@ -8,15 +8,6 @@ use borrow.Author.Needs.{needs}
 use Rattle.basic_code.proofs.fetch_one.Statement.{statement}
 use Rattle.basic_code.proofs.fetch_one.Tie as tie
 
-read-field-requires : tie.Need-read-field-requires
-read-field-requires c κs = search needs
-
-enum-known-n : tie.Need-enum-known-n
-enum-known-n c = search needs
-
-enum-told : tie.Need-enum-told
-enum-told c = search needs
-
 returns : tie.Need-returns
 unfolding SavedFits
 returns c = (λ L p. operand-cut _ L p _ _ 2 (omega arith) (omega arith) (sym (c .before .before .read-field .ensures) ∙ c .enum-told .given .1), tt)
@@ -24,14 +15,8 @@ returns c = (λ L p. operand-cut _ L p _ _ 2 (omega arith) (omega arith) (sym (c
 cast-t9 : tie.Need-cast-t9
 cast-t9 c = omega (arith, read-below _ _ 8 _ _ (sym (c .before .before .before .before .read-field .ensures) ∙ c .before .before .n .given .1))
 
-cast-ready : tie.Need-cast-ready
-cast-ready c = search needs
-
 cast-ready-2 : tie.Need-cast-ready-2
 cast-ready-2 c = omega (arith, read-below _ _ 8 _ _ (sym (c .before .before .before .before .read-field .ensures) ∙ c .before .before .n .given .1))
-
-ready-requires : tie.Need-ready-requires
-ready-requires c κs = search needs
 
 returns-2 : tie.Need-returns-2
 unfolding SavedFits
@@ -47,16 +32,5 @@ returns-3 c =
     (λ L p. c .ready .ensures .0 ∙ one-read _ L p _ _ _ _ (sym (read-field .ensures) ∙ n .given .1) (c .before .if1 .left), c .ready .ensures .1)
 
 pub fetch-one-spec : {M : Type 1} → statement M
-fetch-one-spec =
-    tie.close
-    (tie.spec
-    read-field-requires
-    enum-known-n
-    enum-told
-    returns
-    cast-t9
-    cast-ready
-    cast-ready-2
-    ready-requires
-    returns-2
+fetch-one-spec = tie.close (tie.spec (search needs) (search needs) (search needs) returns cast-t9 (search needs) cast-ready-2 (search needs) returns-2
     returns-3)

@@ -8,24 +8,12 @@ use borrow.Author.Needs.{needs}
 use Rattle.basic_code.proofs.fetch_save.Statement.{statement}
 use Rattle.basic_code.proofs.fetch_save.Tie as tie
 
-read-field-requires : tie.Need-read-field-requires
-read-field-requires c κs = search needs
-
-enum-known-n : tie.Need-enum-known-n
-enum-known-n c = search needs
-
-enum-told : tie.Need-enum-told
-enum-told c = search needs
-
 returns : tie.Need-returns
 unfolding SavedFits
 returns c = (λ v. save-cut _ _ _ v _ (sym (c .before .before .read-field .ensures) ∙ c .enum-told .given .1), tt)
 
 cast-t8 : tie.Need-cast-t8
 cast-t8 c = omega (arith, read-below _ _ 8 _ _ (sym (c .before .before .before .read-field .ensures) ∙ c .before .n .given .1))
-
-link-at-requires : tie.Need-link-at-requires
-link-at-requires c κs = search needs
 
 returns-2 : tie.Need-returns-2
 unfolding SavedFits
@@ -38,13 +26,4 @@ returns-2 c =
     )
 
 pub fetch-save-spec : {M : Type 1} → statement M
-fetch-save-spec =
-    tie.close
-    (tie.spec
-    read-field-requires
-    enum-known-n
-    enum-told
-    returns
-    cast-t8
-    link-at-requires
-    returns-2)
+fetch-save-spec = tie.close (tie.spec (search needs) (search needs) (search needs) returns cast-t8 (search needs) returns-2)

@@ -7,27 +7,6 @@ use borrow.Author.Needs.{needs}
 use Rattle.basic_code.proofs.fetch_shaped.Statement.{statement}
 use Rattle.basic_code.proofs.fetch_shaped.Tie as tie
 
-shape-of-requires : tie.Need-shape-of-requires
-shape-of-requires c κs = search needs
-
-cast-ready : tie.Need-cast-ready
-cast-ready c = search needs
-
-ready-requires : tie.Need-ready-requires
-ready-requires c κs = search needs
-
-fetch-one-requires : tie.Need-fetch-one-requires
-fetch-one-requires c κs = search needs
-
-fetch-two-requires : tie.Need-fetch-two-requires
-fetch-two-requires c κs = search needs
-
-link-at-requires : tie.Need-link-at-requires
-link-at-requires c κs = search needs
-
-fetch-save-requires : tie.Need-fetch-save-requires
-fetch-save-requires c κs = search needs
-
 returns : tie.Need-returns
 unfolding SavedFits
 returns c = (return-read _ _ _ _ _ _ (c .before .before .shape-of .ensures) (c .before .match .keys1) (c .if1 .taken), tt)
@@ -67,20 +46,5 @@ returns-7 c =
     (no-code _ _ _ _ _ _ (c .before .shape-of .ensures) (n .0 .0 .0 .0 .1) (n .0 .0 .0 .1) (n .0 .0 .1) (n .0 .1) (n .1), tt)
 
 pub fetch-shaped-spec : {M : Type 1} → statement M
-fetch-shaped-spec =
-    tie.close
-    (tie.spec
-    shape-of-requires
-    cast-ready
-    ready-requires
-    fetch-one-requires
-    fetch-two-requires
-    link-at-requires
-    fetch-save-requires
-    returns
-    returns-2
-    returns-3
-    returns-4
-    returns-5
-    returns-6
-    returns-7)
+fetch-shaped-spec = tie.close (tie.spec (search needs) (search needs) (search needs) (search needs) (search needs) (search needs) (search needs)
+    returns returns-2 returns-3 returns-4 returns-5 returns-6 returns-7)

@@ -8,27 +8,9 @@ use borrow.Author.Needs.{needs}
 use Rattle.basic_code.proofs.fetch_two.Statement.{statement}
 use Rattle.basic_code.proofs.fetch_two.Tie as tie
 
-read-field-requires : tie.Need-read-field-requires
-read-field-requires c κs = search needs
-
-enum-known-a : tie.Need-enum-known-a
-enum-known-a c = search needs
-
-enum-told : tie.Need-enum-told
-enum-told c = search needs
-
 returns : tie.Need-returns
 unfolding SavedFits
 returns c = (λ L p. operand-cut _ L p _ _ 3 (omega arith) (omega arith) (sym (c .before .before .read-field .ensures) ∙ c .enum-told .given .1), tt)
-
-read-field-requires-2 : tie.Need-read-field-requires-2
-read-field-requires-2 c κs = search needs
-
-enum-known-b : tie.Need-enum-known-b
-enum-known-b c = search needs
-
-enum-told-2 : tie.Need-enum-told-2
-enum-told-2 c = search needs
 
 returns-2 : tie.Need-returns-2
 unfolding SavedFits
@@ -36,9 +18,6 @@ returns-2 c =
     let read-field = c .before .before .before .before .before .before .read-field in
     let a = c .before .before .before .before .a in
     (λ L p. second-cut _ L p _ _ _ _ (sym (read-field .ensures) ∙ a .given .1) (sym (c .before .before .read-field2 .ensures) ∙ c .enum-told2 .given .1), tt)
-
-cast-ready : tie.Need-cast-ready
-cast-ready c = search needs
 
 cast-ready-2 : tie.Need-cast-ready-2
 cast-ready-2 c =
@@ -48,9 +27,6 @@ cast-ready-2 c =
 
 cast-ready-3 : tie.Need-cast-ready-3
 cast-ready-3 c = omega (arith, read-below _ _ 8 _ _ (sym (c .before .before .before .read-field2 .ensures) ∙ c .before .b .given .1))
-
-ready-requires : tie.Need-ready-requires
-ready-requires c κs = search needs
 
 returns-3 : tie.Need-returns-3
 unfolding SavedFits
@@ -64,19 +40,5 @@ returns-3 c =
     )
 
 pub fetch-two-spec : {M : Type 1} → statement M
-fetch-two-spec =
-    tie.close
-    (tie.spec
-    read-field-requires
-    enum-known-a
-    enum-told
-    returns
-    read-field-requires-2
-    enum-known-b
-    enum-told-2
-    returns-2
-    cast-ready
-    cast-ready-2
-    cast-ready-3
-    ready-requires
-    returns-3)
+fetch-two-spec = tie.close (tie.spec (search needs) (search needs) (search needs) returns (search needs) (search needs) (search needs) returns-2
+    (search needs) cast-ready-2 cast-ready-3 (search needs) returns-3)

@@ -53,20 +53,8 @@ link-list-loop-holds t c =
 link-list-parts-at-requires : (t : ℕ) → link-list-lts.Need-parts-at-requires (inner t) (link-list-at t) link-list.Post link-list-Inv-loop link-list-μ-loop
 link-list-parts-at-requires t c κs = c .before .before .before .before .pre .1 .0
 
-link-list-enum-told : (t : ℕ) → link-list-lts.Need-enum-told (inner t) (link-list-at t) link-list.Post link-list-Inv-loop link-list-μ-loop
-link-list-enum-told t c = search needs
-
-link-list-number-requires : (t : ℕ) → link-list-lts.Need-number-requires (inner t) (link-list-at t) link-list.Post link-list-Inv-loop link-list-μ-loop
-link-list-number-requires t c κs = search needs
-
 link-list-put-link-requires : (t : ℕ) → link-list-lts.Need-put-link-requires (inner t) (link-list-at t) link-list.Post link-list-Inv-loop link-list-μ-loop
 link-list-put-link-requires t c κs = omega (arith, c .number .ensures, c .before .before .before .before .before .loop .inv .3)
-
-link-list-same-length : (t : ℕ) → link-list-lts.Need-same-length (inner t) (link-list-at t) link-list.Post link-list-Inv-loop link-list-μ-loop
-link-list-same-length t c = search needs
-
-link-list-same-length-2 : (t : ℕ) → link-list-lts.Need-same-length-2 (inner t) (link-list-at t) link-list.Post link-list-Inv-loop link-list-μ-loop
-link-list-same-length-2 t c = search needs
 
 link-list-returns : (t : ℕ) → link-list-lts.Need-returns (inner t) (link-list-at t) link-list.Post link-list-Inv-loop link-list-μ-loop
 link-list-returns t c =
@@ -77,9 +65,6 @@ link-list-returns t c =
     λ d h. turn-end _ _ _ _ _ _ _ _ _ _ _ _ (loop .inv .0 d h)
     (parted-as _ _ (enum-told .given .1) (parts-at .ensures ((loop .inv .0 d h) .rest) ((loop .inv .0 d h) .reads)))
     (c .before .before .put-link .ensures ∙ ap (λ n. link (loop .links) (loop .here .0) n) (number .ensures))
-
-link-list-enum-known-past : (t : ℕ) → link-list-lts.Need-enum-known-past (inner t) (link-list-at t) link-list.Post link-list-Inv-loop link-list-μ-loop
-link-list-enum-known-past t c = search needs
 
 link-list-loop-less : (t : ℕ) → link-list-lts.Need-loop-less (inner t) (link-list-at t) link-list.Post link-list-Inv-loop link-list-μ-loop
 link-list-loop-less t c =
@@ -108,9 +93,6 @@ link-list-loop-again t c =
       omega (arith, w .1, loop .inv .4),
     )
 
-link-list-enum-known-list : (t : ℕ) → link-list-lts.Need-enum-known-list (inner t) (link-list-at t) link-list.Post link-list-Inv-loop link-list-μ-loop
-link-list-enum-known-list t c = search needs
-
 link-list-put-start-requires : (t : ℕ) → link-list-lts.Need-put-start-requires (inner t) (link-list-at t) link-list.Post link-list-Inv-loop link-list-μ-loop
 link-list-put-start-requires t c κs =
     let pre = c .before .before .before .before .before .before .before .before .before .pre in
@@ -120,9 +102,6 @@ link-list-put-start-requires t c κs =
     (parted-as _ _ (c .before .before .list .given .1)
     (parts-at .ensures ((loop .inv .0 (pre .1 .2 .code) (pre .1 .2 .reads)) .rest) ((loop .inv .0 (pre .1 .2 .code) (pre .1 .2 .reads)) .reads))) in
     omega (arith, w .below-64)
-
-link-list-number-requires-2 : (t : ℕ) → link-list-lts.Need-number-requires-2 (inner t) (link-list-at t) link-list.Post link-list-Inv-loop link-list-μ-loop
-link-list-number-requires-2 t c κs = search needs
 
 link-list-mul-put-link : (t : ℕ) → link-list-lts.Need-mul-put-link (inner t) (link-list-at t) link-list.Post link-list-Inv-loop link-list-μ-loop
 link-list-mul-put-link t c =
@@ -252,15 +231,6 @@ link-list-loop-again-2 t c =
       loop .inv .3,
       omega (arith, w .past, loop .inv .4),
     )
-
-link-list-enum-known-arm : (t : ℕ) → link-list-lts.Need-enum-known-arm (inner t) (link-list-at t) link-list.Post link-list-Inv-loop link-list-μ-loop
-link-list-enum-known-arm t c = search needs
-
-link-list-follow-of-requires : (t : ℕ) → link-list-lts.Need-follow-of-requires (inner t) (link-list-at t) link-list.Post link-list-Inv-loop link-list-μ-loop
-link-list-follow-of-requires t c κs = search needs
-
-link-list-number-requires-3 : (t : ℕ) → link-list-lts.Need-number-requires-3 (inner t) (link-list-at t) link-list.Post link-list-Inv-loop link-list-μ-loop
-link-list-number-requires-3 t c κs = search needs
 
 link-list-put-link-requires-3 : (t : ℕ) → link-list-lts.Need-put-link-requires-3 (inner t) (link-list-at t) link-list.Post link-list-Inv-loop link-list-μ-loop
 link-list-put-link-requires-3 t c κs =
@@ -393,12 +363,6 @@ link-list-loop-again-3 t c =
       omega (arith, w .past, loop .inv .4),
     )
 
-link-list-enum-known-list-2 : (t : ℕ) → link-list-lts.Need-enum-known-list-2 (inner t) (link-list-at t) link-list.Post link-list-Inv-loop link-list-μ-loop
-link-list-enum-known-list-2 t c = search needs
-
-link-list-number-requires-4 : (t : ℕ) → link-list-lts.Need-number-requires-4 (inner t) (link-list-at t) link-list.Post link-list-Inv-loop link-list-μ-loop
-link-list-number-requires-4 t c κs = search needs
-
 link-list-put-link-requires-4 : (t : ℕ) → link-list-lts.Need-put-link-requires-4 (inner t) (link-list-at t) link-list.Post link-list-Inv-loop link-list-μ-loop
 link-list-put-link-requires-4 t c κs =
     let pre = c .before .before .before .before .before .before .before .before .before .before .pre in
@@ -467,15 +431,6 @@ link-list-loop-again-4 t c =
       omega (arith, w .past, loop .inv .4),
     )
 
-link-list-enum-told-2 : (t : ℕ) → link-list-lts.Need-enum-told-2 (inner t) (link-list-at t) link-list.Post link-list-Inv-loop link-list-μ-loop
-link-list-enum-told-2 t c = search needs
-
-link-list-same-length-3 : (t : ℕ) → link-list-lts.Need-same-length-3 (inner t) (link-list-at t) link-list.Post link-list-Inv-loop link-list-μ-loop
-link-list-same-length-3 t c = search needs
-
-link-list-same-length-4 : (t : ℕ) → link-list-lts.Need-same-length-4 (inner t) (link-list-at t) link-list.Post link-list-Inv-loop link-list-μ-loop
-link-list-same-length-4 t c = search needs
-
 link-list-returns-2 : (t : ℕ) → link-list-lts.Need-returns-2 (inner t) (link-list-at t) link-list.Post link-list-Inv-loop link-list-μ-loop
 link-list-returns-2 t c =
     let loop = c .before .before .before .loop in
@@ -483,50 +438,13 @@ link-list-returns-2 t c =
     (parted-as _ _ (c .enum-told2 .given .1) (c .before .before .parts-at .ensures ((loop .inv .0 d h) .rest) ((loop .inv .0 d h) .reads))))
 
 pub +link-list-spec : {M : Type 1} → statement M
-+link-list-spec =
-    close μ-link-list (λ t. link-list-lts.spec (inner t) (link-list-at t) link-list.Post link-list-Inv-loop link-list-μ-loop
-    (link-list-loop-holds t)
-    (link-list-parts-at-requires t)
-    (link-list-enum-told t)
-    (link-list-number-requires t)
-    (link-list-put-link-requires t)
-    (link-list-same-length t)
-    (link-list-same-length-2 t)
-    (link-list-returns t)
-    (link-list-enum-known-past t)
-    (link-list-loop-less t)
-    (link-list-loop-again t)
-    (link-list-enum-known-list t)
-    (link-list-put-start-requires t)
-    (link-list-number-requires-2 t)
-    (link-list-mul-put-link t)
-    (link-list-add-put-link t)
-    (link-list-put-link-requires-2 t)
-    (link-list-add-link-list t)
-    (link-list-link-list-requires t)
-    (link-list-add-number t)
-    (link-list-add-number-2 t)
-    (link-list-loop-less-2 t)
-    (link-list-loop-again-2 t)
-    (link-list-enum-known-arm t)
-    (link-list-follow-of-requires t)
-    (link-list-number-requires-3 t)
-    (link-list-put-link-requires-3 t)
-    (link-list-link-list-requires-2 t)
-    (link-list-add-link-list-2 t)
-    (link-list-link-list-requires-3 t)
-    (link-list-add-number-3 t)
-    (link-list-add-number-4 t)
-    (link-list-loop-less-3 t)
-    (link-list-loop-again-3 t)
-    (link-list-enum-known-list-2 t)
-    (link-list-number-requires-4 t)
-    (link-list-put-link-requires-4 t)
-    (link-list-link-list-requires-4 t)
-    (link-list-add-number-5 t)
-    (link-list-loop-less-4 t)
-    (link-list-loop-again-4 t)
-    (link-list-enum-told-2 t)
-    (link-list-same-length-3 t)
-    (link-list-same-length-4 t)
-    (link-list-returns-2 t))
++link-list-spec = close μ-link-list (λ t. link-list-lts.spec (inner t) (link-list-at t) link-list.Post link-list-Inv-loop link-list-μ-loop
+    (link-list-loop-holds t) (link-list-parts-at-requires t) (λ c. search needs) (λ c κs. search needs) (link-list-put-link-requires t)
+    (λ c. search needs) (λ c. search needs) (link-list-returns t) (λ c. search needs) (link-list-loop-less t) (link-list-loop-again t)
+    (λ c. search needs) (link-list-put-start-requires t) (λ c κs. search needs) (link-list-mul-put-link t) (link-list-add-put-link t)
+    (link-list-put-link-requires-2 t) (link-list-add-link-list t) (link-list-link-list-requires t) (link-list-add-number t) (link-list-add-number-2 t)
+    (link-list-loop-less-2 t) (link-list-loop-again-2 t) (λ c. search needs) (λ c κs. search needs) (λ c κs. search needs)
+    (link-list-put-link-requires-3 t) (link-list-link-list-requires-2 t) (link-list-add-link-list-2 t) (link-list-link-list-requires-3 t)
+    (link-list-add-number-3 t) (link-list-add-number-4 t) (link-list-loop-less-3 t) (link-list-loop-again-3 t) (λ c. search needs)
+    (λ c κs. search needs) (link-list-put-link-requires-4 t) (link-list-link-list-requires-4 t) (link-list-add-number-5 t) (link-list-loop-less-4 t)
+    (link-list-loop-again-4 t) (λ c. search needs) (λ c. search needs) (λ c. search needs) (link-list-returns-2 t))

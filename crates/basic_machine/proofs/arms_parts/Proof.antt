@@ -6,24 +6,6 @@ use borrow.Author.Needs.{needs}
 use Rattle.basic_machine.proofs.arms_parts.Statement.{statement}
 use Rattle.basic_machine.proofs.arms_parts.Tie as tie
 
-read-list-requires : tie.Need-read-list-requires
-read-list-requires c κs = search needs
-
-enum-known-second : tie.Need-enum-known-second
-enum-known-second c = search needs
-
-read-list-requires-2 : tie.Need-read-list-requires-2
-read-list-requires-2 c κs = search needs
-
-enum-known-past : tie.Need-enum-known-past
-enum-known-past c = search needs
-
-enum-told : tie.Need-enum-told
-enum-told c = search needs
-
-enum-told-2 : tie.Need-enum-told-2
-enum-told-2 c = search needs
-
 returns : tie.Need-returns
 returns c =
     let read-list = c .before .before .before .before .before .before .before .read-list in
@@ -43,15 +25,5 @@ returns-3 : tie.Need-returns-3
 returns-3 c = λ p d e h. none-first _ p d h _ (list-refused _ _ _ _ _ (sym (c .enum-told2 .given .1) ∙ c .before .before .read-list .ensures)) e
 
 pub arms-parts-spec : {M : Type 1} → statement M
-arms-parts-spec =
-    tie.close
-    (tie.spec
-    read-list-requires
-    enum-known-second
-    read-list-requires-2
-    enum-known-past
-    enum-told
-    enum-told-2
-    returns
-    returns-2
-    returns-3)
+arms-parts-spec = tie.close (tie.spec (λ c κs. search needs) (λ c. search needs) (λ c κs. search needs) (λ c. search needs) (λ c. search needs)
+    (λ c. search needs) returns returns-2 returns-3)

@@ -6,15 +6,6 @@ use borrow.Author.Needs.{needs}
 use Rattle.basic_machine.proofs.closure_parts.Statement.{statement}
 use Rattle.basic_machine.proofs.closure_parts.Tie as tie
 
-read-list-requires : tie.Need-read-list-requires
-read-list-requires c κs = search needs
-
-enum-known-past : tie.Need-enum-known-past
-enum-known-past c = search needs
-
-enum-told : tie.Need-enum-told
-enum-told c = search needs
-
 returns : tie.Need-returns
 returns c = λ p d e h. closure-parted _ p d h _ _ _ (list-is _ _ _ _ _ (sym (c .before .past .given .1) ∙ c .before .before .before .read-list .ensures)) e
 
@@ -22,11 +13,4 @@ returns-2 : tie.Need-returns-2
 returns-2 c = λ p d e h. none-parted _ p d h _ (list-refused _ _ _ _ _ (sym (c .enum-told .given .1) ∙ c .before .before .read-list .ensures)) e
 
 pub closure-parts-spec : {M : Type 1} → statement M
-closure-parts-spec =
-    tie.close
-    (tie.spec
-    read-list-requires
-    enum-known-past
-    enum-told
-    returns
-    returns-2)
+closure-parts-spec = tie.close (tie.spec (λ c κs. search needs) (λ c. search needs) (λ c. search needs) returns returns-2)

@@ -5,15 +5,6 @@ use borrow.Author.Needs.{needs}
 use Rattle.basic_machine.proofs.follow_of.Statement.{statement}
 use Rattle.basic_machine.proofs.follow_of.Tie as tie
 
-read-field-requires : tie.Need-read-field-requires
-read-field-requires c κs = search needs
-
-enum-known-code : tie.Need-enum-known-code
-enum-known-code c = search needs
-
-enum-told : tie.Need-enum-told
-enum-told c = search needs
-
 returns : tie.Need-returns
 returns c = λ d h. follow-cut _ _ _ d h (sym (c .before .before .read-field .ensures) ∙ c .enum-told .given .1)
 
@@ -24,4 +15,4 @@ returns-3 : tie.Need-returns-3
 returns-3 c = λ d h. follow-on _ _ _ d h _ _ (sym (c .before .before .before .before .read-field .ensures) ∙ c .before .before .code .given .1) (c .if1 .left)
 
 pub follow-of-spec : {M : Type 1} → statement M
-follow-of-spec = tie.close (tie.spec read-field-requires enum-known-code enum-told returns returns-2 returns-3)
+follow-of-spec = tie.close (tie.spec (λ c κs. search needs) (λ c. search needs) (λ c. search needs) returns returns-2 returns-3)

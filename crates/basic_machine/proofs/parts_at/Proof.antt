@@ -6,45 +6,6 @@ use borrow.Author.Needs.{needs}
 use Rattle.basic_machine.proofs.parts_at.Statement.{statement}
 use Rattle.basic_machine.proofs.parts_at.Tie as tie
 
-read-token-requires : tie.Need-read-token-requires
-read-token-requires c κs = search needs
-
-enum-told : tie.Need-enum-told
-enum-told c = search needs
-
-enum-known-next : tie.Need-enum-known-next
-enum-known-next c = search needs
-
-enum-known-next-2 : tie.Need-enum-known-next-2
-enum-known-next-2 c = search needs
-
-enum-known-next-3 : tie.Need-enum-known-next-3
-enum-known-next-3 c = search needs
-
-enum-known-next-4 : tie.Need-enum-known-next-4
-enum-known-next-4 c = search needs
-
-enum-known-list : tie.Need-enum-known-list
-enum-known-list c = search needs
-
-closure-parts-requires : tie.Need-closure-parts-requires
-closure-parts-requires c κs = search needs
-
-enum-known-first : tie.Need-enum-known-first
-enum-known-first c = search needs
-
-arms-parts-requires : tie.Need-arms-parts-requires
-arms-parts-requires c κs = search needs
-
-enum-known-list-2 : tie.Need-enum-known-list-2
-enum-known-list-2 c = search needs
-
-saved-parts-requires : tie.Need-saved-parts-requires
-saved-parts-requires c κs = search needs
-
-enum-told-2 : tie.Need-enum-told-2
-enum-told-2 c = search needs
-
 returns : tie.Need-returns
 returns c = λ d h. end-parted _ _ d h (is-end _ _ (turned (c .enum-told .given .1) (c .before .before .read-token .ensures)))
 
@@ -80,28 +41,6 @@ returns-9 : tie.Need-returns-9
 returns-9 c = λ d h. none-refused _ _ d h (is-refused _ _ _ (turned (c .enum-told2 .given .1) (c .before .before .read-token .ensures)))
 
 pub parts-at-spec : {M : Type 1} → statement M
-parts-at-spec =
-    tie.close
-    (tie.spec
-    read-token-requires
-    enum-told
-    enum-known-next
-    enum-known-next-2
-    enum-known-next-3
-    enum-known-next-4
-    enum-known-list
-    closure-parts-requires
-    enum-known-first
-    arms-parts-requires
-    enum-known-list-2
-    saved-parts-requires
-    enum-told-2
-    returns
-    returns-2
-    returns-3
-    returns-4
-    returns-5
-    returns-6
-    returns-7
-    returns-8
-    returns-9)
+parts-at-spec = tie.close (tie.spec (λ c κs. search needs) (λ c. search needs) (λ c. search needs) (λ c. search needs) (λ c. search needs)
+    (λ c. search needs) (λ c. search needs) (λ c κs. search needs) (λ c. search needs) (λ c κs. search needs) (λ c. search needs)
+    (λ c κs. search needs) (λ c. search needs) returns returns-2 returns-3 returns-4 returns-5 returns-6 returns-7 returns-8 returns-9)

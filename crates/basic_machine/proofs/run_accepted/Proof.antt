@@ -12,35 +12,11 @@ link-list-requires c κs =
     let w = pre .1 in
     (file-short _ w, omega arith, file-fresh _ w)
 
-slot-at-requires : tie.Need-slot-at-requires
-slot-at-requires c κs = search needs
-
-from-slot-requires : tie.Need-from-slot-requires
-from-slot-requires c κs = search needs
-
 run-code-requires : tie.Need-run-code-requires
 run-code-requires c κs =
     let pre = c .before .before .before .before .before .before .before .before .before .before .before .before .before .before .before .before .before
     .before .before .before .before .before .before .pre in
     (file-short _ (pre .1), search needs, search needs, search needs, search needs)
-
-same-length : tie.Need-same-length
-same-length c = search needs
-
-same-length-2 : tie.Need-same-length-2
-same-length-2 c = search needs
-
-same-length-3 : tie.Need-same-length-3
-same-length-3 c = search needs
-
-same-length-4 : tie.Need-same-length-4
-same-length-4 c = search needs
-
-same-length-5 : tie.Need-same-length-5
-same-length-5 c = search needs
-
-same-length-6 : tie.Need-same-length-6
-same-length-6 c = search needs
 
 returns : tie.Need-returns
 returns c =
@@ -54,17 +30,5 @@ returns c =
     linked-ran _ (p .1) _ _ _ _ _ _ _ _ _ (p .3) (p .2) (link-list .ensures) (from-slot .ensures ∙ slot-at .ensures) (run-code .ensures)
 
 pub run-accepted-spec : {M : Type 1} → statement M
-run-accepted-spec =
-    tie.close
-    (tie.spec
-    link-list-requires
-    slot-at-requires
-    from-slot-requires
-    run-code-requires
-    same-length
-    same-length-2
-    same-length-3
-    same-length-4
-    same-length-5
-    same-length-6
-    returns)
+run-accepted-spec = tie.close (tie.spec link-list-requires (λ c κs. search needs) (λ c κs. search needs) run-code-requires (λ c. search needs)
+    (λ c. search needs) (λ c. search needs) (λ c. search needs) (λ c. search needs) (λ c. search needs) returns)

@@ -6,12 +6,6 @@ use borrow.Author.Needs.{needs}
 use Rattle.basic_steps.proofs.bit_place.Statement.{statement}
 use Rattle.basic_steps.proofs.bit_place.Tie as tie
 
-enum-known-at : tie.Need-enum-known-at
-enum-known-at c = search needs
-
-enum-told : tie.Need-enum-told
-enum-told c = search needs
-
 returns : tie.Need-returns
 returns c = sym (tree-number _ _ (c .before .at .given .1))
 
@@ -19,4 +13,4 @@ returns-2 : tie.Need-returns-2
 returns-2 c = no-byte _ _ (c .enum-told .given .1) (c .before .before .pre)
 
 pub bit-place-spec : {M : Type 1} → statement M
-bit-place-spec = tie.close (tie.spec enum-known-at enum-told returns returns-2)
+bit-place-spec = tie.close (tie.spec (λ c. search needs) (λ c. search needs) returns returns-2)

@@ -9,9 +9,6 @@ use borrow.Author.Needs.{needs}
 use Rattle.basic_steps.proofs.run_code.Statement.{statement}
 use Rattle.basic_steps.proofs.run_code.Tie as tie
 
-clear-all-requires : tie.Need-clear-all-requires
-clear-all-requires c κs = search needs
-
 run-from-requires : tie.Need-run-from-requires
 unfolding formOf CodeReady
 run-from-requires c κs =
@@ -20,18 +17,6 @@ run-from-requires c κs =
     let clear-all = c .before .before .before .before .before .before .before .before .before .before .clear-all in
     let e = clear-all .ensures in
     (refl, first-ready _ _ (e .0) (e .1) (e .2) _ _ (pre .0) (pre .1))
-
-same-length : tie.Need-same-length
-same-length c = search needs
-
-same-length-2 : tie.Need-same-length-2
-same-length-2 c = search needs
-
-same-length-3 : tie.Need-same-length-3
-same-length-3 c = search needs
-
-same-length-4 : tie.Need-same-length-4
-same-length-4 c = search needs
 
 returns : tie.Need-returns
 unfolding number
@@ -45,13 +30,5 @@ returns c =
     run-from .ensures ∙ ap (ranFrom _ _ _ 0) (first-is _ (Tree (args .first)) (e .0) (e .1) (e .2))
 
 pub run-code-spec : {M : Type 1} → statement M
-run-code-spec =
-    tie.close
-    (tie.spec
-    clear-all-requires
-    run-from-requires
-    same-length
-    same-length-2
-    same-length-3
-    same-length-4
-    returns)
+run-code-spec = tie.close (tie.spec (λ c κs. search needs) run-from-requires (λ c. search needs) (λ c. search needs) (λ c. search needs)
+    (λ c. search needs) returns)

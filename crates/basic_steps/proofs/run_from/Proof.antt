@@ -23,24 +23,6 @@ abbrev μ-loop : tie.MeasureT-loop
 loop-holds : tie.Need-loop-holds Inv-loop μ-loop
 loop-holds c = (search needs, search needs, search needs, at-first _ _ _ _)
 
-sub-rest : tie.Need-sub-rest Inv-loop μ-loop
-sub-rest c = search needs
-
-take-step-requires : tie.Need-take-step-requires Inv-loop μ-loop
-take-step-requires c κs = search needs
-
-enum-known-q : tie.Need-enum-known-q Inv-loop μ-loop
-enum-known-q c = search needs
-
-enum-told : tie.Need-enum-told Inv-loop μ-loop
-enum-told c = search needs
-
-value-of-requires : tie.Need-value-of-requires Inv-loop μ-loop
-value-of-requires c κs = search needs
-
-ended-requires : tie.Need-ended-requires Inv-loop μ-loop
-ended-requires c κs = search needs
-
 same-length : tie.Need-same-length Inv-loop μ-loop
 same-length c =
     let pre = c .before .before .before .before .before .before .before .before .before .before .before .before .before .before .before .before .before
@@ -84,12 +66,6 @@ returns c =
     let take-step = c .before .before .before .before .before .before .before .before .before .before .before .before .take-step in
     halted-turn _ _ _ (l .left) (a .budget) _ _ (l .r) (l .c) _ (loop-test .taken) (l .inv .1) (take-step .ensures) (l .inv .3) _ _
     (c .before .before .enum-told .given .1) (c .before .value-of .ensures) (c .ended .ensures)
-
-enum-known-n : tie.Need-enum-known-n Inv-loop μ-loop
-enum-known-n c = search needs
-
-ended-requires-2 : tie.Need-ended-requires-2 Inv-loop μ-loop
-ended-requires-2 c κs = search needs
 
 same-length-5 : tie.Need-same-length-5 Inv-loop μ-loop
 same-length-5 c =
@@ -135,9 +111,6 @@ returns-2 c =
     wrong-turn _ _ _ (l .left) (a .budget) _ _ (l .r) (l .c) _ (loop-test .taken) (l .inv .1) (take-step .ensures) (l .inv .3) _ _
     (c .before .before .n .given .1) (c .ended2 .ensures)
 
-loop-less : tie.Need-loop-less Inv-loop μ-loop
-loop-less c = search needs
-
 loop-again : tie.Need-loop-again Inv-loop μ-loop
 loop-again c =
     let args = c .before .before .before .before .before .before .before .before .before .before .before .before .before .before .before .before .before
@@ -156,9 +129,6 @@ loop-again c =
       next-place _ _ _ (l .left) (a .budget) _ _ (l .r) (l .c) _ (loop-test .taken) (l .inv .1) (take-step .ensures) (l .inv .3) _ _ (q .given .1),
       next-turn _ _ _ (l .left) (a .budget) _ _ (l .r) (l .c) _ (loop-test .taken) (l .inv .1) (take-step .ensures) (l .inv .3) _ _ (q .given .1),
     )
-
-ended-requires-3 : tie.Need-ended-requires-3 Inv-loop μ-loop
-ended-requires-3 c κs = search needs
 
 same-length-9 : tie.Need-same-length-9 Inv-loop μ-loop
 same-length-9 c = search (needs, c .before .before .before .before .before .before .before .before .before .before .pre .1, c .before .before .loop .inv .0)
@@ -179,35 +149,7 @@ returns-3 c =
     spent-turn _ _ (l .left) (a .budget) _ (l .r) (l .c) _ (c .before .loop-test .left) (l .inv .3) (c .ended3 .ensures)
 
 pub run-from-spec : {M : Type 1} → statement M
-run-from-spec =
-    tie.close
-    (tie.spec
-    Inv-loop
-    μ-loop
-    loop-holds
-    sub-rest
-    take-step-requires
-    enum-known-q
-    enum-told
-    value-of-requires
-    ended-requires
-    same-length
-    same-length-2
-    same-length-3
-    same-length-4
-    returns
-    enum-known-n
-    ended-requires-2
-    same-length-5
-    same-length-6
-    same-length-7
-    same-length-8
-    returns-2
-    loop-less
-    loop-again
-    ended-requires-3
-    same-length-9
-    same-length-10
-    same-length-11
-    same-length-12
-    returns-3)
+run-from-spec = tie.close (tie.spec Inv-loop μ-loop loop-holds (λ c. search needs) (λ c κs. search needs) (λ c. search needs) (λ c. search needs)
+    (λ c κs. search needs) (λ c κs. search needs) same-length same-length-2 same-length-3 same-length-4 returns (λ c. search needs)
+    (λ c κs. search needs) same-length-5 same-length-6 same-length-7 same-length-8 returns-2 (λ c. search needs) loop-again (λ c κs. search needs)
+    same-length-9 same-length-10 same-length-11 same-length-12 returns-3)

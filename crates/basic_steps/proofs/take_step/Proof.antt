@@ -9,35 +9,11 @@ use borrow.Author.Needs.{needs}
 use Rattle.basic_steps.proofs.take_step.Statement.{statement}
 use Rattle.basic_steps.proofs.take_step.Tie as tie
 
-bit-place-requires : tie.Need-bit-place-requires
-bit-place-requires c κs = search needs
-
 fetch-requires : tie.Need-fetch-requires
 unfolding CodeReady
 fetch-requires c κs =
     let pre = c .before .before .before .before .before .before .before .before .pre in
     rw (pre .0) at (pre .1 .code-ready)
-
-enum-known-i : tie.Need-enum-known-i
-enum-known-i c = search needs
-
-act-plain-requires : tie.Need-act-plain-requires
-act-plain-requires c κs = search needs
-
-enum-told : tie.Need-enum-told
-enum-told c = search needs
-
-act-return-requires : tie.Need-act-return-requires
-act-return-requires c κs = search needs
-
-enum-known-n : tie.Need-enum-known-n
-enum-known-n c = search needs
-
-act-call-requires : tie.Need-act-call-requires
-act-call-requires c κs = search needs
-
-enum-known-first : tie.Need-enum-known-first
-enum-known-first c = search needs
 
 act-branch-requires : tie.Need-act-branch-requires
 unfolding formOf
@@ -45,27 +21,12 @@ act-branch-requires c κs =
     let pre = c .before .before .before .before .before .before .before .before .before .before .before .before .pre in
     (pre .1 .fit, pre .1 .frames-fit, refl)
 
-enum-known-n-2 : tie.Need-enum-known-n-2
-enum-known-n-2 c = search needs
-
 act-save-requires : tie.Need-act-save-requires
 unfolding number
 act-save-requires c κs =
     let fetch = c .before .before .before .before .before .fetch in
     let n2 = c .before .before .before .n2 in
     (search needs, search needs, search needs, search needs, saved-fits _ (fetch .ensures .1) _ _ _ (n2 .given .1))
-
-enum-told-2 : tie.Need-enum-told-2
-enum-told-2 c = search needs
-
-same-length : tie.Need-same-length
-same-length c = search needs
-
-same-length-2 : tie.Need-same-length-2
-same-length-2 c = search needs
-
-same-length-3 : tie.Need-same-length-3
-same-length-3 c = search needs
 
 returns : tie.Need-returns
 unfolding readAs formOf number
@@ -79,12 +40,6 @@ returns c =
     let P = basicLinked (a .file .now) (a .links .now) (a .table .now) in
     step-is (a .owner) (a .file .now) (a .links .now) (a .table .now) (a .r) (a .c) _ _ _ (bit-place .ensures) (fetch .ensures .0) (i .given .1) _ _ _
     (act-plain .ensures P (a .frames .now))
-
-same-length-4 : tie.Need-same-length-4
-same-length-4 c = search needs
-
-same-length-5 : tie.Need-same-length-5
-same-length-5 c = search needs
 
 returns-2 : tie.Need-returns-2
 unfolding readAs
@@ -123,12 +78,6 @@ returns-4 c =
     step-is (a .owner) (a .file .now) (a .links .now) (a .table .now) (a .r) (a .c) _ _ _ (bit-place .ensures) (fetch .ensures .0)
     (c .before .before .first .given .1) _ _ _ (c .act-branch .ensures (a .owner) P _)
 
-same-length-6 : tie.Need-same-length-6
-same-length-6 c = search needs
-
-same-length-7 : tie.Need-same-length-7
-same-length-7 c = search needs
-
 returns-5 : tie.Need-returns-5
 unfolding readAs formOf number
 returns-5 c =
@@ -152,32 +101,7 @@ returns-6 c =
     (c .enum-told2 .given .1) _ _ _ (bad-stops _ (a .owner) P _ (a .r) (a .c))
 
 pub take-step-spec : {M : Type 1} → statement M
-take-step-spec =
-    tie.close
-    (tie.spec
-    bit-place-requires
-    fetch-requires
-    enum-known-i
-    act-plain-requires
-    enum-told
-    act-return-requires
-    enum-known-n
-    act-call-requires
-    enum-known-first
-    act-branch-requires
-    enum-known-n-2
-    act-save-requires
-    enum-told-2
-    same-length
-    same-length-2
-    same-length-3
-    returns
-    same-length-4
-    same-length-5
-    returns-2
-    returns-3
-    returns-4
-    same-length-6
-    same-length-7
-    returns-5
-    returns-6)
+take-step-spec = tie.close (tie.spec (λ c κs. search needs) fetch-requires (λ c. search needs) (λ c κs. search needs) (λ c. search needs)
+    (λ c κs. search needs) (λ c. search needs) (λ c κs. search needs) (λ c. search needs) act-branch-requires (λ c. search needs) act-save-requires
+    (λ c. search needs) (λ c. search needs) (λ c. search needs) (λ c. search needs) returns (λ c. search needs) (λ c. search needs) returns-2
+    returns-3 returns-4 (λ c. search needs) (λ c. search needs) returns-5 returns-6)

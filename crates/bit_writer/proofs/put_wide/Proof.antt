@@ -5,27 +5,6 @@ use borrow.Author.Needs.{needs}
 use Rattle.bit_writer.proofs.put_wide.Statement.{statement}
 use Rattle.bit_writer.proofs.put_wide.Tie as tie
 
-cast-put-field : tie.Need-cast-put-field
-cast-put-field c = search needs
-
-put-field-requires : tie.Need-put-field-requires
-put-field-requires c κs = search needs
-
-cast-put-field-2 : tie.Need-cast-put-field-2
-cast-put-field-2 c = search needs
-
-put-field-requires-2 : tie.Need-put-field-requires-2
-put-field-requires-2 c κs = search needs
-
-cast-put-word : tie.Need-cast-put-word
-cast-put-word c = search needs
-
-put-word-requires : tie.Need-put-word-requires
-put-word-requires c κs = search needs
-
-same-length : tie.Need-same-length
-same-length c = search needs
-
 returns : tie.Need-returns
 returns c =
     let c₃ = c .before .before in
@@ -41,14 +20,4 @@ returns c =
     )
 
 pub put-wide-spec : {M : Type 1} → statement M
-put-wide-spec =
-    tie.close
-    (tie.spec
-    cast-put-field
-    put-field-requires
-    cast-put-field-2
-    put-field-requires-2
-    cast-put-word
-    put-word-requires
-    same-length
-    returns)
+put-wide-spec = tie.close (tie.spec (search needs) (search needs) (search needs) (search needs) (search needs) (search needs) (search needs) returns)

@@ -4,18 +4,6 @@ use Rattle.cells.specs.laws.Laws.{starting-integer, starting-constant, s
 use Rattle.cells.proofs.starting_global.Statement.{statement}
 use Rattle.cells.proofs.starting_global.Tie as tie
 
-tag-of-requires : tie.Need-tag-of-requires
-tag-of-requires c κs = search needs
-
-int-of-requires : tie.Need-int-of-requires
-int-of-requires c κs = search needs
-
-int-cell-requires : tie.Need-int-cell-requires
-int-cell-requires c κs = search needs
-
-mul-result : tie.Need-mul-result
-mul-result c = search needs
-
 returns : tie.Need-returns
 returns c =
     let tag-of = c .before .before .before .tag-of in
@@ -31,14 +19,4 @@ returns-4 : tie.Need-returns-4
 returns-4 c = starting-none-above _ _ (c .before .before .before .tag-of .ensures) (search needs)
 
 pub starting-global-spec : {M : Type 1} → statement M
-starting-global-spec =
-    tie.close
-    (tie.spec
-    tag-of-requires
-    int-of-requires
-    int-cell-requires
-    mul-result
-    returns
-    returns-2
-    returns-3
-    returns-4)
+starting-global-spec = tie.close (tie.spec (search needs) (search needs) (search needs) (search needs) returns returns-2 returns-3 returns-4)

@@ -6,27 +6,6 @@ use Rattle.cells.specs.laws.Laws.{no-value}
 use Rattle.cells.proofs.value_of.Statement.{statement}
 use Rattle.cells.proofs.value_of.Tie as tie
 
-tag-of-requires : tie.Need-tag-of-requires
-tag-of-requires c κs = search needs
-
-int-of-requires : tie.Need-int-of-requires
-int-of-requires c κs = search needs
-
-closure-of-requires : tie.Need-closure-of-requires
-closure-of-requires c κs = search needs
-
-pair-first-requires : tie.Need-pair-first-requires
-pair-first-requires c κs = search needs
-
-cast-t7 : tie.Need-cast-t7
-cast-t7 c = search needs
-
-pair-second-requires : tie.Need-pair-second-requires
-pair-second-requires c κs = search needs
-
-cast-t9 : tie.Need-cast-t9
-cast-t9 c = search needs
-
 returns : tie.Need-returns
 unfolding valueOf
 returns c = rw (sym (c .before .tag-of .ensures) ∙ c .match .keys1)
@@ -61,21 +40,5 @@ returns-8 c =
     no-value _ _ (c .before .tag-of .ensures) (r .0 .0 .0 .0 .0 .0 .1) (r .0 .0 .0 .0 .0 .1) (r .0 .0 .0 .0 .1) (r .0 .0 .0 .1) (r .0 .0 .1) (r .0 .1) (r .1)
 
 pub value-of-spec : {M : Type 1} → statement M
-value-of-spec =
-    tie.close
-    (tie.spec
-    tag-of-requires
-    int-of-requires
-    closure-of-requires
-    pair-first-requires
-    cast-t7
-    pair-second-requires
-    cast-t9
-    returns
-    returns-2
-    returns-3
-    returns-4
-    returns-5
-    returns-6
-    returns-7
-    returns-8)
+value-of-spec = tie.close (tie.spec (search needs) (search needs) (search needs) (search needs) (search needs) (search needs) (search needs) returns
+    returns-2 returns-3 returns-4 returns-5 returns-6 returns-7 returns-8)

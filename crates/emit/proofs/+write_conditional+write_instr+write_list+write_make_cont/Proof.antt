@@ -112,17 +112,6 @@ write-list-calls t = (line-at-reads.Asked, line-at-reads.Learnt, shape-of-reads.
 abbrev write-make-cont-calls : ℕ → write-make-cont-lts.Claims
 write-make-cont-calls t = (measure-reads.Asked, measure-reads.Learnt, put-offset-reads.Asked, put-offset-reads.Learnt, write-list-below t, write-list.Post)
 
-write-conditional-measure-requires : (t : ℕ) → write-conditional-lts.Need-measure-requires (write-conditional-calls t) (write-conditional-at t)
-    write-conditional.Post
-write-conditional-measure-requires t c κs = search needs
-
-write-conditional-measure-requires-2 : (t : ℕ) → write-conditional-lts.Need-measure-requires-2 (write-conditional-calls t) (write-conditional-at t)
-    write-conditional.Post
-write-conditional-measure-requires-2 t c κs = search needs
-
-write-conditional-gap-requires : (t : ℕ) → write-conditional-lts.Need-gap-requires (write-conditional-calls t) (write-conditional-at t) write-conditional.Post
-write-conditional-gap-requires t c κs = search needs
-
 write-conditional-add-turn : (t : ℕ) → write-conditional-lts.Need-add-turn (write-conditional-calls t) (write-conditional-at t) write-conditional.Post
 write-conditional-add-turn t c =
     let pre = c .before .before .before .before .before .pre in
@@ -381,9 +370,6 @@ write-instr-sub-n t c =
     (λ e. c .match .rest .1 (pre .1 .3 ∙ e)) in
     omega arith
 
-write-instr-cast-n : (t : ℕ) → write-instr-lts.Need-cast-n (write-instr-calls t) (write-instr-at t) write-instr.Post
-write-instr-cast-n t c = search needs
-
 write-instr-write-simple-requires : (t : ℕ) → write-instr-lts.Need-write-simple-requires (write-instr-calls t) (write-instr-at t) write-instr.Post
 write-instr-write-simple-requires t c κs =
     let pre = c .before .before .before .before .before .pre in
@@ -580,9 +566,6 @@ write-list-loop-again t c =
           (write-instr′ .ensures (left-item _ _ _ _ _ _ _ _ _ _ _ (loop .inv .2) (λ e. if1 .left (shape ∙ e)))),
     )
 
-write-make-cont-measure-requires : (t : ℕ) → write-make-cont-lts.Need-measure-requires (write-make-cont-calls t) (write-make-cont-at t) write-make-cont.Post
-write-make-cont-measure-requires t c κs = search needs
-
 write-make-cont-sub-cut : (t : ℕ) → write-make-cont-lts.Need-sub-cut (write-make-cont-calls t) (write-make-cont-at t) write-make-cont.Post
 write-make-cont-sub-cut t c =
     let pre = c .before .before .before .before .before .pre in
@@ -609,9 +592,6 @@ write-make-cont-put-offset-requires t c κs =
       omega (arith, saved-cut (pre .1 .3) _ (measure .ensures), saved-size (pre .1 .3) _ (measure .ensures), pre .1 .3 .room, pre .1 .2),
       omega (arith, saved-rest (pre .1 .3) _ (measure .ensures), pre .1 .3 .fits),
     )
-
-write-make-cont-cast-out : (t : ℕ) → write-make-cont-lts.Need-cast-out (write-make-cont-calls t) (write-make-cont-at t) write-make-cont.Post
-write-make-cont-cast-out t c = search needs
 
 write-make-cont-add-out : (t : ℕ) → write-make-cont-lts.Need-add-out (write-make-cont-calls t) (write-make-cont-at t) write-make-cont.Post
 write-make-cont-add-out t c =
@@ -652,79 +632,20 @@ write-make-cont-returns t c =
     λ w. saved-done (w) _ (measure .ensures) _ _ (put-offset .ensures) (c .before .before .write-list .ensures (saved-to-write (w) _ (measure .ensures)))
 
 pub +write-conditional+write-instr+write-list+write-make-cont-spec : {M : Type 1} → statement M
-+write-conditional+write-instr+write-list+write-make-cont-spec =
-    close
-    μ-write-conditional
-    μ-write-instr
-    μ-write-list
-    μ-write-make-cont
-    (λ t. write-conditional-lts.spec (write-conditional-calls t)
-    (write-conditional-at t)
-    write-conditional.Post
-    (write-conditional-measure-requires t)
-    (write-conditional-gap-requires t)
-    (write-conditional-add-turn t)
-    (write-conditional-add-turn-2 t)
-    (write-conditional-add-put-offset t)
-    (write-conditional-put-offset-requires t)
-    (write-conditional-add-write-list t)
-    (write-conditional-write-list-requires t)
-    (write-conditional-measure-requires-2 t)
-    (write-conditional-add-end t)
-    (write-conditional-add-end-2 t)
-    (write-conditional-put-jump-requires t)
-    (write-conditional-add-write-list-2 t)
-    (write-conditional-write-list-requires-2 t)
-    (write-conditional-same-length t)
-    (write-conditional-returns t))
-    (λ t. write-instr-lts.spec (write-instr-calls t)
-    (write-instr-at t)
-    write-instr.Post
-    (write-instr-past-requires t)
-    (write-instr-sub-write-conditional t)
-    (write-instr-write-conditional-requires t)
-    (write-instr-past-requires-2 t)
-    (write-instr-sub-write-make-cont t)
-    (write-instr-write-make-cont-requires t)
-    (write-instr-sub-n t)
-    (write-instr-cast-n t)
-    (write-instr-write-simple-requires t)
-    (write-instr-mul-past t)
-    (write-instr-add-past t)
-    (write-instr-past-requires-3 t)
-    (write-instr-add-t29 t)
-    (write-instr-add-t30 t)
-    (write-instr-same-length t)
-    (write-instr-returns t)
-    (write-instr-same-length-2 t)
-    (write-instr-returns-2 t)
-    (write-instr-same-length-3 t)
-    (write-instr-returns-3 t))
-    (λ t. write-list-lts.spec (write-list-calls t)
-    (write-list-at t)
-    write-list.Post
-    write-list-Inv-loop
-    write-list-μ-loop
-    (write-list-loop-holds t)
-    (write-list-line-at-requires t)
-    (write-list-shape-of-requires t)
-    (write-list-past-requires t)
-    (write-list-same-length t)
-    (write-list-returns t)
-    (write-list-write-instr-requires t)
-    (write-list-loop-less t)
-    (write-list-loop-again t))
-    λ t. write-make-cont-lts.spec (write-make-cont-calls t)
-    (write-make-cont-at t)
-    write-make-cont.Post
-    (write-make-cont-measure-requires t)
-    (write-make-cont-sub-cut t)
-    (write-make-cont-add-rest t)
-    (write-make-cont-sub-put-offset t)
-    (write-make-cont-put-offset-requires t)
-    (write-make-cont-cast-out t)
-    (write-make-cont-add-out t)
-    (write-make-cont-slice-write-out t)
-    (write-make-cont-write-list-requires t)
-    (write-make-cont-same-length t)
-    (write-make-cont-returns t)
++write-conditional+write-instr+write-list+write-make-cont-spec = close μ-write-conditional μ-write-instr μ-write-list μ-write-make-cont (λ t.
+    write-conditional-lts.spec (write-conditional-calls t) (write-conditional-at t) write-conditional.Post (search needs) (search needs)
+    (write-conditional-add-turn t) (write-conditional-add-turn-2 t) (write-conditional-add-put-offset t) (write-conditional-put-offset-requires t)
+    (write-conditional-add-write-list t) (write-conditional-write-list-requires t) (search needs) (write-conditional-add-end t)
+    (write-conditional-add-end-2 t) (write-conditional-put-jump-requires t) (write-conditional-add-write-list-2 t)
+    (write-conditional-write-list-requires-2 t) (write-conditional-same-length t) (write-conditional-returns t)) (λ t. write-instr-lts.spec
+    (write-instr-calls t) (write-instr-at t) write-instr.Post (write-instr-past-requires t) (write-instr-sub-write-conditional t)
+    (write-instr-write-conditional-requires t) (write-instr-past-requires-2 t) (write-instr-sub-write-make-cont t)
+    (write-instr-write-make-cont-requires t) (write-instr-sub-n t) (search needs) (write-instr-write-simple-requires t) (write-instr-mul-past t)
+    (write-instr-add-past t) (write-instr-past-requires-3 t) (write-instr-add-t29 t) (write-instr-add-t30 t) (write-instr-same-length t)
+    (write-instr-returns t) (write-instr-same-length-2 t) (write-instr-returns-2 t) (write-instr-same-length-3 t) (write-instr-returns-3 t)) (λ t.
+    write-list-lts.spec (write-list-calls t) (write-list-at t) write-list.Post write-list-Inv-loop write-list-μ-loop (write-list-loop-holds t)
+    (write-list-line-at-requires t) (write-list-shape-of-requires t) (write-list-past-requires t) (write-list-same-length t) (write-list-returns t)
+    (write-list-write-instr-requires t) (write-list-loop-less t) (write-list-loop-again t)) λ t. write-make-cont-lts.spec (write-make-cont-calls t)
+    (write-make-cont-at t) write-make-cont.Post (search needs) (write-make-cont-sub-cut t) (write-make-cont-add-rest t)
+    (write-make-cont-sub-put-offset t) (write-make-cont-put-offset-requires t) (search needs) (write-make-cont-add-out t)
+    (write-make-cont-slice-write-out t) (write-make-cont-write-list-requires t) (write-make-cont-same-length t) (write-make-cont-returns t)

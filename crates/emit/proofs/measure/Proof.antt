@@ -7,16 +7,5 @@ use Rattle.emit.proofs.measure.Tie as tie
 returns : tie.Need-returns
 returns c = let a = c .before .before .args in mark-measured (a .marks .now) (a .at .0) _ (c .mark-at .ensures)
 
-mark-at-requires : tie.Need-mark-at-requires
-mark-at-requires c κs = search needs
-
-cast-t5 : tie.Need-cast-t5
-cast-t5 c = search needs
-
 pub measure-spec : {M : Type 1} → statement M
-measure-spec =
-    tie.close
-    (tie.spec
-    mark-at-requires
-    cast-t5
-    returns)
+measure-spec = tie.close (tie.spec (search needs) (search needs) returns)

@@ -17,12 +17,9 @@ put-offset-requires c κs =
     let h = rw (if1 .left) at (pre .0) in
     (h, pre .1 (if1 .left))
 
-same-length : tie.Need-same-length
-same-length c = search needs
-
 returns-2 : tie.Need-returns-2
 unfolding jumpBytes
 returns-2 c = rw (c .before .before .before .before .if1 .left) (c .before .before .put-offset .ensures)
 
 pub put-jump-spec : {M : Type 1} → statement M
-put-jump-spec = tie.close (tie.spec returns put-offset-requires same-length returns-2)
+put-jump-spec = tie.close (tie.spec returns put-offset-requires (search needs) returns-2)

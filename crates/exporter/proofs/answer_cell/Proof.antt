@@ -6,27 +6,9 @@ use Rattle.exporter.specs.Answers.{FieldsFit}
 use Rattle.exporter.proofs.answer_cell.Statement.{statement}
 use Rattle.exporter.proofs.answer_cell.Tie as tie
 
-enum-told : tie.Need-enum-told
-enum-told c = search needs
-
-enum-told-2 : tie.Need-enum-told-2
-enum-told-2 c = search needs
-
-enum-told-3 : tie.Need-enum-told-3
-enum-told-3 c = search needs
-
-enum-told-4 : tie.Need-enum-told-4
-enum-told-4 c = search needs
-
-enum-known-v : tie.Need-enum-known-v
-enum-known-v c = search needs
-
 int-cell-requires : tie.Need-int-cell-requires
 unfolding FieldsFit
 int-cell-requires c κs = rw (c .before .v .given .1) at (c .before .before .before .pre)
-
-enum-known-v-2 : tie.Need-enum-known-v-2
-enum-known-v-2 c = search needs
 
 cast-closure-cell : tie.Need-cast-closure-cell
 unfolding FieldsFit
@@ -40,12 +22,6 @@ cast-closure-cell-3 : tie.Need-cast-closure-cell-3
 unfolding FieldsFit
 cast-closure-cell-3 c = let h = rw (c .before .before .before .before .v2 .given .1) at (c .before .before .before .before .before .before .pre) in omega arith
 
-closure-cell-requires : tie.Need-closure-cell-requires
-closure-cell-requires c κs = search needs
-
-enum-known-v-3 : tie.Need-enum-known-v-3
-enum-known-v-3 c = search needs
-
 cast-pair-cell : tie.Need-cast-pair-cell
 unfolding FieldsFit
 cast-pair-cell c = let h = rw (c .before .v3 .given .1) at (c .before .before .before .pre) in omega arith
@@ -53,12 +29,6 @@ cast-pair-cell c = let h = rw (c .before .v3 .given .1) at (c .before .before .b
 cast-pair-cell-2 : tie.Need-cast-pair-cell-2
 unfolding FieldsFit
 cast-pair-cell-2 c = let h = rw (c .before .v3 .given .1) at (c .before .before .before .pre) in omega arith
-
-pair-cell-requires : tie.Need-pair-cell-requires
-pair-cell-requires c κs = search needs
-
-enum-told-5 : tie.Need-enum-told-5
-enum-told-5 c = search needs
 
 returns : tie.Need-returns
 unfolding cellOf
@@ -93,30 +63,7 @@ unfolding cellOf
 returns-8 c = rw (c .enum-told5 .given .1)
 
 pub answer-cell-spec : {M : Type 1} → statement M
-answer-cell-spec =
-    tie.close
-    (tie.spec
-    enum-told
-    enum-told-2
-    enum-told-3
-    enum-told-4
-    enum-known-v
-    int-cell-requires
-    enum-known-v-2
-    cast-closure-cell
-    cast-closure-cell-2
-    cast-closure-cell-3
-    closure-cell-requires
-    enum-known-v-3
-    cast-pair-cell
-    cast-pair-cell-2
-    pair-cell-requires
-    enum-told-5
-    returns
-    returns-2
-    returns-3
-    returns-4
-    returns-5
-    returns-6
-    returns-7
+answer-cell-spec = tie.close (tie.spec (λ c. search needs) (λ c. search needs) (λ c. search needs) (λ c. search needs) (λ c. search needs)
+    int-cell-requires (λ c. search needs) cast-closure-cell cast-closure-cell-2 cast-closure-cell-3 (λ c κs. search needs) (λ c. search needs)
+    cast-pair-cell cast-pair-cell-2 (λ c κs. search needs) (λ c. search needs) returns returns-2 returns-3 returns-4 returns-5 returns-6 returns-7
     returns-8)

@@ -9,18 +9,6 @@ returns : tie.Need-returns
 unfolding outcomeOutput outcomeResult
 returns c = let h = lt-leb 2 _ (c .if1 .taken) in (rw h, rw h)
 
-join-requires : tie.Need-join-requires
-join-requires c κs = search needs
-
-put-outcome-requires : tie.Need-put-outcome-requires
-put-outcome-requires c κs = search needs
-
-same-length : tie.Need-same-length
-same-length c = search needs
-
-same-length-2 : tie.Need-same-length-2
-same-length-2 c = search needs
-
 returns-2 : tie.Need-returns-2
 unfolding outcomeOutput outcomeResult
 returns-2 c =
@@ -30,6 +18,4 @@ returns-2 c =
     (rw h (join .ensures .1), rw (h, ← join .ensures .0) (c .before .before .put-outcome .ensures))
 
 pub exporter-join-spec : {M : Type 1} → statement M
-exporter-join-spec =
-    tie.close
-    (tie.spec returns join-requires put-outcome-requires same-length same-length-2 returns-2)
+exporter-join-spec = tie.close (tie.spec returns (λ c κs. search needs) (λ c κs. search needs) (λ c. search needs) (λ c. search needs) returns-2)

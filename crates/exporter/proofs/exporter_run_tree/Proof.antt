@@ -8,28 +8,10 @@ use Rattle.exporter.proofs.exporter_run_tree.Tie as tie
 returns : tie.Need-returns
 returns c = nothing-done _ _ _ (c .if1 .taken)
 
-run-tree-requires : tie.Need-run-tree-requires
-run-tree-requires c κs = search needs
-
 put-run-requires : tie.Need-put-run-requires
 put-run-requires c κs =
     let run-tree = c .before .before .before .before .before .before .before .before .before .run-tree in
     (search needs, answer-fits (run-tree .ensures) (tree-fits _ _ _ _))
-
-same-length : tie.Need-same-length
-same-length c = search needs
-
-same-length-2 : tie.Need-same-length-2
-same-length-2 c = search needs
-
-same-length-3 : tie.Need-same-length-3
-same-length-3 c = search needs
-
-same-length-4 : tie.Need-same-length-4
-same-length-4 c = search needs
-
-same-length-5 : tie.Need-same-length-5
-same-length-5 c = search needs
 
 returns-2 : tie.Need-returns-2
 returns-2 c =
@@ -38,15 +20,5 @@ returns-2 c =
     run-told _ _ _ _ _ _ (if1 .left) (run-tree .ensures) (c .before .before .put-run .ensures)
 
 pub exporter-run-tree-spec : {M : Type 1} → statement M
-exporter-run-tree-spec =
-    tie.close
-    (tie.spec
-    returns
-    run-tree-requires
-    put-run-requires
-    same-length
-    same-length-2
-    same-length-3
-    same-length-4
-    same-length-5
-    returns-2)
+exporter-run-tree-spec = tie.close (tie.spec returns (λ c κs. search needs) put-run-requires (λ c. search needs) (λ c. search needs)
+    (λ c. search needs) (λ c. search needs) (λ c. search needs) returns-2)

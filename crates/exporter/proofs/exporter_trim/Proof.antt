@@ -9,21 +9,6 @@ returns : tie.Need-returns
 unfolding trimOutput trimLines trimResult
 returns c = let h = lt-leb 3 _ (c .if1 .taken) in (rw h, (rw h, rw h))
 
-trim-requires : tie.Need-trim-requires
-trim-requires c κs = search needs
-
-put-trimmed-requires : tie.Need-put-trimmed-requires
-put-trimmed-requires c κs = search needs
-
-same-length : tie.Need-same-length
-same-length c = search needs
-
-same-length-2 : tie.Need-same-length-2
-same-length-2 c = search needs
-
-same-length-3 : tie.Need-same-length-3
-same-length-3 c = search needs
-
 returns-2 : tie.Need-returns-2
 unfolding trimOutput trimLines trimResult
 returns-2 c =
@@ -32,6 +17,5 @@ returns-2 c =
     (rw h (t .1 .0), (rw h (t .1 .1), rw (h, ← t .0) (c .before .before .put-trimmed .ensures)))
 
 pub exporter-trim-spec : {M : Type 1} → statement M
-exporter-trim-spec =
-    tie.close
-    (tie.spec returns trim-requires put-trimmed-requires same-length same-length-2 same-length-3 returns-2)
+exporter-trim-spec = tie.close (tie.spec returns (λ c κs. search needs) (λ c κs. search needs) (λ c. search needs) (λ c. search needs)
+    (λ c. search needs) returns-2)

@@ -5,31 +5,12 @@ use lib.ListN.{length-set}
 use Rattle.exporter.proofs.put_four.Statement.{statement}
 use Rattle.exporter.proofs.put_four.Tie as tie
 
-slice-write-result : tie.Need-slice-write-result
-slice-write-result c = search needs
-
 slice-write-result-2 : tie.Need-slice-write-result-2
 slice-write-result-2 c = simp length-set (omega arith)
 
 slice-write-result-3 : tie.Need-slice-write-result-3
 slice-write-result-3 c = simp length-set (omega arith)
 
-slice-write-result-4 : tie.Need-slice-write-result-4
-slice-write-result-4 c = search needs
-
-same-length : tie.Need-same-length
-same-length c = search needs
-
-returns : tie.Need-returns
-returns c = search needs
-
 pub put-four-spec : {M : Type 1} → statement M
-put-four-spec =
-    tie.close
-    (tie.spec
-    slice-write-result
-    slice-write-result-2
-    slice-write-result-3
-    slice-write-result-4
-    same-length
-    returns)
+put-four-spec = tie.close (tie.spec (λ c. search needs) slice-write-result-2 slice-write-result-3 (λ c. search needs) (λ c. search needs)
+    (λ c. search needs))

@@ -9,33 +9,6 @@ use borrow.Author.Needs.{needs}
 use Rattle.fields.proofs.bits_at.Statement.{statement}
 use Rattle.fields.proofs.bits_at.Tie as tie
 
-byte-requires : tie.Need-byte-requires
-byte-requires c κs = search needs
-
-two-at-requires : tie.Need-two-at-requires
-two-at-requires c κs = search needs
-
-bit-requires : tie.Need-bit-requires
-bit-requires c κs = search needs
-
-sub-result : tie.Need-sub-result
-sub-result c = search needs
-
-sub-result-2 : tie.Need-sub-result-2
-sub-result-2 c = search needs
-
-cast-result : tie.Need-cast-result
-cast-result c = search needs
-
-shr-result : tie.Need-shr-result
-shr-result c = search needs
-
-cast-result-2 : tie.Need-cast-result-2
-cast-result-2 c = search needs
-
-shl-result : tie.Need-shl-result
-shl-result c = search needs
-
 rem-result : tie.Need-rem-result
 rem-result c = let w = c .before .before .before .before .args .width in rw (shl-one 32 w (omega arith)) (pow-pos w)
 
@@ -49,17 +22,5 @@ returns c =
     rw (e .0, c .bit .ensures) (shifted s (a .at .0) (a .width) _ _ (ap (λ (i : ℕ). getD s i 0) y) (ap (λ (i : ℕ). getD s (i + 1) 0) y) (e .1) (pre .1 .0))
 
 pub bits-at-spec : {M : Type 1} → statement M
-bits-at-spec =
-    tie.close
-    (tie.spec
-    byte-requires
-    two-at-requires
-    bit-requires
-    sub-result
-    sub-result-2
-    cast-result
-    shr-result
-    cast-result-2
-    shl-result
-    rem-result
-    returns)
+bits-at-spec = tie.close (tie.spec (search needs) (search needs) (search needs) (search needs) (search needs) (search needs) (search needs)
+    (search needs) (search needs) rem-result returns)

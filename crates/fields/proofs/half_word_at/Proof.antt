@@ -7,21 +7,6 @@ use Rattle.fields.specs.laws.Laws.{joined, field-small}
 use Rattle.fields.proofs.half_word_at.Statement.{statement}
 use Rattle.fields.proofs.half_word_at.Tie as tie
 
-bits-at-requires : tie.Need-bits-at-requires
-bits-at-requires c κs = search needs
-
-mul-result : tie.Need-mul-result
-mul-result c = search needs
-
-past-requires : tie.Need-past-requires
-past-requires c κs = search needs
-
-bits-at-requires-2 : tie.Need-bits-at-requires-2
-bits-at-requires-2 c κs = search needs
-
-add-result : tie.Need-add-result
-add-result c = search needs
-
 returns : tie.Need-returns
 returns c =
     let a = c .before .before .before .before .args in
@@ -30,6 +15,4 @@ returns c =
     (e, rw e (field-small (a .s .now) (a .at .0) 16))
 
 pub half-word-at-spec : {M : Type 1} → statement M
-half-word-at-spec =
-    tie.close
-    (tie.spec bits-at-requires mul-result past-requires bits-at-requires-2 add-result returns)
+half-word-at-spec = tie.close (tie.spec (search needs) (search needs) (search needs) (search needs) (search needs) returns)

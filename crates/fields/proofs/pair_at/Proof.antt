@@ -6,20 +6,11 @@ use borrow.Author.Needs.{needs}
 use Rattle.fields.proofs.pair_at.Statement.{statement}
 use Rattle.fields.proofs.pair_at.Tie as tie
 
-shared-slice-read-result : tie.Need-shared-slice-read-result
-shared-slice-read-result c = search needs
-
 cast-result : tie.Need-cast-result
 cast-result c = omega (arith, c .shared-slice-known .given (c .before .args .i))
 
 mul-result : tie.Need-mul-result
 mul-result c = omega (arith, c .shared-slice-known .given (c .before .args .i))
-
-add-result : tie.Need-add-result
-add-result c = search needs
-
-shared-slice-read-result-2 : tie.Need-shared-slice-read-result-2
-shared-slice-read-result-2 c = search needs
 
 cast-result-2 : tie.Need-cast-result-2
 cast-result-2 c = omega (arith, c .shared-slice-known2 .given (c .before .before .args .i + 1))
@@ -34,14 +25,4 @@ returns c =
     (refl, omega (arith, c .shared-slice-known2 .given (i + 1)), omega (arith, c .shared-slice-known2 .given i, c .shared-slice-known2 .given (i + 1)))
 
 pub pair-at-spec : {M : Type 1} → statement M
-pair-at-spec =
-    tie.close
-    (tie.spec
-    shared-slice-read-result
-    cast-result
-    mul-result
-    add-result
-    shared-slice-read-result-2
-    cast-result-2
-    add-result-2
-    returns)
+pair-at-spec = tie.close (tie.spec (search needs) cast-result mul-result (search needs) (search needs) cast-result-2 add-result-2 returns)

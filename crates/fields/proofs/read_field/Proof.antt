@@ -5,9 +5,6 @@ use Rattle.fields.specs.laws.Laws.{lies, cut-by, whole-by}
 use Rattle.fields.proofs.read_field.Statement.{statement}
 use Rattle.fields.proofs.read_field.Tie as tie
 
-within-requires : tie.Need-within-requires
-within-requires c κs = search needs
-
 bits-at-requires : tie.Need-bits-at-requires
 bits-at-requires c κs =
     let a = c .before .before .before .args in
@@ -27,4 +24,4 @@ returns-2 : tie.Need-returns-2
 returns-2 c = cut-by _ _ _ (c .before .within .ensures) (c .if1 .left)
 
 pub read-field-spec : {M : Type 1} → statement M
-read-field-spec = tie.close (tie.spec within-requires bits-at-requires past-requires returns returns-2)
+read-field-spec = tie.close (tie.spec (search needs) bits-at-requires past-requires returns returns-2)

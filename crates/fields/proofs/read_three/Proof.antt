@@ -8,17 +8,11 @@ use Rattle.fields.specs.laws.Laws.{lies, cut-by, whole-by, joined}
 use Rattle.fields.proofs.read_three.Statement.{statement}
 use Rattle.fields.proofs.read_three.Tie as tie
 
-within-requires : tie.Need-within-requires
-within-requires c κs = search needs
-
 bits-at-requires : tie.Need-bits-at-requires
 bits-at-requires c κs =
     let a = c .before .before .before .args in
     let h = lies (a .s .now) (a .at .0) 24 (c .before .within .ensures) (c .if1 .taken) in
     (search needs, (search needs, omega (arith, h)))
-
-mul-three : tie.Need-mul-three
-mul-three c = search needs
 
 past-requires : tie.Need-past-requires
 past-requires c κs =
@@ -32,9 +26,6 @@ half-word-at-requires c κs =
     let within = c .before .before .before .within in
     let h = lies (a .s .now) (a .at .0) 24 (within .ensures) (c .before .before .if1 .taken) in
     (search needs, omega (arith, h))
-
-add-three : tie.Need-add-three
-add-three c = search needs
 
 past-requires-2 : tie.Need-past-requires-2
 past-requires-2 c κs =
@@ -55,15 +46,5 @@ returns-2 : tie.Need-returns-2
 returns-2 c = cut-by _ _ _ (c .before .within .ensures) (c .if1 .left)
 
 pub read-three-spec : {M : Type 1} → statement M
-read-three-spec =
-    tie.close
-    (tie.spec
-    within-requires
-    bits-at-requires
-    mul-three
-    past-requires
-    half-word-at-requires
-    add-three
-    past-requires-2
-    returns
-    returns-2)
+read-three-spec = tie.close (tie.spec (search needs) bits-at-requires (search needs) past-requires half-word-at-requires (search needs)
+    past-requires-2 returns returns-2)

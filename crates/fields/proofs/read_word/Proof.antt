@@ -5,9 +5,6 @@ use borrow.Author.Needs.{needs}
 use Rattle.fields.proofs.read_word.Statement.{statement}
 use Rattle.fields.proofs.read_word.Tie as tie
 
-within-requires : tie.Need-within-requires
-within-requires c κs = search needs
-
 word-at-requires : tie.Need-word-at-requires
 word-at-requires c κs =
     let a = c .before .before .before .args in
@@ -27,5 +24,4 @@ returns-2 : tie.Need-returns-2
 returns-2 c = cut-by _ _ _ (c .before .within .ensures) (c .if1 .left)
 
 pub read-word-spec : {M : Type 1} → statement M
-read-word-spec =
-    tie.close (tie.spec within-requires word-at-requires past-requires returns returns-2)
+read-word-spec = tie.close (tie.spec (search needs) word-at-requires past-requires returns returns-2)

@@ -6,18 +6,6 @@ use borrow.Author.Needs.{needs}
 use Rattle.fields.proofs.two_at.Statement.{statement}
 use Rattle.fields.proofs.two_at.Tie as tie
 
-add-if1 : tie.Need-add-if1
-add-if1 c = search needs
-
-pair-at-requires : tie.Need-pair-at-requires
-pair-at-requires c κs = search needs
-
-byte-at-requires : tie.Need-byte-at-requires
-byte-at-requires c κs = search needs
-
-mul-result : tie.Need-mul-result
-mul-result c = search needs
-
 returns : tie.Need-returns
 returns c = c .pair-at .ensures
 
@@ -27,5 +15,4 @@ returns-2 c =
     (omega (arith, e, c .byte-at .ensures .0), omega (arith, e), omega (arith, c .byte-at .ensures .1))
 
 pub two-at-spec : {M : Type 1} → statement M
-two-at-spec =
-    tie.close (tie.spec add-if1 pair-at-requires byte-at-requires mul-result returns returns-2)
+two-at-spec = tie.close (tie.spec (search needs) (search needs) (search needs) (search needs) returns returns-2)

@@ -7,27 +7,6 @@ use borrow.Author.Needs.{needs}
 use Rattle.fields.proofs.wide_at.Statement.{statement}
 use Rattle.fields.proofs.wide_at.Tie as tie
 
-half-word-at-requires : tie.Need-half-word-at-requires
-half-word-at-requires c κs = search needs
-
-cast-result : tie.Need-cast-result
-cast-result c = search needs
-
-mul-result : tie.Need-mul-result
-mul-result c = search needs
-
-past-requires : tie.Need-past-requires
-past-requires c κs = search needs
-
-word-at-requires : tie.Need-word-at-requires
-word-at-requires c κs = search needs
-
-cast-result-2 : tie.Need-cast-result-2
-cast-result-2 c = search needs
-
-add-result : tie.Need-add-result
-add-result c = search needs
-
 returns : tie.Need-returns
 returns c =
     let a = c .before .before .before .before .args in
@@ -35,14 +14,4 @@ returns c =
     joined (a .s .now) (a .at .0) 16 32 _ _ (c .before .before .half-word-at .ensures .0) second
 
 pub wide-at-spec : {M : Type 1} → statement M
-wide-at-spec =
-    tie.close
-    (tie.spec
-    half-word-at-requires
-    cast-result
-    mul-result
-    past-requires
-    word-at-requires
-    cast-result-2
-    add-result
-    returns)
+wide-at-spec = tie.close (tie.spec (search needs) (search needs) (search needs) (search needs) (search needs) (search needs) (search needs) returns)

@@ -7,21 +7,6 @@ use borrow.Author.Needs.{needs}
 use Rattle.fields.proofs.word_at.Statement.{statement}
 use Rattle.fields.proofs.word_at.Tie as tie
 
-half-word-at-requires : tie.Need-half-word-at-requires
-half-word-at-requires c κs = search needs
-
-mul-result : tie.Need-mul-result
-mul-result c = search needs
-
-past-requires : tie.Need-past-requires
-past-requires c κs = search needs
-
-half-word-at-requires-2 : tie.Need-half-word-at-requires-2
-half-word-at-requires-2 c κs = search needs
-
-add-result : tie.Need-add-result
-add-result c = search needs
-
 returns : tie.Need-returns
 returns c =
     let a = c .before .before .before .before .args in
@@ -29,12 +14,4 @@ returns c =
     joined (a .s .now) (a .at .0) 16 16 _ _ (c .before .before .half-word-at .ensures .0) second
 
 pub word-at-spec : {M : Type 1} → statement M
-word-at-spec =
-    tie.close
-    (tie.spec
-    half-word-at-requires
-    mul-result
-    past-requires
-    half-word-at-requires-2
-    add-result
-    returns)
+word-at-spec = tie.close (tie.spec (search needs) (search needs) (search needs) (search needs) (search needs) returns)

@@ -8,18 +8,6 @@ use Rattle.files.proofs.count_of.Tie as tie
 returns : tie.Need-returns
 returns c = count-long _ (c .if1 .taken)
 
-read-field-requires : tie.Need-read-field-requires
-read-field-requires c κs = search needs
-
-enum-known-count : tie.Need-enum-known-count
-enum-known-count c = search needs
-
-cast-result : tie.Need-cast-result
-cast-result c = search needs
-
-enum-told : tie.Need-enum-told
-enum-told c = search needs
-
 returns-2 : tie.Need-returns-2
 returns-2 c =
     let if1 = c .before .before .before .before .if1 in
@@ -30,13 +18,4 @@ returns-3 : tie.Need-returns-3
 returns-3 c = count-cut _ (c .before .before .before .if1 .left) (field-cut _ _ _ (c .before .before .read-field .ensures) (c .enum-told .given .1))
 
 pub count-of-spec : {M : Type 1} → statement M
-count-of-spec =
-    tie.close
-    (tie.spec
-    returns
-    read-field-requires
-    enum-known-count
-    cast-result
-    enum-told
-    returns-2
-    returns-3)
+count-of-spec = tie.close (tie.spec returns (search needs) (search needs) (search needs) (search needs) returns-2 returns-3)

@@ -8,9 +8,6 @@ use Rattle.files.specs.laws.PaddingSteps.{at-end, not-at-end}
 use Rattle.files.proofs.nothing_more.Statement.{statement}
 use Rattle.files.proofs.nothing_more.Tie as tie
 
-ends-requires : tie.Need-ends-requires
-ends-requires c κs = search needs
-
 returns : tie.Need-returns
 returns c =
     let a = c .before .before .before .args in
@@ -22,4 +19,4 @@ returns-2 c =
     not-at-end _ _ (eqb-false (a .at .0) (8 * length (a .s .now)) (sym (c .before .ends .ensures) ∙ c .if1 .left))
 
 pub nothing-more-spec : {M : Type 1} → statement M
-nothing-more-spec = tie.close (tie.spec ends-requires returns returns-2)
+nothing-more-spec = tie.close (tie.spec (search needs) returns returns-2)

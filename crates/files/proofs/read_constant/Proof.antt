@@ -7,41 +7,17 @@ use borrow.Author.Needs.{needs}
 use Rattle.files.proofs.read_constant.Statement.{statement}
 use Rattle.files.proofs.read_constant.Tie as tie
 
-add-slot : tie.Need-add-slot
-add-slot c = search needs
-
-mul-slot : tie.Need-mul-slot
-mul-slot c = search needs
-
 returns : tie.Need-returns
 returns c = plain-constant _ _ _ _ (c .before .before .pre .1) (c .if1 .taken)
 
-read-word-requires : tie.Need-read-word-requires
-read-word-requires c κs = search needs
-
-enum-known-x : tie.Need-enum-known-x
-enum-known-x c = search needs
-
-enum-told : tie.Need-enum-told
-enum-told c = search needs
-
 returns-2 : tie.Need-returns-2
 returns-2 c = narrow-cut _ _ _ _ (c .before .before .before .if2 .taken) (field-cut _ _ _ (c .before .before .read-word .ensures) (c .enum-told .given .1))
-
-widened-requires : tie.Need-widened-requires
-widened-requires c κs = search needs
-
-int-cell-requires : tie.Need-int-cell-requires
-int-cell-requires c κs = search needs
 
 returns-3 : tie.Need-returns-3
 returns-3 c =
     rw (c .int-cell .ensures)
     (narrow-read _ _ _ _ (c .before .before .before .before .before .before .if2 .taken)
     (field-read _ _ _ (c .before .before .before .before .before .read-word .ensures) (c .before .before .before .x .given .1)) (c .before .widened .ensures))
-
-within-requires : tie.Need-within-requires
-within-requires c κs = search needs
 
 wide-at-requires : tie.Need-wide-at-requires
 wide-at-requires c κs =
@@ -51,9 +27,6 @@ wide-at-requires c κs =
 
 int-cell-requires-2 : tie.Need-int-cell-requires-2
 int-cell-requires-2 c κs = rw (c .wide-at .ensures) (field-small _ _ 48)
-
-past-requires : tie.Need-past-requires
-past-requires c κs = search needs
 
 returns-4 : tie.Need-returns-4
 returns-4 c =
@@ -69,23 +42,5 @@ returns-6 : tie.Need-returns-6
 returns-6 c = bad-tag _ _ _ _ (omega (arith, c .before .before .if1 .left, c .before .if2 .left, c .if3 .left))
 
 pub read-constant-spec : {M : Type 1} → statement M
-read-constant-spec =
-    tie.close
-    (tie.spec
-    add-slot
-    mul-slot
-    returns
-    read-word-requires
-    enum-known-x
-    enum-told
-    returns-2
-    widened-requires
-    int-cell-requires
-    returns-3
-    within-requires
-    wide-at-requires
-    int-cell-requires-2
-    past-requires
-    returns-4
-    returns-5
-    returns-6)
+read-constant-spec = tie.close (tie.spec (search needs) (search needs) returns (search needs) (search needs) (search needs) returns-2 (search needs)
+    (search needs) returns-3 (search needs) wide-at-requires int-cell-requires-2 (search needs) returns-4 returns-5 returns-6)

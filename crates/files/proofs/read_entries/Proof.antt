@@ -19,35 +19,8 @@ Inv-loop s table₀ own count n slot₀ end here₀ table slot here =
 abbrev μ-loop : tie.MeasureT-loop
 μ-loop s table₀ own count n slot₀ end here₀ table slot here = end - slot
 
-mul-slot : tie.Need-mul-slot Inv-loop μ-loop
-mul-slot c = search needs
-
-add-slot : tie.Need-add-slot Inv-loop μ-loop
-add-slot c = search needs
-
-add-end : tie.Need-add-end Inv-loop μ-loop
-add-end c = search needs
-
 loop-holds : tie.Need-loop-holds Inv-loop μ-loop
 loop-holds c = (search needs, search needs, search needs, simp add-sub-cancel-left, simp add-sub-cancel-left)
-
-read-entry-requires : tie.Need-read-entry-requires Inv-loop μ-loop
-read-entry-requires c κs = search needs
-
-enum-known-x : tie.Need-enum-known-x Inv-loop μ-loop
-enum-known-x c = search needs
-
-mul-table : tie.Need-mul-table Inv-loop μ-loop
-mul-table c = search needs
-
-slice-write-table : tie.Need-slice-write-table Inv-loop μ-loop
-slice-write-table c = search needs
-
-enum-known-no : tie.Need-enum-known-no Inv-loop μ-loop
-enum-known-no c = search needs
-
-same-length : tie.Need-same-length Inv-loop μ-loop
-same-length c = search needs
 
 returns : tie.Need-returns Inv-loop μ-loop
 returns c =
@@ -59,12 +32,6 @@ returns c =
       entries-stop _ _ _ _ _ _ (loop-test .taken) (read-entry .ensures) (no .given .1) ∙ sym (i .3),
       sym (i .4 ∙ ap (sets _ _) (slots-stop _ _ _ _ _ _ (loop-test .taken) (read-entry .ensures) (no .given .1))),
     )
-
-add-slot-2 : tie.Need-add-slot-2 Inv-loop μ-loop
-add-slot-2 c = search needs
-
-loop-less : tie.Need-loop-less Inv-loop μ-loop
-loop-less c = search needs
 
 loop-again : tie.Need-loop-again Inv-loop μ-loop
 loop-again c =
@@ -80,9 +47,6 @@ loop-again c =
       i .4 ∙ slots-on _ _ _ _ _ _ (loop-test .taken) (read-entry .ensures) (x .given .1) _,
     )
 
-same-length-2 : tie.Need-same-length-2 Inv-loop μ-loop
-same-length-2 c = search needs
-
 returns-2 : tie.Need-returns-2 Inv-loop μ-loop
 returns-2 c =
     let i = c .before .loop .inv in
@@ -90,24 +54,5 @@ returns-2 c =
     (d .0 ∙ sym (i .3), sym (i .4 ∙ ap (sets _ _) (d .1)))
 
 pub read-entries-spec : {M : Type 1} → statement M
-read-entries-spec =
-    tie.close
-    (tie.spec
-    Inv-loop
-    μ-loop
-    mul-slot
-    add-slot
-    add-end
-    loop-holds
-    read-entry-requires
-    enum-known-x
-    mul-table
-    slice-write-table
-    enum-known-no
-    same-length
-    returns
-    add-slot-2
-    loop-less
-    loop-again
-    same-length-2
-    returns-2)
+read-entries-spec = tie.close (tie.spec Inv-loop μ-loop (search needs) (search needs) (search needs) loop-holds (search needs) (search needs)
+    (search needs) (search needs) (search needs) (search needs) returns (search needs) (search needs) loop-again (search needs) returns-2)

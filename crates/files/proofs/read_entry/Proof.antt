@@ -5,15 +5,6 @@ use Rattle.files.specs.laws.EntriesSteps.{field-cut, field-read, field-b
 use Rattle.files.proofs.read_entry.Statement.{statement}
 use Rattle.files.proofs.read_entry.Tie as tie
 
-read-field-requires : tie.Need-read-field-requires
-read-field-requires c κs = search needs
-
-enum-known-k : tie.Need-enum-known-k
-enum-known-k c = search needs
-
-enum-told : tie.Need-enum-told
-enum-told c = search needs
-
 returns : tie.Need-returns
 returns c = entry-cut _ _ _ _ (field-cut _ _ _ (c .before .before .read-field .ensures) (c .enum-told .given .1))
 
@@ -26,6 +17,4 @@ returns-2 c =
     c .read-kind .ensures ∙ entry-kind _ _ _ _ (field-read _ _ _ (read-field .ensures) (c .before .before .k .given .1))
 
 pub read-entry-spec : {M : Type 1} → statement M
-read-entry-spec =
-    tie.close
-    (tie.spec read-field-requires enum-known-k enum-told returns read-kind-requires returns-2)
+read-entry-spec = tie.close (tie.spec (search needs) (search needs) (search needs) returns read-kind-requires returns-2)

@@ -6,15 +6,6 @@ use Rattle.files.specs.laws.EntriesSteps.{field-cut, field-read, field-w
 use Rattle.files.proofs.read_kind.Statement.{statement}
 use Rattle.files.proofs.read_kind.Tie as tie
 
-read-field-requires : tie.Need-read-field-requires
-read-field-requires c κs = search needs
-
-enum-known-t : tie.Need-enum-known-t
-enum-known-t c = search needs
-
-enum-told : tie.Need-enum-told
-enum-told c = search needs
-
 returns : tie.Need-returns
 returns c =
     let match = c .before .before .before .match in
@@ -23,42 +14,15 @@ returns c =
 read-constant-requires : tie.Need-read-constant-requires
 read-constant-requires c κs = (search needs, field-within _ _ _ (c .before .before .before .read-field .ensures) (c .before .t .given .1))
 
-read-field-requires-2 : tie.Need-read-field-requires-2
-read-field-requires-2 c κs = search needs
-
-enum-known-g : tie.Need-enum-known-g
-enum-known-g c = search needs
-
-enum-told-2 : tie.Need-enum-told-2
-enum-told-2 c = search needs
-
 returns-2 : tie.Need-returns-2
 returns-2 c =
     let match = c .before .before .before .match in
     global-cut _ _ _ _ _ _ (match .keys2) (field-cut _ _ _ (c .before .before .read-field2 .ensures) (c .enum-told2 .given .1))
 
-cast-slot : tie.Need-cast-slot
-cast-slot c = search needs
-
-add-slot : tie.Need-add-slot
-add-slot c = search needs
-
-read-field-requires-3 : tie.Need-read-field-requires-3
-read-field-requires-3 c κs = search needs
-
-enum-known-t-2 : tie.Need-enum-known-t-2
-enum-known-t-2 c = search needs
-
-enum-told-3 : tie.Need-enum-told-3
-enum-told-3 c = search needs
-
 returns-3 : tie.Need-returns-3
 returns-3 c =
     let match = c .before .before .before .match in
     template-cut _ _ _ _ _ _ (match .keys3) (field-cut _ _ _ (c .before .before .read-field3 .ensures) (c .enum-told3 .given .1))
-
-cast-if1 : tie.Need-cast-if1
-cast-if1 c = search needs
 
 returns-4 : tie.Need-returns-4
 returns-4 c =
@@ -66,21 +30,12 @@ returns-4 c =
     let read-field3 = c .before .before .before .before .read-field3 in
     template-low _ _ _ _ _ _ (match .keys3) (field-read _ _ _ (read-field3 .ensures) (c .before .before .t2 .given .1)) (omega arith)
 
-cast-if2 : tie.Need-cast-if2
-cast-if2 c = search needs
-
 returns-5 : tie.Need-returns-5
 returns-5 c =
     let match = c .before .before .before .before .before .before .match in
     let read-field3 = c .before .before .before .before .before .read-field3 in
     let t2 = c .before .before .before .t2 in
     template-high _ _ _ _ _ _ (match .keys3) (field-read _ _ _ (read-field3 .ensures) (t2 .given .1)) (omega arith) (omega arith)
-
-cast-slot-2 : tie.Need-cast-slot-2
-cast-slot-2 c = search needs
-
-add-slot-2 : tie.Need-add-slot-2
-add-slot-2 c = search needs
 
 returns-6 : tie.Need-returns-6
 returns-6 c =
@@ -105,31 +60,6 @@ returns-9 : tie.Need-returns-9
 returns-9 c = bad-kind _ _ _ _ _ _ (c .before .before .pre .1) (c .match .rest .0 .0 .1) (c .match .rest .0 .1) (c .match .rest .1)
 
 pub read-kind-spec : {M : Type 1} → statement M
-read-kind-spec =
-    tie.close
-    (tie.spec
-    read-field-requires
-    enum-known-t
-    enum-told
-    returns
-    read-constant-requires
-    read-field-requires-2
-    enum-known-g
-    enum-told-2
-    returns-2
-    cast-slot
-    add-slot
-    read-field-requires-3
-    enum-known-t-2
-    enum-told-3
-    returns-3
-    cast-if1
-    returns-4
-    cast-if2
-    returns-5
-    cast-slot-2
-    add-slot-2
-    returns-6
-    returns-7
-    returns-8
-    returns-9)
+read-kind-spec = tie.close (tie.spec (search needs) (search needs) (search needs) returns read-constant-requires (search needs) (search needs)
+    (search needs) returns-2 (search needs) (search needs) (search needs) (search needs) (search needs) returns-3 (search needs) returns-4
+    (search needs) returns-5 (search needs) (search needs) returns-6 returns-7 returns-8 returns-9)

@@ -21,22 +21,10 @@ abbrev μ-loop : tie.MeasureT-loop
 loop-holds : tie.Need-loop-holds Inv-loop μ-loop
 loop-holds c = (search needs, search needs, simp add-sub-cancel-left)
 
-bits-at-requires : tie.Need-bits-at-requires Inv-loop μ-loop
-bits-at-requires c κs = search needs
-
 returns : tie.Need-returns Inv-loop μ-loop
 returns c =
     let i = c .before .before .before .loop .inv in
     bits-stop _ _ _ _ (omega (arith, i .0, c .before .before .loop-test .taken)) (c .before .bits-at .ensures .0) (λ e. omega arith) ∙ sym (i .2)
-
-past-requires : tie.Need-past-requires Inv-loop μ-loop
-past-requires c κs = search needs
-
-sub-left : tie.Need-sub-left Inv-loop μ-loop
-sub-left c = search needs
-
-loop-less : tie.Need-loop-less Inv-loop μ-loop
-loop-less c = search needs
 
 loop-again : tie.Need-loop-again Inv-loop μ-loop
 loop-again c =
@@ -52,16 +40,5 @@ returns-2 : tie.Need-returns-2 Inv-loop μ-loop
 returns-2 c = let i = c .before .loop .inv in no-bits _ _ _ (omega (arith, i .0, c .loop-test .left)) ∙ sym (i .2)
 
 pub zero-bits-spec : {M : Type 1} → statement M
-zero-bits-spec =
-    tie.close
-    (tie.spec
-    Inv-loop
-    μ-loop
-    loop-holds
-    bits-at-requires
-    returns
-    past-requires
-    sub-left
-    loop-less
-    loop-again
+zero-bits-spec = tie.close (tie.spec Inv-loop μ-loop loop-holds (search needs) returns (search needs) (search needs) (search needs) loop-again
     returns-2)

@@ -28,9 +28,6 @@ flatten-tier-below t = and 2 flatten-tier-kinds.ps (falls 2 flatten-tier-kinds.p
 abbrev calls : ℕ → flatten-tier-lts.Claims
 calls t = (tier-of-reads.Asked, tier-of-reads.Learnt, flatten-tier-below t, flatten-tier.Post, flatten-small-reads.Asked, flatten-small-reads.Learnt, flatten-middle-reads.Asked, flatten-middle-reads.Learnt, flatten-many-reads.Asked, flatten-many-reads.Learnt, flatten-large-reads.Asked, flatten-large-reads.Learnt)
 
-flatten-tier-tier-of-requires : (t : ℕ) → flatten-tier-lts.Need-tier-of-requires (calls t) (flatten-tier-at t) flatten-tier.Post
-flatten-tier-tier-of-requires t c κs = search needs
-
 flatten-tier-flatten-tier-requires : (t : ℕ) → flatten-tier-lts.Need-flatten-tier-requires (calls t) (flatten-tier-at t) flatten-tier.Post
 flatten-tier-flatten-tier-requires t c κs =
     let p = c .before .before .before .before .before .pre in
@@ -46,54 +43,8 @@ flatten-tier-flatten-middle-requires t c κs = c .before .before .before .before
 flatten-tier-flatten-many-requires : (t : ℕ) → flatten-tier-lts.Need-flatten-many-requires (calls t) (flatten-tier-at t) flatten-tier.Post
 flatten-tier-flatten-many-requires t c κs = c .before .before .before .before .pre .1 .2 (c .before .match .keys4)
 
-flatten-tier-flatten-large-requires : (t : ℕ) → flatten-tier-lts.Need-flatten-large-requires (calls t) (flatten-tier-at t) flatten-tier.Post
-flatten-tier-flatten-large-requires t c κs = search needs
-
-flatten-tier-same-length : (t : ℕ) → flatten-tier-lts.Need-same-length (calls t) (flatten-tier-at t) flatten-tier.Post
-flatten-tier-same-length t c = search needs
-
-flatten-tier-returns : (t : ℕ) → flatten-tier-lts.Need-returns (calls t) (flatten-tier-at t) flatten-tier.Post
-flatten-tier-returns t c = search needs
-
-flatten-tier-same-length-2 : (t : ℕ) → flatten-tier-lts.Need-same-length-2 (calls t) (flatten-tier-at t) flatten-tier.Post
-flatten-tier-same-length-2 t c = search needs
-
-flatten-tier-returns-2 : (t : ℕ) → flatten-tier-lts.Need-returns-2 (calls t) (flatten-tier-at t) flatten-tier.Post
-flatten-tier-returns-2 t c = search needs
-
-flatten-tier-same-length-3 : (t : ℕ) → flatten-tier-lts.Need-same-length-3 (calls t) (flatten-tier-at t) flatten-tier.Post
-flatten-tier-same-length-3 t c = search needs
-
-flatten-tier-returns-3 : (t : ℕ) → flatten-tier-lts.Need-returns-3 (calls t) (flatten-tier-at t) flatten-tier.Post
-flatten-tier-returns-3 t c = search needs
-
-flatten-tier-same-length-4 : (t : ℕ) → flatten-tier-lts.Need-same-length-4 (calls t) (flatten-tier-at t) flatten-tier.Post
-flatten-tier-same-length-4 t c = search needs
-
-flatten-tier-returns-4 : (t : ℕ) → flatten-tier-lts.Need-returns-4 (calls t) (flatten-tier-at t) flatten-tier.Post
-flatten-tier-returns-4 t c = search needs
-
-flatten-tier-same-length-5 : (t : ℕ) → flatten-tier-lts.Need-same-length-5 (calls t) (flatten-tier-at t) flatten-tier.Post
-flatten-tier-same-length-5 t c = search needs
-
-flatten-tier-returns-5 : (t : ℕ) → flatten-tier-lts.Need-returns-5 (calls t) (flatten-tier-at t) flatten-tier.Post
-flatten-tier-returns-5 t c = search needs
-
 pub +flatten-tier-spec : {M : Type 1} → statement M
-+flatten-tier-spec = close μ-flatten-tier λ t. flatten-tier-lts.spec (calls t) (flatten-tier-at t) flatten-tier.Post
-    (flatten-tier-tier-of-requires t)
-    (flatten-tier-flatten-tier-requires t)
-    (flatten-tier-flatten-small-requires t)
-    (flatten-tier-flatten-middle-requires t)
-    (flatten-tier-flatten-many-requires t)
-    (flatten-tier-flatten-large-requires t)
-    (flatten-tier-same-length t)
-    (flatten-tier-returns t)
-    (flatten-tier-same-length-2 t)
-    (flatten-tier-returns-2 t)
-    (flatten-tier-same-length-3 t)
-    (flatten-tier-returns-3 t)
-    (flatten-tier-same-length-4 t)
-    (flatten-tier-returns-4 t)
-    (flatten-tier-same-length-5 t)
-    (flatten-tier-returns-5 t)
++flatten-tier-spec = close μ-flatten-tier λ t. flatten-tier-lts.spec (calls t) (flatten-tier-at t) flatten-tier.Post (λ c κs. search needs)
+    (flatten-tier-flatten-tier-requires t) (flatten-tier-flatten-small-requires t) (flatten-tier-flatten-middle-requires t)
+    (flatten-tier-flatten-many-requires t) (λ c κs. search needs) (λ c. search needs) (λ c. search needs) (λ c. search needs) (λ c. search needs)
+    (λ c. search needs) (λ c. search needs) (λ c. search needs) (λ c. search needs) (λ c. search needs) (λ c. search needs)

@@ -8,30 +8,11 @@ use borrow.Author.Needs.{needs}
 use Rattle.flatten.proofs.flatten_many.Statement.{statement}
 use Rattle.flatten.proofs.flatten_many.Tie as tie
 
-slice-aggregate-flatten-marked : tie.Need-slice-aggregate-flatten-marked
-slice-aggregate-flatten-marked c = search needs
-
-slice-aggregate-flatten-marked-2 : tie.Need-slice-aggregate-flatten-marked-2
-slice-aggregate-flatten-marked-2 c = search needs
-
 flatten-marked-requires : tie.Need-flatten-marked-requires
 flatten-marked-requires c κs =
     let pre = c .before .before .before .before .before .pre in
     let args = c .before .before .before .before .before .args in
     (all-rows _ refl, λ (h : length (args .s .now) ≤ 65536). omega (arith, pre))
 
-same-length : tie.Need-same-length
-same-length c = search needs
-
-returns : tie.Need-returns
-returns c = search needs
-
 pub flatten-many-spec : {M : Type 1} → statement M
-flatten-many-spec =
-    tie.close
-    (tie.spec
-    slice-aggregate-flatten-marked
-    slice-aggregate-flatten-marked-2
-    flatten-marked-requires
-    same-length
-    returns)
+flatten-many-spec = tie.close (tie.spec (λ c. search needs) (λ c. search needs) flatten-marked-requires (λ c. search needs) (λ c. search needs))

@@ -8,12 +8,6 @@ use borrow.Author.Needs.{needs}
 use Rattle.flatten.proofs.flatten_marked.Statement.{statement}
 use Rattle.flatten.proofs.flatten_marked.Tie as tie
 
-read-accepted-requires : tie.Need-read-accepted-requires
-read-accepted-requires c κs = search needs
-
-enum-known-sum : tie.Need-enum-known-sum
-enum-known-sum c = search needs
-
 returns : tie.Need-returns
 returns c =
     let read = c .before .before .before .before .before .before .before .before .before .before .read-accepted .ensures in
@@ -37,9 +31,6 @@ slice-write-out c =
     let out = args .out .now in
     omega (arith, c .if2 .left, some-bytes _ out told)
 
-cast-write-templates : tie.Need-cast-write-templates
-cast-write-templates c = search needs
-
 write-templates-requires : tie.Need-write-templates-requires
 write-templates-requires c κs =
     let pre = c .before .before .before .before .before .before .before .before .before .before .before .before .before .before .before .before .before
@@ -57,9 +48,6 @@ write-templates-requires c κs =
       omega (arith, file-rows _ out told (pre .0), read-accepted .kept .1 .0),
       file-to-write _ out told (if1 .left) (pre .0) (read .1 .0) _ _ (read .1 .1) (pre .1) _ (simp length-set (if2 .left)),
     )
-
-enum-known-no : tie.Need-enum-known-no
-enum-known-no c = search needs
 
 same-length-7 : tie.Need-same-length-7
 same-length-7 c = c .before .before .write-templates .kept .1 .1 .1 .1 .0 ∙ simp length-set
@@ -83,54 +71,7 @@ returns-4 c =
     let read-accepted = c .before .before .before .before .before .before .before .read-accepted in
     flatten-refused _ _ (judged-refused _ (sym (read-accepted .ensures .0) ∙ c .before .no .given .1))
 
-cast-t18 : tie.Need-cast-t18
-cast-t18 c = search needs
-
-same-length : tie.Need-same-length
-same-length c = search needs
-
-same-length-2 : tie.Need-same-length-2
-same-length-2 c = search needs
-
-same-length-3 : tie.Need-same-length-3
-same-length-3 c = search needs
-
-same-length-4 : tie.Need-same-length-4
-same-length-4 c = search needs
-
-same-length-5 : tie.Need-same-length-5
-same-length-5 c = search needs
-
-same-length-6 : tie.Need-same-length-6
-same-length-6 c = search needs
-
-same-length-8 : tie.Need-same-length-8
-same-length-8 c = search needs
-
-same-length-9 : tie.Need-same-length-9
-same-length-9 c = search needs
-
 pub flatten-marked-spec : {M : Type 1} → statement M
-flatten-marked-spec =
-    tie.close
-    (tie.spec
-    read-accepted-requires
-    enum-known-sum
-    cast-t18
-    same-length
-    same-length-2
-    returns
-    same-length-3
-    same-length-4
-    returns-2
-    slice-write-out
-    cast-write-templates
-    write-templates-requires
-    enum-known-no
-    same-length-5
-    same-length-6
-    same-length-7
-    returns-3
-    same-length-8
-    same-length-9
-    returns-4)
+flatten-marked-spec = tie.close (tie.spec (λ c κs. search needs) (λ c. search needs) (λ c. search needs) (λ c. search needs) (λ c. search needs)
+    returns (λ c. search needs) (λ c. search needs) returns-2 slice-write-out (λ c. search needs) write-templates-requires (λ c. search needs)
+    (λ c. search needs) (λ c. search needs) same-length-7 returns-3 (λ c. search needs) (λ c. search needs) returns-4)

@@ -22,9 +22,6 @@ abbrev μ-loop : tie.MeasureT-loop
 loop-holds : tie.Need-loop-holds Inv-loop μ-loop
 loop-holds c = (search needs, refl, refl)
 
-before-requires : tie.Need-before-requires Inv-loop μ-loop
-before-requires c κs = search needs
-
 first-byte-requires : tie.Need-first-byte-requires Inv-loop μ-loop
 first-byte-requires c κs =
     let k = c .before in
@@ -77,18 +74,5 @@ returns c =
     sym (i .2 ∙ rw (bytes-none _ _ _ l) refl)
 
 pub write-bits-spec : {M : Type 1} → statement M
-write-bits-spec =
-    tie.close
-    (tie.spec
-    Inv-loop
-    μ-loop
-    loop-holds
-    before-requires
-    first-byte-requires
-    slice-write-out
-    past-requires
-    add-f
-    loop-less
-    loop-again
-    same-length
-    returns)
+write-bits-spec = tie.close (tie.spec Inv-loop μ-loop loop-holds (λ c κs. search needs) first-byte-requires slice-write-out past-requires add-f
+    loop-less loop-again same-length returns)

@@ -7,29 +7,11 @@ use borrow.Author.Needs.{needs}
 use Rattle.flatten.proofs.write_template.Statement.{statement}
 use Rattle.flatten.proofs.write_template.Tie as tie
 
-mul-from-slot : tie.Need-mul-from-slot
-mul-from-slot c = search needs
-
-mul-from-slot-2 : tie.Need-mul-from-slot-2
-mul-from-slot-2 c = search needs
-
-shared-slice-read-from-slot : tie.Need-shared-slice-read-from-slot
-shared-slice-read-from-slot c = search needs
-
-from-slot-requires : tie.Need-from-slot-requires
-from-slot-requires c κs = search needs
-
-measure-requires : tie.Need-measure-requires
-measure-requires c κs = search needs
-
 bits-at-requires : tie.Need-bits-at-requires
 bits-at-requires c κs =
     let w = c .before .before .before .before .before .before .before .pre in
     let m = c .before .from-slot .ensures in
     (omega (arith, w .0), (search needs, count-within (w .3) m _ (c .measure .ensures)))
-
-cast-out : tie.Need-cast-out
-cast-out c = search needs
 
 slice-write-out : tie.Need-slice-write-out
 slice-write-out c =
@@ -217,28 +199,6 @@ returns c =
     template-done w m _ (measure .ensures) first gap _ count entries size list
 
 pub write-template-spec : {M : Type 1} → statement M
-write-template-spec =
-    tie.close
-    (tie.spec
-    mul-from-slot
-    mul-from-slot-2
-    shared-slice-read-from-slot
-    from-slot-requires
-    measure-requires
-    bits-at-requires
-    cast-out
-    slice-write-out
-    past-requires
-    add-write-bits
-    write-bits-requires
-    add-f
-    since-requires
-    add-f-2
-    add-f-3
-    put-length-requires
-    add-end
-    add-end-2
-    add-write-list
-    write-list-requires
-    same-length
-    returns)
+write-template-spec = tie.close (tie.spec (λ c. search needs) (λ c. search needs) (λ c. search needs) (λ c κs. search needs) (λ c κs. search needs)
+    bits-at-requires (λ c. search needs) slice-write-out past-requires add-write-bits write-bits-requires add-f since-requires add-f-2 add-f-3
+    put-length-requires add-end add-end-2 add-write-list write-list-requires same-length returns)

@@ -28,12 +28,6 @@ write-template-requires c κs =
       leftTemplate _ _ _ _ _ _ _ _ _ _ (loop .inv .2) (loop-test .taken) _ (omega (arith, loop .inv .1)),
     )
 
-add-own : tie.Need-add-own Inv-loop μ-loop
-add-own c = search needs
-
-loop-less : tie.Need-loop-less Inv-loop μ-loop
-loop-less c = search needs
-
 loop-again : tie.Need-loop-again Inv-loop μ-loop
 loop-again c =
     let loop = c .before .before .before .before .before .before .loop in
@@ -52,15 +46,5 @@ returns : tie.Need-returns Inv-loop μ-loop
 returns c = left-none _ _ _ _ _ _ _ _ _ _ (c .before .loop .inv .2) (c .loop-test .left)
 
 pub write-templates-spec : {M : Type 1} → statement M
-write-templates-spec =
-    tie.close
-    (tie.spec
-    Inv-loop
-    μ-loop
-    loop-holds
-    write-template-requires
-    add-own
-    loop-less
-    loop-again
-    same-length
-    returns)
+write-templates-spec = tie.close (tie.spec Inv-loop μ-loop loop-holds write-template-requires (λ c. search needs) (λ c. search needs) loop-again
+    same-length returns)

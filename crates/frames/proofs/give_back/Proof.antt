@@ -11,45 +11,6 @@ returns : tie.Need-returns
 unfolding toldBack returnRule
 returns c = ((λ g s. rw (eq-eqb _ _ (c .if1 .taken))), tt)
 
-sub-last : tie.Need-sub-last
-sub-last c = search needs
-
-mul-cell : tie.Need-mul-cell
-mul-cell c = search needs
-
-slice-read-cell : tie.Need-slice-read-cell
-slice-read-cell c = search needs
-
-frame-count-requires : tie.Need-frame-count-requires
-frame-count-requires c κs = search needs
-
-cast-n : tie.Need-cast-n
-cast-n c = search needs
-
-minus-requires : tie.Need-minus-requires
-minus-requires c κs = search needs
-
-clear-requires : tie.Need-clear-requires
-clear-requires c κs = search needs
-
-copy-up-requires : tie.Need-copy-up-requires
-copy-up-requires c κs = search needs
-
-add-clear : tie.Need-add-clear
-add-clear c = search needs
-
-clear-requires-2 : tie.Need-clear-requires-2
-clear-requires-2 c κs = search needs
-
-frame-env-requires : tie.Need-frame-env-requires
-frame-env-requires c κs = search needs
-
-same-length : tie.Need-same-length
-same-length c = search needs
-
-same-length-2 : tie.Need-same-length-2
-same-length-2 c = search needs
-
 returns-2 : tie.Need-returns-2
 unfolding toldBack returnRule
 returns-2 c =
@@ -66,21 +27,5 @@ returns-2 c =
     )
 
 pub give-back-spec : {M : Type 1} → statement M
-give-back-spec =
-    tie.close
-    (tie.spec
-    returns
-    sub-last
-    mul-cell
-    slice-read-cell
-    frame-count-requires
-    cast-n
-    minus-requires
-    clear-requires
-    copy-up-requires
-    add-clear
-    clear-requires-2
-    frame-env-requires
-    same-length
-    same-length-2
-    returns-2)
+give-back-spec = tie.close (tie.spec returns (search needs) (search needs) (search needs) (search needs) (search needs) (search needs) (search needs)
+    (search needs) (search needs) (search needs) (search needs) (search needs) (search needs) returns-2)

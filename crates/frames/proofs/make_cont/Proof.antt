@@ -11,39 +11,6 @@ returns : tie.Need-returns
 unfolding toldKept
 returns c = ((λ g s. rw (ne-eqb (c .before .before .before .args .r .sp) (c .before .before .before .args .n) (λ e. omega arith))), tt)
 
-add-if2 : tie.Need-add-if2
-add-if2 c = search needs
-
-add-if2-2 : tie.Need-add-if2-2
-add-if2-2 c = search needs
-
-copy-up-requires : tie.Need-copy-up-requires
-copy-up-requires c κs = search needs
-
-add-frames : tie.Need-add-frames
-add-frames c = search needs
-
-mul-frames : tie.Need-mul-frames
-mul-frames c = search needs
-
-slice-write-frames : tie.Need-slice-write-frames
-slice-write-frames c = search needs
-
-clear-requires : tie.Need-clear-requires
-clear-requires c κs = search needs
-
-add-t18 : tie.Need-add-t18
-add-t18 c = search needs
-
-add-t17 : tie.Need-add-t17
-add-t17 c = search needs
-
-same-length : tie.Need-same-length
-same-length c = search needs
-
-same-length-2 : tie.Need-same-length-2
-same-length-2 c = search needs
-
 returns-2 : tie.Need-returns-2
 unfolding toldKept
 returns-2 c =
@@ -57,20 +24,5 @@ unfolding toldKept
 returns-3 c = ((λ g s. rw (← c .before .if1 .left, eq-eqb _ _ refl, lt-leb _ _ (c .if2 .left))), tt)
 
 pub make-cont-spec : {M : Type 1} → statement M
-make-cont-spec =
-    tie.close
-    (tie.spec
-    returns
-    add-if2
-    add-if2-2
-    copy-up-requires
-    add-frames
-    mul-frames
-    slice-write-frames
-    clear-requires
-    add-t18
-    add-t17
-    same-length
-    same-length-2
-    returns-2
-    returns-3)
+make-cont-spec = tie.close (tie.spec returns (λ c. search needs) (λ c. search needs) (λ c κs. search needs) (λ c. search needs) (λ c. search needs)
+    (λ c. search needs) (λ c κs. search needs) (λ c. search needs) (λ c. search needs) (λ c. search needs) (λ c. search needs) returns-2 returns-3)

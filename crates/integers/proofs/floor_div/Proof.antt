@@ -5,18 +5,9 @@ use Rattle.integers.proofs.Dividing.{asked, floor-value}
 use Rattle.integers.proofs.floor_div.Statement.{statement}
 use Rattle.integers.proofs.floor_div.Tie as tie
 
-signed-value-requires : tie.Need-signed-value-requires
-signed-value-requires c κs = search needs
-
-signed-value-requires-2 : tie.Need-signed-value-requires-2
-signed-value-requires-2 c κs = search needs
-
 floor-quotient-requires : tie.Need-floor-quotient-requires
 floor-quotient-requires c κs =
     asked _ _ _ _ (c .before .signed-value .ensures) (c .signed-value2 .ensures) (c .before .before .pre .1) (c .before .before .pre .2)
-
-in-range-requires : tie.Need-in-range-requires
-in-range-requires c κs = search needs
 
 returns : tie.Need-returns
 returns c =
@@ -26,4 +17,4 @@ returns c =
     (c .before .floor-quotient .ensures))
 
 pub floor-div-spec : {M : Type 1} → statement M
-floor-div-spec = tie.close (tie.spec signed-value-requires signed-value-requires-2 floor-quotient-requires in-range-requires returns)
+floor-div-spec = tie.close (tie.spec (search needs) (search needs) floor-quotient-requires (search needs) returns)

@@ -8,23 +8,11 @@ use Rattle.integers.proofs.in_range.Tie as tie
 returns : tie.Need-returns
 returns c = below (c .before .before .fits .z) (c .if2 .taken)
 
-cast-if2 : tie.Need-cast-if2
-cast-if2 c = search needs
-
-sub-if2 : tie.Need-sub-if2
-sub-if2 c = search needs
-
-cast-t8 : tie.Need-cast-t8
-cast-t8 c = search needs
-
 add-t9 : tie.Need-add-t9
 add-t9 c = bits-sfit (negative (c .before .before .fits .z) (c .before .if1 .taken) (c .if2 .left))
 
 cast-t10 : tie.Need-cast-t10
 cast-t10 c = bits-cast (negative (c .before .before .fits .z) (c .before .if1 .taken) (c .if2 .left))
-
-cast-if3 : tie.Need-cast-if3
-cast-if3 c = search needs
 
 cast-t14 : tie.Need-cast-t14
 cast-t14 c = positive-cast (c .before .before .fits .z) (c .before .if1 .left)
@@ -39,17 +27,5 @@ returns-4 : tie.Need-returns-4
 returns-4 c = above (c .before .before .fits .z) (c .if3 .left)
 
 pub in-range-spec : {M : Type 1} → statement M
-in-range-spec =
-    tie.close
-    (tie.spec
-    cast-if2
-    sub-if2
-    cast-t8
-    add-t9
-    cast-t10
-    cast-if3
-    cast-t14
-    returns
-    returns-2
-    returns-3
+in-range-spec = tie.close (tie.spec (search needs) (search needs) (search needs) add-t9 cast-t10 (search needs) cast-t14 returns returns-2 returns-3
     returns-4)

@@ -21,15 +21,6 @@ abbrev μ-loop : tie.MeasureT-loop
 loop-holds : tie.Need-loop-holds Inv-loop μ-loop
 loop-holds c = (omega arith, record { bound = omega arith }, sum-start _)
 
-mul-c : tie.Need-mul-c Inv-loop μ-loop
-mul-c c = search needs
-
-shared-slice-read-c : tie.Need-shared-slice-read-c Inv-loop μ-loop
-shared-slice-read-c c = search needs
-
-tag-of-requires : tie.Need-tag-of-requires Inv-loop μ-loop
-tag-of-requires c κs = search needs
-
 returns : tie.Need-returns Inv-loop μ-loop
 returns c =
     let pre = c .before .before .before .before .before .before .pre in
@@ -37,21 +28,12 @@ returns c =
     let loop-test = c .before .before .before .loop-test in
     sym (sum-other _ _ _ _ (loop-test .taken) (pre .0) (λ k. c .if1 .taken (c .before .tag-of .ensures ∙ k))) ∙ loop .inv .2
 
-int-of-requires : tie.Need-int-of-requires Inv-loop μ-loop
-int-of-requires c κs = search needs
-
 signed-value-requires : tie.Need-signed-value-requires Inv-loop μ-loop
 signed-value-requires c κs = omega (arith, c .int-of .ensures)
 
 add-total : tie.Need-add-total Inv-loop μ-loop
 add-total c =
     sum-fits (c .before .before .before .before .before .before .loop .inv .1) (omega arith) _ _ (c .signed-value .ensures)
-
-add-i : tie.Need-add-i Inv-loop μ-loop
-add-i c = search needs
-
-loop-less : tie.Need-loop-less Inv-loop μ-loop
-loop-less c = search needs
 
 loop-again : tie.Need-loop-again Inv-loop μ-loop
 loop-again c =
@@ -65,29 +47,10 @@ loop-again c =
           (sym (sum-on _ _ _ _ (loop-test .taken) (pre .0) (sym (tag-of .ensures) ∙ c .before .before .if1 .left)) ∙ loop .inv .2),
     )
 
-in-range-requires : tie.Need-in-range-requires Inv-loop μ-loop
-in-range-requires c κs = search needs
-
 returns-2 : tie.Need-returns-2 Inv-loop μ-loop
 returns-2 c =
     rw (c .in-range .ensures, ← c .before .before .loop .inv .2, sum-done _ _ _ _ (c .before .before .loop .inv .0) (c .before .loop-test .left))
 
 pub sum-up-spec : {M : Type 1} → statement M
-sum-up-spec =
-    tie.close
-    (tie.spec
-    Inv-loop
-    μ-loop
-    loop-holds
-    mul-c
-    shared-slice-read-c
-    tag-of-requires
-    returns
-    int-of-requires
-    signed-value-requires
-    add-total
-    add-i
-    loop-less
-    loop-again
-    in-range-requires
-    returns-2)
+sum-up-spec = tie.close (tie.spec Inv-loop μ-loop loop-holds (search needs) (search needs) (search needs) returns (search needs) signed-value-requires
+    add-total (search needs) (search needs) loop-again (search needs) returns-2)

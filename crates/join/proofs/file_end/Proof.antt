@@ -9,17 +9,8 @@ use Rattle.join.proofs.file_end.Tie as tie
 sub-own : tie.Need-sub-own
 sub-own c = operand-count (c .before .before .pre .1) .0
 
-mul-slot : tie.Need-mul-slot
-mul-slot c = search needs
-
-mul-from-slot : tie.Need-mul-from-slot
-mul-from-slot c = search needs
-
 shared-slice-read-from-slot : tie.Need-shared-slice-read-from-slot
 shared-slice-read-from-slot c = let k = operand-count (c .before .before .before .pre .1) in omega (arith, k, c .before .before .before .pre .0)
-
-from-slot-requires : tie.Need-from-slot-requires
-from-slot-requires c κs = search needs
 
 past-list-requires : tie.Need-past-list-requires
 past-list-requires c κs =
@@ -31,13 +22,5 @@ returns : tie.Need-returns
 returns c = λ w. end-is w _ _ (c .past-list .ensures) _ refl (c .before .from-slot .ensures)
 
 pub file-end-spec : {M : Type 1} → statement M
-file-end-spec =
-    tie.close
-    (tie.spec
-    sub-own
-    mul-slot
-    mul-from-slot
-    shared-slice-read-from-slot
-    from-slot-requires
-    past-list-requires
-    returns)
+file-end-spec = tie.close (tie.spec sub-own (λ c. search needs) (λ c. search needs) shared-slice-read-from-slot (λ c κs. search needs)
+    past-list-requires returns)

@@ -21,9 +21,6 @@ loop-holds c = (omega arith, λ w. walked-none _ _ w)
 turn-at-requires : tie.Need-turn-at-requires Inv-loop μ-loop
 turn-at-requires c κs = (c .before .before .before .pre .0, c .before .before .before .pre .1, (c .loop .inv .1 (c .before .before .before .pre .2)) .now)
 
-enum-told : tie.Need-enum-told Inv-loop μ-loop
-enum-told c = search needs
-
 sub-t9 : tie.Need-sub-t9 Inv-loop μ-loop
 sub-t9 c = omega (arith, c .before .before .before .loop .inv .0)
 
@@ -31,9 +28,6 @@ returns : tie.Need-returns Inv-loop μ-loop
 returns c =
     let loop = c .before .before .before .loop in
     λ w. let k = loop .inv .1 w in walked-there _ _ _ k (sym (c .enum-told .given .1) ∙ c .before .before .turn-at .ensures (k .now)) _ refl refl
-
-enum-known-next : tie.Need-enum-known-next Inv-loop μ-loop
-enum-known-next c = search needs
 
 loop-less : tie.Need-loop-less Inv-loop μ-loop
 loop-less c =
@@ -51,9 +45,6 @@ loop-again c =
     let loop = c .before .before .before .before .loop in
     let turn-at = c .before .before .before .turn-at in
     (loop .inv .0, λ w. let k = loop .inv .1 w in walked-past _ _ _ (k) _ (sym (c .before .next .given .1) ∙ turn-at .ensures ((k) .now)) .0)
-
-enum-known-next-2 : tie.Need-enum-known-next-2 Inv-loop μ-loop
-enum-known-next-2 c = search needs
 
 sub-levels : tie.Need-sub-levels Inv-loop μ-loop
 sub-levels c =
@@ -80,20 +71,5 @@ loop-again-2 c =
     (omega (arith, loop .inv .0), λ w. let k = loop .inv .1 w in walked-within _ _ _ (k) _ (sym (c .before .next2 .given .1) ∙ turn-at .ensures ((k) .now)) .1)
 
 pub find-joint-spec : {M : Type 1} → statement M
-find-joint-spec =
-    tie.close
-    (tie.spec
-    Inv-loop
-    μ-loop
-    loop-holds
-    turn-at-requires
-    enum-told
-    sub-t9
-    returns
-    enum-known-next
-    loop-less
-    loop-again
-    enum-known-next-2
-    sub-levels
-    loop-less-2
-    loop-again-2)
+find-joint-spec = tie.close (tie.spec Inv-loop μ-loop loop-holds turn-at-requires (λ c. search needs) sub-t9 returns (λ c. search needs) loop-less
+    loop-again (λ c. search needs) sub-levels loop-less-2 loop-again-2)

@@ -6,12 +6,6 @@ use borrow.Author.Needs.{needs}
 use Rattle.join.proofs.first_template.Statement.{statement}
 use Rattle.join.proofs.first_template.Tie as tie
 
-shared-slice-read-from-slot : tie.Need-shared-slice-read-from-slot
-shared-slice-read-from-slot c = search needs
-
-from-slot-requires : tie.Need-from-slot-requires
-from-slot-requires c κs = search needs
-
 past-list-requires : tie.Need-past-list-requires
 past-list-requires c κs = (operand-short (c .before .before .before .before .pre .1), c .before .before .before .before .pre .0, omega arith)
 
@@ -20,19 +14,8 @@ bits-at-requires c κs =
     let pre = c .before .before .before .before .before .pre in
     (omega (arith, operand-short (pre .1)), (omega arith, operand-two (pre .1)))
 
-cast-entries : tie.Need-cast-entries
-cast-entries c = search needs
-
 returns : tie.Need-returns
 returns c = λ w. first-is w _ _ (c .before .past-list .ensures) (c .before .before .from-slot .ensures) _ (c .bits-at .ensures .0)
 
 pub first-template-spec : {M : Type 1} → statement M
-first-template-spec =
-    tie.close
-    (tie.spec
-    shared-slice-read-from-slot
-    from-slot-requires
-    past-list-requires
-    bits-at-requires
-    cast-entries
-    returns)
+first-template-spec = tie.close (tie.spec (λ c. search needs) (λ c κs. search needs) past-list-requires bits-at-requires (λ c. search needs) returns)

@@ -7,11 +7,5 @@ use Rattle.join.proofs.is_open.Tie as tie
 returns : tie.Need-returns
 returns c = all-closed (c .before .before .before .pre .2) (c .if1 .taken)
 
-is-prologue-requires : tie.Need-is-prologue-requires
-is-prologue-requires c κs = search needs
-
-returns-2 : tie.Need-returns-2
-returns-2 c = search needs
-
 pub is-open-spec : {M : Type 1} → statement M
-is-open-spec = tie.close (tie.spec returns is-prologue-requires returns-2)
+is-open-spec = tie.close (tie.spec returns (λ c κs. search needs) (λ c. search needs))

@@ -141,18 +141,6 @@ returns-3 c =
     (both-y (pre .2) (first-template2 .ensures (pre .2 .file))) (omega (arith, if1 .left)) _ (find-joint .ensures) _ (levels-left .ensures) (if2 .taken) _ _ _
     _ (both-end (pre .2) (last-end .ensures (pre .2 .file))) (since .ensures) (c .before .before .since2 .ensures) refl (c .before .if3 .left) _ (c .if4 .taken)
 
-slice-aggregate-move-indices : tie.Need-slice-aggregate-move-indices
-slice-aggregate-move-indices c = search needs
-
-move-indices-requires : tie.Need-move-indices-requires
-move-indices-requires c κs = search needs
-
-slice-aggregate-write-joined : tie.Need-slice-aggregate-write-joined
-slice-aggregate-write-joined c = search needs
-
-slice-relend-prefix-write-joined : tie.Need-slice-relend-prefix-write-joined
-slice-relend-prefix-write-joined c = search needs
-
 slice-aggregate-write-joined-2 : tie.Need-slice-aggregate-write-joined-2
 slice-aggregate-write-joined-2 c = sym (length-take-le _ _ (c .before .before .before .before .before .if4 .left))
 
@@ -197,9 +185,6 @@ write-joined-requires c κs =
       ),
     )
 
-same-length : tie.Need-same-length
-same-length c = search needs
-
 returns-4 : tie.Need-returns-4
 returns-4 c =
     let pre = c .before .before .before .before .before .before .before .before .before .before .before .before .before .before .before .before .before
@@ -237,29 +222,7 @@ returns-5 c =
     (c .if2 .left)
 
 pub join-both-spec : {M : Type 1} → statement M
-join-both-spec =
-    tie.close
-    (tie.spec
-    first-template-requires
-    first-template-requires-2
-    add-if1
-    returns
-    find-joint-requires
-    sub-levels-left
-    levels-left-requires
-    last-end-requires
-    since-requires
-    since-requires-2
-    add-size
-    add-size-2
-    returns-2
-    returns-3
-    slice-aggregate-move-indices
-    move-indices-requires
-    slice-aggregate-write-joined
-    slice-relend-prefix-write-joined
-    slice-aggregate-write-joined-2
-    write-joined-requires
-    same-length
-    returns-4
+join-both-spec = tie.close (tie.spec first-template-requires first-template-requires-2 add-if1 returns find-joint-requires sub-levels-left
+    levels-left-requires last-end-requires since-requires since-requires-2 add-size add-size-2 returns-2 returns-3 (λ c. search needs)
+    (λ c κs. search needs) (λ c. search needs) (λ c. search needs) slice-aggregate-write-joined-2 write-joined-requires (λ c. search needs) returns-4
     returns-5)

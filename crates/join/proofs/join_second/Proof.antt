@@ -8,33 +8,12 @@ use borrow.Author.Needs.{needs}
 use Rattle.join.proofs.join_second.Statement.{statement}
 use Rattle.join.proofs.join_second.Tie as tie
 
-slice-aggregate-read-second : tie.Need-slice-aggregate-read-second
-slice-aggregate-read-second c = search needs
-
-read-second-requires : tie.Need-read-second-requires
-read-second-requires c κs = search needs
-
-enum-known-sum : tie.Need-enum-known-sum
-enum-known-sum c = search needs
-
-slice-aggregate-join-both : tie.Need-slice-aggregate-join-both
-slice-aggregate-join-both c = search needs
-
 join-both-requires : tie.Need-join-both-requires
 join-both-requires c κs =
     let pre = c .before .before .before .before .before .before .before .before .before .before .before .before .pre in
     let read-second = c .before .before .before .before .before .before .read-second in
     let sum = c .before .before .before .sum in
     (pre .0, read-second .kept .1 .0, to-join (pre .1) _ (sym (read-second .ensures .0) ∙ sum .given .1) (all-rows _ refl) (read-second .ensures .1))
-
-enum-known-no : tie.Need-enum-known-no
-enum-known-no c = search needs
-
-same-length : tie.Need-same-length
-same-length c = search needs
-
-returns : tie.Need-returns
-returns c = search needs
 
 returns-2 : tie.Need-returns-2
 returns-2 c =
@@ -43,15 +22,5 @@ returns-2 c =
     second-refused _ _ _ (pre .1) (judged-refused _ (sym (read-second .ensures .0) ∙ c .before .no .given .1))
 
 pub join-second-spec : {M : Type 1} → statement M
-join-second-spec =
-    tie.close
-    (tie.spec
-    slice-aggregate-read-second
-    read-second-requires
-    enum-known-sum
-    slice-aggregate-join-both
-    join-both-requires
-    enum-known-no
-    same-length
-    returns
-    returns-2)
+join-second-spec = tie.close (tie.spec (λ c. search needs) (λ c κs. search needs) (λ c. search needs) (λ c. search needs) join-both-requires
+    (λ c. search needs) (λ c. search needs) (λ c. search needs) returns-2)

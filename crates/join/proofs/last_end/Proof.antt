@@ -8,11 +8,5 @@ use Rattle.join.proofs.last_end.Tie as tie
 returns : tie.Need-returns
 returns c = λ w. only-end w (c .before .if1 .taken) _ (c .before .before .before .before .pre .1 w) _ refl
 
-file-end-requires : tie.Need-file-end-requires
-file-end-requires c κs = search needs
-
-returns-2 : tie.Need-returns-2
-returns-2 c = search needs
-
 pub last-end-spec : {M : Type 1} → statement M
-last-end-spec = tie.close (tie.spec returns file-end-requires returns-2)
+last-end-spec = tie.close (tie.spec returns (λ c κs. search needs) (λ c. search needs))

@@ -6,15 +6,6 @@ use borrow.Author.Needs.{needs}
 use Rattle.join.proofs.levels_fit.Statement.{statement}
 use Rattle.join.proofs.levels_fit.Tie as tie
 
-read-list-requires : tie.Need-read-list-requires
-read-list-requires c κs = search needs
-
-enum-told : tie.Need-enum-told
-enum-told c = search needs
-
-enum-told-2 : tie.Need-enum-told-2
-enum-told-2 c = search needs
-
 returns : tie.Need-returns
 returns c =
     let pre = c .before .before .before .before .before .before .before .pre in
@@ -27,16 +18,5 @@ returns-2 c =
     let read-list = c .before .before .before .read-list in
     λ w. levels-refused _ _ _ (pre .2) w _ _ (listed-refused _ _ _ _ _ (sym (read-list .ensures .0) ∙ c .enum-told2 .given .1))
 
-slice-aggregate-read-list : tie.Need-slice-aggregate-read-list
-slice-aggregate-read-list c = search needs
-
 pub levels-fit-spec : {M : Type 1} → statement M
-levels-fit-spec =
-    tie.close
-    (tie.spec
-    slice-aggregate-read-list
-    read-list-requires
-    enum-told
-    enum-told-2
-    returns
-    returns-2)
+levels-fit-spec = tie.close (tie.spec (λ c. search needs) (λ c κs. search needs) (λ c. search needs) (λ c. search needs) returns returns-2)

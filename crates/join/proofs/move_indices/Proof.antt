@@ -17,24 +17,6 @@ abbrev μ-loop : tie.MeasureT-loop
 loop-holds : tie.Need-loop-holds Inv-loop μ-loop
 loop-holds c = (omega arith, c .pre .0, λ j h. absurd (omega arith))
 
-add-loop : tie.Need-add-loop Inv-loop μ-loop
-add-loop c = search needs
-
-add-indices : tie.Need-add-indices Inv-loop μ-loop
-add-indices c = search needs
-
-cast-indices : tie.Need-cast-indices Inv-loop μ-loop
-cast-indices c = search needs
-
-slice-write-indices : tie.Need-slice-write-indices Inv-loop μ-loop
-slice-write-indices c = search needs
-
-add-i : tie.Need-add-i Inv-loop μ-loop
-add-i c = search needs
-
-loop-less : tie.Need-loop-less Inv-loop μ-loop
-loop-less c = search needs
-
 loop-again : tie.Need-loop-again Inv-loop μ-loop
 loop-again c =
     let loop = c .before .loop in
@@ -44,25 +26,9 @@ loop-again c =
       one-more (loop .indices) (c .before .before .args .n) (loop .i) _ (omega (arith, v .1, c .loop-test .taken)) refl (v .2),
     )
 
-same-length : tie.Need-same-length Inv-loop μ-loop
-same-length c = search needs
-
 returns : tie.Need-returns Inv-loop μ-loop
 returns c = λ j h. c .before .loop .inv .2 j (omega (arith, c .loop-test .left))
 
 pub move-indices-spec : {M : Type 1} → statement M
-move-indices-spec =
-    tie.close
-    (tie.spec
-    Inv-loop
-    μ-loop
-    loop-holds
-    add-loop
-    add-indices
-    cast-indices
-    slice-write-indices
-    add-i
-    loop-less
-    loop-again
-    same-length
-    returns)
+move-indices-spec = tie.close (tie.spec Inv-loop μ-loop loop-holds (λ c. search needs) (λ c. search needs) (λ c. search needs) (λ c. search needs)
+    (λ c. search needs) (λ c. search needs) loop-again (λ c. search needs) returns)

@@ -6,30 +6,6 @@ use borrow.Author.Needs.{needs}
 use Rattle.join.proofs.put_entries.Statement.{statement}
 use Rattle.join.proofs.put_entries.Tie as tie
 
-put-field-requires : tie.Need-put-field-requires
-put-field-requires c κs = search needs
-
-cast-put-field : tie.Need-cast-put-field
-cast-put-field c = search needs
-
-put-field-requires-2 : tie.Need-put-field-requires-2
-put-field-requires-2 c κs = search needs
-
-since-requires : tie.Need-since-requires
-since-requires c κs = search needs
-
-copy-bits-requires : tie.Need-copy-bits-requires
-copy-bits-requires c κs = search needs
-
-since-requires-2 : tie.Need-since-requires-2
-since-requires-2 c κs = search needs
-
-copy-bits-requires-2 : tie.Need-copy-bits-requires-2
-copy-bits-requires-2 c κs = search needs
-
-same-length : tie.Need-same-length
-same-length c = search needs
-
 returns : tie.Need-returns
 returns c =
     let p = c .before .before .before .before .before .before .before .before .before .before .before .before .before .before .before .before .before
@@ -52,15 +28,5 @@ returns c =
     )
 
 pub put-entries-spec : {M : Type 1} → statement M
-put-entries-spec =
-    tie.close
-    (tie.spec
-    put-field-requires
-    cast-put-field
-    put-field-requires-2
-    since-requires
-    copy-bits-requires
-    since-requires-2
-    copy-bits-requires-2
-    same-length
-    returns)
+put-entries-spec = tie.close (tie.spec (λ c κs. search needs) (λ c. search needs) (λ c κs. search needs) (λ c κs. search needs) (λ c κs. search needs)
+    (λ c κs. search needs) (λ c κs. search needs) (λ c. search needs) returns)

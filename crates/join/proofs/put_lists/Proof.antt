@@ -9,18 +9,6 @@ use borrow.Author.Needs.{needs}
 use Rattle.join.proofs.put_lists.Statement.{statement}
 use Rattle.join.proofs.put_lists.Tie as tie
 
-since-requires : tie.Need-since-requires
-since-requires c κs = search needs
-
-copy-bits-requires : tie.Need-copy-bits-requires
-copy-bits-requires c κs = search needs
-
-since-requires-2 : tie.Need-since-requires-2
-since-requires-2 c κs = search needs
-
-sub-rewrite : tie.Need-sub-rewrite
-sub-rewrite c = search needs
-
 rewrite-requires : tie.Need-rewrite-requires
 rewrite-requires c κs =
     let p = c .before .before .before .before .before .before .before .before .before .before .before .before .before .before .before .pre in
@@ -29,9 +17,6 @@ rewrite-requires c κs =
     let s₂ = c .before .since2 .ensures in
     let m₁ = ap length (e₁ .1) ∙ put-length _ _ _ in
     ((omega (arith, p .0 .1), omega (arith, m₁, p .0 .2), p .0 .3, omega (arith, m₁, e₁ .0, s₁, s₂, p .1 .0, p .1 .1 .0, p .1 .1 .1 .0)), rw s₂ (p .1 .1 .1 .1))
-
-since-requires-3 : tie.Need-since-requires-3
-since-requires-3 c κs = search needs
 
 copy-bits-requires-2 : tie.Need-copy-bits-requires-2
 copy-bits-requires-2 c κs =
@@ -87,9 +72,6 @@ copy-bits-requires-3 c κs =
           (e₂ .0) (e₃ .0)),
     )
 
-same-length : tie.Need-same-length
-same-length c = search needs
-
 returns : tie.Need-returns
 returns c =
     let p = c .before .before .before .before .before .before .before .before .before .before .before .before .before .before .before .before .before
@@ -116,17 +98,5 @@ returns c =
     (e₃ .1) (e₃ .0) (e₄ .1)
 
 pub put-lists-spec : {M : Type 1} → statement M
-put-lists-spec =
-    tie.close
-    (tie.spec
-    since-requires
-    copy-bits-requires
-    since-requires-2
-    sub-rewrite
-    rewrite-requires
-    since-requires-3
-    copy-bits-requires-2
-    since-requires-4
-    copy-bits-requires-3
-    same-length
-    returns)
+put-lists-spec = tie.close (tie.spec (λ c κs. search needs) (λ c κs. search needs) (λ c κs. search needs) (λ c. search needs) rewrite-requires
+    (λ c κs. search needs) copy-bits-requires-2 since-requires-4 copy-bits-requires-3 (λ c. search needs) returns)

@@ -12,9 +12,6 @@ use Rattle.join.proofs.read_prologue.Tie as tie
 read-tree-requires : tie.Need-read-tree-requires
 read-tree-requires c κs = all-rows _ (c .before .before .before .before .pre)
 
-enum-known-sum : tie.Need-enum-known-sum
-enum-known-sum c = search needs
-
 is-prologue-requires : tie.Need-is-prologue-requires
 is-prologue-requires c κs =
     let pre = c .before .before .before .before .before .before .before .before .before .before .before .before .pre in
@@ -22,9 +19,6 @@ is-prologue-requires c κs =
       file-short _ _ _ (operand-read _ (sym (read-tree .ensures .0) ∙ c .before .before .sum .given .1) (all-rows _ (pre)) (read-tree .ensures .1 .0) .read),
       read-tree .kept .1 .0 ∙ ap length (pre) ∙ zeros-length 16384,
     )
-
-same-length : tie.Need-same-length
-same-length c = search needs
 
 returns : tie.Need-returns
 returns c =
@@ -39,9 +33,6 @@ returns c =
       read-tree .ensures .1 .0,
     )
 
-same-length-2 : tie.Need-same-length-2
-same-length-2 c = search needs
-
 returns-2 : tie.Need-returns-2
 returns-2 c =
     let pre = c .before .before .before .before .before .before .before .before .before .before .before .before .before .before .before .before .pre in
@@ -54,15 +45,6 @@ returns-2 c =
       read-tree .ensures .1 .0,
     )
 
-enum-known-no : tie.Need-enum-known-no
-enum-known-no c = search needs
-
-number-requires : tie.Need-number-requires
-number-requires c κs = search needs
-
-same-length-3 : tie.Need-same-length-3
-same-length-3 c = search needs
-
 returns-3 : tie.Need-returns-3
 returns-3 c =
     let pre = c .before .before .before .before .before .before .before .before .before .before .before .before .before .before .pre in
@@ -74,36 +56,12 @@ returns-3 c =
       read-tree .ensures .1 .0,
     )
 
-same-length-4 : tie.Need-same-length-4
-same-length-4 c = search needs
-
 returns-4 : tie.Need-returns-4
 returns-4 c =
     let read-tree = c .before .before .before .before .before .before .before .read-tree in
     (prologue-unread _ _ _ (sym (read-tree .ensures .0) ∙ c .before .before .no .given .1) _ (c .number .ensures), read-tree .ensures .1 .0)
 
-slice-aggregate-read-tree : tie.Need-slice-aggregate-read-tree
-slice-aggregate-read-tree c = search needs
-
-cast-t18 : tie.Need-cast-t18
-cast-t18 c = search needs
-
 pub read-prologue-spec : {M : Type 1} → statement M
-read-prologue-spec =
-    tie.close
-    (tie.spec
-    slice-aggregate-read-tree
-    read-tree-requires
-    enum-known-sum
-    is-prologue-requires
-    cast-t18
-    same-length
-    returns
-    same-length-2
-    returns-2
-    enum-known-no
-    number-requires
-    same-length-3
-    returns-3
-    same-length-4
-    returns-4)
+read-prologue-spec = tie.close (tie.spec (λ c. search needs) read-tree-requires (λ c. search needs) is-prologue-requires (λ c. search needs)
+    (λ c. search needs) returns (λ c. search needs) returns-2 (λ c. search needs) (λ c κs. search needs) (λ c. search needs) returns-3
+    (λ c. search needs) returns-4)

@@ -12,9 +12,6 @@ use Rattle.join.proofs.read_second.Tie as tie
 read-tree-requires : tie.Need-read-tree-requires
 read-tree-requires c κs = all-rows _ (c .before .before .before .before .pre)
 
-enum-known-sum : tie.Need-enum-known-sum
-enum-known-sum c = search needs
-
 is-open-requires : tie.Need-is-open-requires
 is-open-requires c κs =
     let k = c .before .before .before .before .before .before .before in
@@ -23,9 +20,6 @@ is-open-requires c κs =
       k .read-tree .kept .1 .0 ∙ ap length (k .before .before .before .before .before .pre) ∙ zeros-length 16384,
       unclosed-told _ told,
     )
-
-same-length : tie.Need-same-length
-same-length c = search needs
 
 returns : tie.Need-returns
 returns c =
@@ -40,9 +34,6 @@ returns c =
       read-tree .ensures .1 .0,
     )
 
-same-length-2 : tie.Need-same-length-2
-same-length-2 c = search needs
-
 returns-2 : tie.Need-returns-2
 returns-2 c =
     let pre = c .before .before .before .before .before .before .before .before .before .before .before .before .before .before .before .before .pre in
@@ -54,9 +45,6 @@ returns-2 c =
           c .before .before .if1 .taken) (c .if2 .left),
       read-tree .ensures .1 .0,
     )
-
-same-length-3 : tie.Need-same-length-3
-same-length-3 c = search needs
 
 returns-3 : tie.Need-returns-3
 returns-3 c =
@@ -70,9 +58,6 @@ returns-3 c =
           (c .before .if3 .taken),
       read-tree .ensures .1 .0,
     )
-
-same-length-4 : tie.Need-same-length-4
-same-length-4 c = search needs
 
 returns-4 : tie.Need-returns-4
 returns-4 c =
@@ -89,15 +74,6 @@ returns-4 c =
       read-tree .ensures .1 .0,
     )
 
-enum-known-no : tie.Need-enum-known-no
-enum-known-no c = search needs
-
-number-requires : tie.Need-number-requires
-number-requires c κs = search needs
-
-same-length-5 : tie.Need-same-length-5
-same-length-5 c = search needs
-
 returns-5 : tie.Need-returns-5
 returns-5 c =
     let pre = c .before .before .before .before .before .before .before .before .before .before .before .before .before .before .before .before .before
@@ -112,48 +88,12 @@ returns-5 c =
       read-tree .ensures .1 .0,
     )
 
-same-length-6 : tie.Need-same-length-6
-same-length-6 c = search needs
-
 returns-6 : tie.Need-returns-6
 returns-6 c =
     let read-tree = c .before .before .before .before .before .before .before .read-tree in
     (second-unread _ _ _ (sym (read-tree .ensures .0) ∙ c .before .before .no .given .1) _ (c .number .ensures), read-tree .ensures .1 .0)
 
-slice-aggregate-read-tree : tie.Need-slice-aggregate-read-tree
-slice-aggregate-read-tree c = search needs
-
-cast-t18 : tie.Need-cast-t18
-cast-t18 c = search needs
-
-cast-t20 : tie.Need-cast-t20
-cast-t20 c = search needs
-
-cast-t21 : tie.Need-cast-t21
-cast-t21 c = search needs
-
 pub read-second-spec : {M : Type 1} → statement M
-read-second-spec =
-    tie.close
-    (tie.spec
-    slice-aggregate-read-tree
-    read-tree-requires
-    enum-known-sum
-    is-open-requires
-    cast-t18
-    same-length
-    returns
-    same-length-2
-    returns-2
-    cast-t20
-    same-length-3
-    returns-3
-    cast-t21
-    same-length-4
-    returns-4
-    enum-known-no
-    number-requires
-    same-length-5
-    returns-5
-    same-length-6
-    returns-6)
+read-second-spec = tie.close (tie.spec (λ c. search needs) read-tree-requires (λ c. search needs) is-open-requires (λ c. search needs)
+    (λ c. search needs) returns (λ c. search needs) returns-2 (λ c. search needs) (λ c. search needs) returns-3 (λ c. search needs)
+    (λ c. search needs) returns-4 (λ c. search needs) (λ c κs. search needs) (λ c. search needs) returns-5 (λ c. search needs) returns-6)

@@ -14,17 +14,11 @@ bits-at-requires c κs = (omega (arith, c .before .before .pre .0), (omega arith
 shape-of-requires : tie.Need-shape-of-requires
 shape-of-requires c κs = rw (c .bits-at .ensures .0) (field-small _ _ 5)
 
-past-requires : tie.Need-past-requires
-past-requires c κs = search needs
-
 sub-past-list : tie.Need-sub-past-list
 sub-past-list c =
     let pre = c .before .before .before .before .before .before .pre in
     let bits-at = c .before .before .before .bits-at in
     omega (arith, arms-below (pre .2) _ (c .before .before .shape-of .ensures ∙ ap shapeOf (bits-at .ensures .0)) (c .before .match .keys2))
-
-past-list-requires : tie.Need-past-list-requires
-past-list-requires c κs = search needs
 
 sub-past-list-2 : tie.Need-sub-past-list-2
 sub-past-list-2 c =
@@ -32,27 +26,6 @@ sub-past-list-2 c =
     let bits-at = c .before .before .before .before .bits-at in
     let shape-of = c .before .before .before .shape-of in
     omega (arith, arms-below (pre .2) _ (shape-of .ensures ∙ ap shapeOf (bits-at .ensures .0)) (c .before .before .match .keys2))
-
-past-list-requires-2 : tie.Need-past-list-requires-2
-past-list-requires-2 c κs = search needs
-
-past-requires-2 : tie.Need-past-requires-2
-past-requires-2 c κs = search needs
-
-sub-past : tie.Need-sub-past
-sub-past c = search needs
-
-cast-past : tie.Need-cast-past
-cast-past c = search needs
-
-mul-past : tie.Need-mul-past
-mul-past c = search needs
-
-add-past : tie.Need-add-past
-add-past c = search needs
-
-past-requires-3 : tie.Need-past-requires-3
-past-requires-3 c κs = search needs
 
 returns : tie.Need-returns
 returns c = λ w. code-there w _ (c .before .shape-of .ensures ∙ ap shapeOf (c .before .before .bits-at .ensures .0)) (c .match .keys1)
@@ -77,23 +50,6 @@ returns-4 c =
     λ w. code-plain w _ (c .before .before .shape-of .ensures ∙ ap shapeOf (bits-at .ensures .0)) (r .0 .0 .1) (r .0 .1) (r .1) _ (c .past3 .ensures)
 
 pub turn-at-spec : {M : Type 1} → statement M
-turn-at-spec =
-    tie.close
-    (tie.spec
-    bits-at-requires
-    shape-of-requires
-    past-requires
-    sub-past-list
-    past-list-requires
-    sub-past-list-2
-    past-list-requires-2
-    past-requires-2
-    sub-past
-    cast-past
-    mul-past
-    add-past
-    past-requires-3
-    returns
-    returns-2
-    returns-3
-    returns-4)
+turn-at-spec = tie.close (tie.spec bits-at-requires shape-of-requires (λ c κs. search needs) sub-past-list (λ c κs. search needs) sub-past-list-2
+    (λ c κs. search needs) (λ c κs. search needs) (λ c. search needs) (λ c. search needs) (λ c. search needs) (λ c. search needs)
+    (λ c κs. search needs) returns returns-2 returns-3 returns-4)

@@ -9,12 +9,6 @@ use borrow.Author.Needs.{needs}
 use Rattle.join.proofs.write_joined.Statement.{statement}
 use Rattle.join.proofs.write_joined.Tie as tie
 
-add-entries : tie.Need-add-entries
-add-entries c = search needs
-
-put-entries-requires : tie.Need-put-entries-requires
-put-entries-requires c κs = search needs
-
 put-lists-requires : tie.Need-put-lists-requires
 put-lists-requires c κs =
     let p = c .before .before .before .before .before .before .before .before .before .before .before .before .before .pre in
@@ -24,9 +18,6 @@ put-lists-requires c κs =
     let e = c .before .before .before .put-entries .ensures in
     let m = ap length (e .1) ∙ put-length _ _ _ in
     ((p .0 .0, p .0 .1, omega (arith, m, p .0 .2), p .0 .3), ((x .1, x .2, x .3), ((y .1, y .2, y .3), (omega (arith, m, e .0, x, y, r), p .1 .1 .1 .1))))
-
-same-length : tie.Need-same-length
-same-length c = search needs
 
 returns : tie.Need-returns
 returns c =
@@ -40,5 +31,4 @@ returns c =
     (omega (arith, x, y, p .1 .1 .1 .0)) (e .1) (e .0) (c .before .before .put-lists .ensures w)
 
 pub write-joined-spec : {M : Type 1} → statement M
-write-joined-spec =
-    tie.close (tie.spec add-entries put-entries-requires put-lists-requires same-length returns)
+write-joined-spec = tie.close (tie.spec (λ c. search needs) (λ c κs. search needs) put-lists-requires (λ c. search needs) returns)

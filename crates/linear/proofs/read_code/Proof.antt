@@ -13,24 +13,6 @@ use Rattle.linear.specs.laws.LinearSteps.{padding-set, length-cut, code-
 use Rattle.linear.proofs.read_code.Statement.{statement}
 use Rattle.linear.proofs.read_code.Tie as tie
 
-to-byte-requires : tie.Need-to-byte-requires
-to-byte-requires c κs = search needs
-
-zero-bits-requires : tie.Need-zero-bits-requires
-zero-bits-requires c κs = search needs
-
-enum-known-size : tie.Need-enum-known-size
-enum-known-size c = search needs
-
-read-three-requires : tie.Need-read-three-requires
-read-three-requires c κs = search needs
-
-enum-known-n : tie.Need-enum-known-n
-enum-known-n c = search needs
-
-enum-told : tie.Need-enum-told
-enum-told c = search needs
-
 returns : tie.Need-returns
 returns c =
     let to-byte = c .before .before .before .before .before .before .before .to-byte in
@@ -39,39 +21,12 @@ returns c =
     code-stops _ _ _ (length-cut _ _ (rw (to-byte .ensures) at (zero-bits .ensures)) (size .given .1)
     (field-cut _ _ _ (c .before .before .read-three .ensures) (c .enum-told .given .1)))
 
-cast-bits : tie.Need-cast-bits
-cast-bits c = search needs
-
-mul-bits : tie.Need-mul-bits
-mul-bits c = search needs
-
-within-requires : tie.Need-within-requires
-within-requires c κs = search needs
-
-byte-requires : tie.Need-byte-requires
-byte-requires c κs = search needs
-
-cast-table : tie.Need-cast-table
-cast-table c = search needs
-
-mul-table : tie.Need-mul-table
-mul-table c = search needs
-
 add-table : tie.Need-add-table
 add-table c =
     let read-three = c .before .before .before .before .before .before .read-three in
     let n = c .before .before .before .before .n in
     let h = field-within _ _ _ (read-three .ensures) (n .given .1) in
     omega (arith, h, c .byte .ensures)
-
-mul-table-2 : tie.Need-mul-table-2
-mul-table-2 c = search needs
-
-mul-table-3 : tie.Need-mul-table-3
-mul-table-3 c = search needs
-
-slice-write-table : tie.Need-slice-write-table
-slice-write-table c = search needs
 
 past-requires : tie.Need-past-requires
 past-requires c κs =
@@ -80,9 +35,6 @@ past-requires c κs =
     let g = n .given .0 in
     let h = lies (args .s .now) (g .1 .0 .0) (8 * g .0) (c .before .before .within .ensures) (c .before .if1 .taken) in
     omega (arith, h)
-
-same-length : tie.Need-same-length
-same-length c = search needs
 
 returns-2 : tie.Need-returns-2
 returns-2 c =
@@ -98,12 +50,6 @@ returns-2 c =
     let q : _≡_ {A = BitPlace} (c .past .result) (record { 0 = g .1 .0 .0 + 8 * g .0 }) = ap (λ (x : ℕ). record { 0 = x }) (c .past .ensures) in
     rw (q, c .before .byte .ensures) (code-ends _ _ _ _ _ _ h
     (code-read _ _ (rw (to-byte .ensures) at (zero-bits .ensures)) (size .given .1) (field-read _ _ _ (read-three .ensures) (n .given .1)) h))
-
-end-of-requires : tie.Need-end-of-requires
-end-of-requires c κs = search needs
-
-enum-known-place : tie.Need-enum-known-place
-enum-known-place c = search needs
 
 returns-3 : tie.Need-returns-3
 returns-3 c =
@@ -126,30 +72,6 @@ returns-4 c =
     code-stops _ _ _ (padding-set _ _ (rw (to-byte .ensures) at (zero-bits .ensures)) (c .before .place .given .1))
 
 pub read-code-spec : {M : Type 1} → statement M
-read-code-spec =
-    tie.close
-    (tie.spec
-    to-byte-requires
-    zero-bits-requires
-    enum-known-size
-    read-three-requires
-    enum-known-n
-    enum-told
-    returns
-    cast-bits
-    mul-bits
-    within-requires
-    byte-requires
-    cast-table
-    mul-table
-    add-table
-    mul-table-2
-    mul-table-3
-    slice-write-table
-    past-requires
-    same-length
-    returns-2
-    end-of-requires
-    enum-known-place
-    returns-3
-    returns-4)
+read-code-spec = tie.close (tie.spec (search needs) (search needs) (search needs) (search needs) (search needs) (search needs) returns (search needs)
+    (search needs) (search needs) (search needs) (search needs) (search needs) add-table (search needs) (search needs) (search needs) past-requires
+    (search needs) returns-2 (search needs) (search needs) returns-3 returns-4)

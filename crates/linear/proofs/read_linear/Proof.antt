@@ -9,15 +9,6 @@ use Rattle.linear.proofs.read_linear.Tie as tie
 returns : tie.Need-returns
 returns c = too-long _ _ (c .if1 .taken)
 
-read-field-requires : tie.Need-read-field-requires
-read-field-requires c κs = search needs
-
-enum-known-count : tie.Need-enum-known-count
-enum-known-count c = search needs
-
-enum-told : tie.Need-enum-told
-enum-told c = search needs
-
 returns-2 : tie.Need-returns-2
 returns-2 c = count-cut _ _ (c .before .before .before .if1 .left) (field-cut _ _ _ (c .before .before .read-field .ensures) (c .enum-told .given .1))
 
@@ -34,9 +25,6 @@ returns-4 c =
     let count = c .before .before .before .count in
     count-high _ _ (if1 .left) (field-read _ _ _ (read-field .ensures) (count .given .1)) (c .before .if2 .left) (c .if3 .taken)
 
-cast-read-templates : tie.Need-cast-read-templates
-cast-read-templates c = search needs
-
 read-templates-requires : tie.Need-read-templates-requires
 read-templates-requires c κs =
     let k = c .before in
@@ -46,27 +34,6 @@ read-templates-requires c κs =
     (field-read _ _ _ (k .before .before .before .before .before .read-field .ensures) (k .before .before .before .count .given .1)) few in
     (search needs, (rows, few))
 
-enum-known-past : tie.Need-enum-known-past
-enum-known-past c = search needs
-
-nothing-more-requires : tie.Need-nothing-more-requires
-nothing-more-requires c κs = search needs
-
-enum-told-2 : tie.Need-enum-told-2
-enum-told-2 c = search needs
-
-cast-t23 : tie.Need-cast-t23
-cast-t23 c = search needs
-
-enum-known-place : tie.Need-enum-known-place
-enum-known-place c = search needs
-
-enum-known-no : tie.Need-enum-known-no
-enum-known-no c = search needs
-
-same-length : tie.Need-same-length
-same-length c = search needs
-
 returns-5 : tie.Need-returns-5
 returns-5 c =
     let k = c .before .before .before .before .before .before .before .before .before .before in
@@ -75,9 +42,6 @@ returns-5 c =
     file-done _ _ (k .before .before .before .before .before .before .if1 .left)
     (field-read _ _ _ (k .before .before .before .before .before .read-field .ensures) (k .before .before .before .count .given .1)) (k .before .if2 .left)
     (k .if3 .left) (read-templates .ensures) (past .given .1) (c .before .before .nothing-more .ensures) (c .enum-told2 .given .1)
-
-same-length-2 : tie.Need-same-length-2
-same-length-2 c = search needs
 
 returns-6 : tie.Need-returns-6
 returns-6 c =
@@ -89,9 +53,6 @@ returns-6 c =
     (field-read _ _ _ (k .before .before .before .before .before .read-field .ensures) (k .before .before .before .count .given .1)) (k .before .if2 .left)
     (k .if3 .left) (read-templates .ensures) (past .given .1) (nothing-more .ensures) (c .before .place .given .1)
 
-same-length-3 : tie.Need-same-length-3
-same-length-3 c = search needs
-
 returns-7 : tie.Need-returns-7
 returns-7 c =
     let k = c .before .before .before .before .before .before .before in
@@ -101,27 +62,6 @@ returns-7 c =
     (k .if3 .left) (read-templates .ensures) (c .before .no .given .1)
 
 pub read-linear-spec : {M : Type 1} → statement M
-read-linear-spec =
-    tie.close
-    (tie.spec
-    returns
-    read-field-requires
-    enum-known-count
-    enum-told
-    returns-2
-    returns-3
-    returns-4
-    cast-read-templates
-    read-templates-requires
-    enum-known-past
-    nothing-more-requires
-    enum-told-2
-    cast-t23
-    enum-known-place
-    enum-known-no
-    same-length
-    returns-5
-    same-length-2
-    returns-6
-    same-length-3
-    returns-7)
+read-linear-spec = tie.close (tie.spec returns (search needs) (search needs) (search needs) returns-2 returns-3 returns-4 (search needs)
+    read-templates-requires (search needs) (search needs) (search needs) (search needs) (search needs) (search needs) (search needs) returns-5
+    (search needs) returns-6 (search needs) returns-7)

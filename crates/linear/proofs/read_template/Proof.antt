@@ -7,28 +7,13 @@ use Rattle.linear.specs.laws.LinearSteps.{entries-cut, entries-stop, tem
 use Rattle.linear.proofs.read_template.Statement.{statement}
 use Rattle.linear.proofs.read_template.Tie as tie
 
-read-field-requires : tie.Need-read-field-requires
-read-field-requires c κs = search needs
-
-enum-known-n : tie.Need-enum-known-n
-enum-known-n c = search needs
-
-enum-told : tie.Need-enum-told
-enum-told c = search needs
-
 returns : tie.Need-returns
 returns c = entries-cut _ _ _ _ _ (field-cut _ _ _ (c .before .before .read-field .ensures) (c .enum-told .given .1))
-
-cast-read-entries : tie.Need-cast-read-entries
-cast-read-entries c = search needs
 
 read-entries-requires : tie.Need-read-entries-requires
 read-entries-requires c κs =
     let read-field = c .before .before .before .before .read-field in
     (search needs, (search needs, (search needs, field-below _ _ _ (read-field .ensures) (c .before .before .n .given .1))))
-
-enum-known-padding : tie.Need-enum-known-padding
-enum-known-padding c = search needs
 
 read-code-requires : tie.Need-read-code-requires
 read-code-requires c κs =
@@ -38,12 +23,6 @@ read-code-requires c κs =
     let read-entries = c .before .before .before .before .before .before .read-entries in
     let e = entries-told _ (sym (read-entries .ensures .0) ∙ (c .before .before .padding .given .1)) in
     (search needs, (search needs, entries-read _ _ _ (pre .1 .1) _ _ (e .is) .within (field-within _ _ _ (read-field .ensures) (n .given .1))))
-
-enum-known-no : tie.Need-enum-known-no
-enum-known-no c = search needs
-
-same-length : tie.Need-same-length
-same-length c = search needs
 
 returns-2 : tie.Need-returns-2
 returns-2 c =
@@ -55,9 +34,6 @@ returns-2 c =
     let k = (c .before .before .read-code .ensures) in
     template-done _ _ _ _ _ (field-read _ _ _ (read-field .ensures) (n .given .1)) ((read-entries .ensures) .1) (e .is) (k .0 (e .entries)) (k .1 (e .entries))
 
-same-length-2 : tie.Need-same-length-2
-same-length-2 c = search needs
-
 returns-3 : tie.Need-returns-3
 returns-3 c =
     let read-field = c .before .before .before .before .before .before .before .before .before .before .read-field in
@@ -67,19 +43,5 @@ returns-3 c =
     (entries-refused _ (sym ((read-entries .ensures) .0) ∙ (c .before .no .given .1)))
 
 pub read-template-spec : {M : Type 1} → statement M
-read-template-spec =
-    tie.close
-    (tie.spec
-    read-field-requires
-    enum-known-n
-    enum-told
-    returns
-    cast-read-entries
-    read-entries-requires
-    enum-known-padding
-    read-code-requires
-    enum-known-no
-    same-length
-    returns-2
-    same-length-2
-    returns-3)
+read-template-spec = tie.close (tie.spec (search needs) (search needs) (search needs) returns (search needs) read-entries-requires (search needs)
+    read-code-requires (search needs) (search needs) returns-2 (search needs) returns-3)

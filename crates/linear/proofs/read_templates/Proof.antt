@@ -21,18 +21,6 @@ abbrev μ-loop : tie.MeasureT-loop
 loop-holds : tie.Need-loop-holds Inv-loop μ-loop
 loop-holds c = (search needs, search needs, simp sub-zero, simp sub-zero)
 
-read-template-requires : tie.Need-read-template-requires Inv-loop μ-loop
-read-template-requires c κs = search needs
-
-enum-known-past : tie.Need-enum-known-past Inv-loop μ-loop
-enum-known-past c = search needs
-
-enum-known-no : tie.Need-enum-known-no Inv-loop μ-loop
-enum-known-no c = search needs
-
-same-length : tie.Need-same-length Inv-loop μ-loop
-same-length c = search needs
-
 returns : tie.Need-returns Inv-loop μ-loop
 returns c =
     let loop = c .before .before .before .before .before .before .before .before .loop in
@@ -41,12 +29,6 @@ returns c =
     let i = (loop .inv) in
     let d = linears-stop _ _ _ _ _ (loop-test .taken) (read-template .ensures) (c .before .no .given .1) in
     (d .0 ∙ sym (i .2), d .1 ∙ sym (i .3))
-
-add-own : tie.Need-add-own Inv-loop μ-loop
-add-own c = search needs
-
-loop-less : tie.Need-loop-less Inv-loop μ-loop
-loop-less c = search needs
 
 loop-again : tie.Need-loop-again Inv-loop μ-loop
 loop-again c =
@@ -57,9 +39,6 @@ loop-again c =
     let d = linears-on _ _ _ _ _ (loop-test .taken) (read-template .ensures) (c .before .past .given .1) in
     (search needs, search needs, i .2 ∙ d .0, i .3 ∙ d .1)
 
-same-length-2 : tie.Need-same-length-2 Inv-loop μ-loop
-same-length-2 c = search needs
-
 returns-2 : tie.Need-returns-2 Inv-loop μ-loop
 returns-2 c =
     let i = c .before .loop .inv in
@@ -67,19 +46,5 @@ returns-2 c =
     (d .0 ∙ sym (i .2), d .1 ∙ sym (i .3))
 
 pub read-templates-spec : {M : Type 1} → statement M
-read-templates-spec =
-    tie.close
-    (tie.spec
-    Inv-loop
-    μ-loop
-    loop-holds
-    read-template-requires
-    enum-known-past
-    enum-known-no
-    same-length
-    returns
-    add-own
-    loop-less
-    loop-again
-    same-length-2
-    returns-2)
+read-templates-spec = tie.close (tie.spec Inv-loop μ-loop loop-holds (search needs) (search needs) (search needs) (search needs) returns
+    (search needs) (search needs) loop-again (search needs) returns-2)

@@ -10,18 +10,12 @@ use Rattle.linear_code.proofs.FetchLaws.{fetch-known, fetch-past, fetch
 use Rattle.linear_code.proofs.fetch_code.Statement.{statement}
 use Rattle.linear_code.proofs.fetch_code.Tie as tie
 
-left-requires : tie.Need-left-requires
-left-requires c κs = search needs
-
 returns : tie.Need-returns
 unfolding fetchedAs Places
 returns c =
     let p = c .before .before .before .before .args in
     let gone : p .len ≤ p .at .0 = omega (arith, c .before .before .left .ensures, c .before .if1 .taken) in
     (λ table t. fetch-past _ table t _ _ _ (c .before .before .before .before .pre .0) gone (c .if2 .taken), tt)
-
-is-first-requires : tie.Need-is-first-requires
-is-first-requires c κs = search needs
 
 returns-2 : tie.Need-returns-2
 unfolding fetchedAs Places
@@ -43,21 +37,6 @@ returns-3 c =
       tt,
     )
 
-index-requires : tie.Need-index-requires
-index-requires c κs = search needs
-
-add-fetch-known : tie.Need-add-fetch-known
-add-fetch-known c = search needs
-
-sub-fetch-known : tie.Need-sub-fetch-known
-sub-fetch-known c = search needs
-
-shared-slice-read-fetch-known : tie.Need-shared-slice-read-fetch-known
-shared-slice-read-fetch-known c = search needs
-
-fetch-known-requires : tie.Need-fetch-known-requires
-fetch-known-requires c κs = search needs
-
 returns-4 : tie.Need-returns-4
 returns-4 c =
     let p = c .before .before .before .before .before .before in
@@ -71,17 +50,5 @@ returns-4 c =
     )
 
 pub fetch-code-spec : {M : Type 1} → statement M
-fetch-code-spec =
-    tie.close
-    (tie.spec
-    left-requires
-    returns
-    is-first-requires
-    returns-2
-    returns-3
-    index-requires
-    add-fetch-known
-    sub-fetch-known
-    shared-slice-read-fetch-known
-    fetch-known-requires
-    returns-4)
+fetch-code-spec = tie.close (tie.spec (search needs) returns (search needs) returns-2 returns-3 (search needs) (search needs) (search needs)
+    (search needs) (search needs) returns-4)

@@ -3,78 +3,6 @@ use borrow.Author.Needs.{needs}
 use Rattle.linear_code.proofs.fetch_known.Statement.{statement}
 use Rattle.linear_code.proofs.fetch_known.Tie as tie
 
-fetch-op-requires : tie.Need-fetch-op-requires
-fetch-op-requires c κs = search needs
-
-fetch-op-requires-2 : tie.Need-fetch-op-requires-2
-fetch-op-requires-2 c κs = search needs
-
-fetch-op-requires-3 : tie.Need-fetch-op-requires-3
-fetch-op-requires-3 c κs = search needs
-
-fetch-op-requires-4 : tie.Need-fetch-op-requires-4
-fetch-op-requires-4 c κs = search needs
-
-fetch-op-requires-5 : tie.Need-fetch-op-requires-5
-fetch-op-requires-5 c κs = search needs
-
-fetch-op-requires-6 : tie.Need-fetch-op-requires-6
-fetch-op-requires-6 c κs = search needs
-
-fetch-op-requires-7 : tie.Need-fetch-op-requires-7
-fetch-op-requires-7 c κs = search needs
-
-fetch-op-requires-8 : tie.Need-fetch-op-requires-8
-fetch-op-requires-8 c κs = search needs
-
-fetch-op-requires-9 : tie.Need-fetch-op-requires-9
-fetch-op-requires-9 c κs = search needs
-
-fetch-op-requires-10 : tie.Need-fetch-op-requires-10
-fetch-op-requires-10 c κs = search needs
-
-fetch-op-requires-11 : tie.Need-fetch-op-requires-11
-fetch-op-requires-11 c κs = search needs
-
-fetch-op-requires-12 : tie.Need-fetch-op-requires-12
-fetch-op-requires-12 c κs = search needs
-
-fetch-op-requires-13 : tie.Need-fetch-op-requires-13
-fetch-op-requires-13 c κs = search needs
-
-fetch-op-requires-14 : tie.Need-fetch-op-requires-14
-fetch-op-requires-14 c κs = search needs
-
-fetch-op-requires-15 : tie.Need-fetch-op-requires-15
-fetch-op-requires-15 c κs = search needs
-
-fetch-op-requires-16 : tie.Need-fetch-op-requires-16
-fetch-op-requires-16 c κs = search needs
-
-fetch-op-requires-17 : tie.Need-fetch-op-requires-17
-fetch-op-requires-17 c κs = search needs
-
-fetch-op-requires-18 : tie.Need-fetch-op-requires-18
-fetch-op-requires-18 c κs = search needs
-
-fetch-op-requires-19 : tie.Need-fetch-op-requires-19
-fetch-op-requires-19 c κs = search needs
-
-fetch-op-requires-20 : tie.Need-fetch-op-requires-20
-fetch-op-requires-20 c κs = search needs
-
-fetch-op-requires-21 : tie.Need-fetch-op-requires-21
-fetch-op-requires-21 c κs = search needs
-
-fetch-op-requires-22 : tie.Need-fetch-op-requires-22
-fetch-op-requires-22 c κs = search needs
-
-fetch-op-requires-23 : tie.Need-fetch-op-requires-23
-fetch-op-requires-23 c κs = search needs
-
-fetch-op-requires-24 : tie.Need-fetch-op-requires-24
-fetch-op-requires-24 c κs = search needs
-
 returns : tie.Need-returns
 returns c = (λ slot. rw (c .before .match .keys1) (c .fetch-op .ensures .0 slot), c .fetch-op .ensures .1)
 
@@ -148,54 +76,8 @@ returns-24 : tie.Need-returns-24
 returns-24 c = c .fetch-op24 .ensures
 
 pub fetch-known-spec : {M : Type 1} → statement M
-fetch-known-spec =
-    tie.close
-    (tie.spec
-    fetch-op-requires
-    fetch-op-requires-2
-    fetch-op-requires-3
-    fetch-op-requires-4
-    fetch-op-requires-5
-    fetch-op-requires-6
-    fetch-op-requires-7
-    fetch-op-requires-8
-    fetch-op-requires-9
-    fetch-op-requires-10
-    fetch-op-requires-11
-    fetch-op-requires-12
-    fetch-op-requires-13
-    fetch-op-requires-14
-    fetch-op-requires-15
-    fetch-op-requires-16
-    fetch-op-requires-17
-    fetch-op-requires-18
-    fetch-op-requires-19
-    fetch-op-requires-20
-    fetch-op-requires-21
-    fetch-op-requires-22
-    fetch-op-requires-23
-    fetch-op-requires-24
-    returns
-    returns-2
-    returns-3
-    returns-4
-    returns-5
-    returns-6
-    returns-7
-    returns-8
-    returns-9
-    returns-10
-    returns-11
-    returns-12
-    returns-13
-    returns-14
-    returns-15
-    returns-16
-    returns-17
-    returns-18
-    returns-19
-    returns-20
-    returns-21
-    returns-22
-    returns-23
-    returns-24)
+fetch-known-spec = tie.close (tie.spec (search needs) (search needs) (search needs) (search needs) (search needs) (search needs) (search needs)
+    (search needs) (search needs) (search needs) (search needs) (search needs) (search needs) (search needs) (search needs) (search needs)
+    (search needs) (search needs) (search needs) (search needs) (search needs) (search needs) (search needs) (search needs) returns returns-2
+    returns-3 returns-4 returns-5 returns-6 returns-7 returns-8 returns-9 returns-10 returns-11 returns-12 returns-13 returns-14 returns-15 returns-16
+    returns-17 returns-18 returns-19 returns-20 returns-21 returns-22 returns-23 returns-24)

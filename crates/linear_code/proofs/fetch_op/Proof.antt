@@ -7,17 +7,11 @@ use Rattle.linear_code.proofs.FetchLaws.{op-cut, op-whole}
 use Rattle.linear_code.proofs.fetch_op.Statement.{statement}
 use Rattle.linear_code.proofs.fetch_op.Tie as tie
 
-operand-count-requires : tie.Need-operand-count-requires
-operand-count-requires c κs = search needs
-
 returns : tie.Need-returns
 unfolding fetchedAs Places
 returns c =
     let p = c .before .before .before in
     (λ slot. op-cut _ _ _ (p .pre .0) slot _ _ _ (c .before .operand-count .ensures) (c .if1 .taken), tt)
-
-add-past : tie.Need-add-past
-add-past c = search needs
 
 past-requires : tie.Need-past-requires
 past-requires c κs =
@@ -40,6 +34,4 @@ returns-2 c =
     )
 
 pub fetch-op-spec : {M : Type 1} → statement M
-fetch-op-spec =
-    tie.close
-    (tie.spec operand-count-requires returns add-past past-requires fetch-whole-requires returns-2)
+fetch-op-spec = tie.close (tie.spec (search needs) returns (search needs) past-requires fetch-whole-requires returns-2)

@@ -20,12 +20,6 @@ offset-requires c κs =
     let pre = c .before .before .pre in
     let k = has-operands _ 3 2 _ refl (c .match .keys3) (pre .1) in omega (arith, pre .0)
 
-past-requires : tie.Need-past-requires
-past-requires c κs = search needs
-
-add-t13 : tie.Need-add-t13
-add-t13 c = search needs
-
 shared-slice-read-t15 : tie.Need-shared-slice-read-t15
 unfolding operandBytes
 shared-slice-read-t15 c =
@@ -38,23 +32,11 @@ offset-requires-2 c κs =
     let pre = c .before .before .before .pre in
     let k = has-operands _ 4 3 _ refl (c .before .match .keys4) (pre .1) in omega (arith, pre .0)
 
-past-requires-2 : tie.Need-past-requires-2
-past-requires-2 c κs = search needs
-
 offset-requires-3 : tie.Need-offset-requires-3
 unfolding operandBytes
 offset-requires-3 c κs =
     let pre = c .before .before .pre in
     let k = has-operands _ 5 2 _ refl (c .match .keys5) (pre .1) in omega (arith, pre .0)
-
-past-requires-3 : tie.Need-past-requires-3
-past-requires-3 c κs = search needs
-
-operand-requires : tie.Need-operand-requires
-operand-requires c κs = search needs
-
-operand-requires-2 : tie.Need-operand-requires-2
-operand-requires-2 c κs = search needs
 
 returns : tie.Need-returns
 unfolding fetchedAs Places
@@ -101,23 +83,5 @@ returns-6 c =
     )
 
 pub fetch-whole-spec : {M : Type 1} → statement M
-fetch-whole-spec =
-    tie.close
-    (tie.spec
-    shared-slice-read-t8
-    offset-requires
-    past-requires
-    add-t13
-    shared-slice-read-t15
-    offset-requires-2
-    past-requires-2
-    offset-requires-3
-    past-requires-3
-    operand-requires
-    operand-requires-2
-    returns
-    returns-2
-    returns-3
-    returns-4
-    returns-5
-    returns-6)
+fetch-whole-spec = tie.close (tie.spec shared-slice-read-t8 offset-requires (search needs) (search needs) shared-slice-read-t15 offset-requires-2
+    (search needs) offset-requires-3 (search needs) (search needs) (search needs) returns returns-2 returns-3 returns-4 returns-5 returns-6)

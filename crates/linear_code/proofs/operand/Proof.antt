@@ -4,12 +4,6 @@ use Rattle.linear_code.proofs.FetchLaws.{operand-there, operand-past}
 use Rattle.linear_code.proofs.operand.Statement.{statement}
 use Rattle.linear_code.proofs.operand.Tie as tie
 
-add-result : tie.Need-add-result
-add-result c = search needs
-
-shared-slice-read-result : tie.Need-shared-slice-read-result
-shared-slice-read-result c = search needs
-
 returns : tie.Need-returns
 returns c = operand-there _ _ _ (c .before .before .pre) _ (c .before .if1 .taken)
 
@@ -17,4 +11,4 @@ returns-2 : tie.Need-returns-2
 returns-2 c = operand-past _ _ _ (c .before .pre) _ (c .if1 .left)
 
 pub operand-spec : {M : Type 1} → statement M
-operand-spec = tie.close (tie.spec add-result shared-slice-read-result returns returns-2)
+operand-spec = tie.close (tie.spec (search needs) (search needs) returns returns-2)

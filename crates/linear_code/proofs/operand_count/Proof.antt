@@ -8,9 +8,6 @@ use Rattle.machines.specs.laws.FetchedLaws.{operand-bytes-few}
 use Rattle.linear_code.proofs.operand_count.Statement.{statement}
 use Rattle.linear_code.proofs.operand_count.Tie as tie
 
-array-read-result : tie.Need-array-read-result
-array-read-result c = search needs
-
 returns : tie.Need-returns
 unfolding operandBytes
 returns c = refl
@@ -24,4 +21,4 @@ unfolding operandBytes
 cast-result c = omega (arith, operand-bytes-few (c .before .args .op))
 
 pub operand-count-spec : {M : Type 1} → statement M
-operand-count-spec = tie.close (tie.spec array-read-result cast-result returns returns-2)
+operand-count-spec = tie.close (tie.spec (search needs) cast-result returns returns-2)

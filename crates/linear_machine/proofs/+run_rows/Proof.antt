@@ -28,9 +28,6 @@ abbrev calls : ℕ → run-rows-lts.Claims
 calls t =
     (rows-for-reads.Asked, rows-for-reads.Learnt, run-rows-below t, run-rows.Post, run-4-reads.Asked, run-4-reads.Learnt, run-16-reads.Asked, run-16-reads.Learnt, run-64-reads.Asked, run-64-reads.Learnt)
 
-run-rows-rows-for-requires : (t : ℕ) → run-rows-lts.Need-rows-for-requires (calls t) (run-rows-at t) run-rows.Post
-run-rows-rows-for-requires t c κs = search needs
-
 run-rows-run-rows-requires : (t : ℕ) → run-rows-lts.Need-run-rows-requires (calls t) (run-rows-at t) run-rows.Post
 run-rows-run-rows-requires t c κs =
     let p = c .before .before .before .before .before .before .before .before .before .before .before .pre in
@@ -52,90 +49,9 @@ run-rows-run-16-requires t c κs =
 run-rows-run-64-requires : (t : ℕ) → run-rows-lts.Need-run-64-requires (calls t) (run-rows-at t) run-rows.Post
 run-rows-run-64-requires t c κs = c .before .before .before .before .before .before .before .before .before .before .pre .1 .0
 
-run-rows-same-length : (t : ℕ) → run-rows-lts.Need-same-length (calls t) (run-rows-at t) run-rows.Post
-run-rows-same-length t c = search needs
-
-run-rows-same-length-2 : (t : ℕ) → run-rows-lts.Need-same-length-2 (calls t) (run-rows-at t) run-rows.Post
-run-rows-same-length-2 t c = search needs
-
-run-rows-same-length-3 : (t : ℕ) → run-rows-lts.Need-same-length-3 (calls t) (run-rows-at t) run-rows.Post
-run-rows-same-length-3 t c = search needs
-
-run-rows-same-length-4 : (t : ℕ) → run-rows-lts.Need-same-length-4 (calls t) (run-rows-at t) run-rows.Post
-run-rows-same-length-4 t c = search needs
-
-run-rows-returns : (t : ℕ) → run-rows-lts.Need-returns (calls t) (run-rows-at t) run-rows.Post
-run-rows-returns t c = search needs
-
-run-rows-same-length-5 : (t : ℕ) → run-rows-lts.Need-same-length-5 (calls t) (run-rows-at t) run-rows.Post
-run-rows-same-length-5 t c = search needs
-
-run-rows-same-length-6 : (t : ℕ) → run-rows-lts.Need-same-length-6 (calls t) (run-rows-at t) run-rows.Post
-run-rows-same-length-6 t c = search needs
-
-run-rows-same-length-7 : (t : ℕ) → run-rows-lts.Need-same-length-7 (calls t) (run-rows-at t) run-rows.Post
-run-rows-same-length-7 t c = search needs
-
-run-rows-same-length-8 : (t : ℕ) → run-rows-lts.Need-same-length-8 (calls t) (run-rows-at t) run-rows.Post
-run-rows-same-length-8 t c = search needs
-
-run-rows-returns-2 : (t : ℕ) → run-rows-lts.Need-returns-2 (calls t) (run-rows-at t) run-rows.Post
-run-rows-returns-2 t c = search needs
-
-run-rows-same-length-9 : (t : ℕ) → run-rows-lts.Need-same-length-9 (calls t) (run-rows-at t) run-rows.Post
-run-rows-same-length-9 t c = search needs
-
-run-rows-same-length-10 : (t : ℕ) → run-rows-lts.Need-same-length-10 (calls t) (run-rows-at t) run-rows.Post
-run-rows-same-length-10 t c = search needs
-
-run-rows-same-length-11 : (t : ℕ) → run-rows-lts.Need-same-length-11 (calls t) (run-rows-at t) run-rows.Post
-run-rows-same-length-11 t c = search needs
-
-run-rows-same-length-12 : (t : ℕ) → run-rows-lts.Need-same-length-12 (calls t) (run-rows-at t) run-rows.Post
-run-rows-same-length-12 t c = search needs
-
-run-rows-returns-3 : (t : ℕ) → run-rows-lts.Need-returns-3 (calls t) (run-rows-at t) run-rows.Post
-run-rows-returns-3 t c = search needs
-
-run-rows-same-length-13 : (t : ℕ) → run-rows-lts.Need-same-length-13 (calls t) (run-rows-at t) run-rows.Post
-run-rows-same-length-13 t c = search needs
-
-run-rows-same-length-14 : (t : ℕ) → run-rows-lts.Need-same-length-14 (calls t) (run-rows-at t) run-rows.Post
-run-rows-same-length-14 t c = search needs
-
-run-rows-same-length-15 : (t : ℕ) → run-rows-lts.Need-same-length-15 (calls t) (run-rows-at t) run-rows.Post
-run-rows-same-length-15 t c = search needs
-
-run-rows-same-length-16 : (t : ℕ) → run-rows-lts.Need-same-length-16 (calls t) (run-rows-at t) run-rows.Post
-run-rows-same-length-16 t c = search needs
-
-run-rows-returns-4 : (t : ℕ) → run-rows-lts.Need-returns-4 (calls t) (run-rows-at t) run-rows.Post
-run-rows-returns-4 t c = search needs
-
 pub +run-rows-spec : {M : Type 1} → statement M
-+run-rows-spec = close μ-run-rows λ t. run-rows-lts.spec (calls t) (run-rows-at t) run-rows.Post
-    (run-rows-rows-for-requires t)
-    (run-rows-run-rows-requires t)
-    (run-rows-run-4-requires t)
-    (run-rows-run-16-requires t)
-    (run-rows-run-64-requires t)
-    (run-rows-same-length t)
-    (run-rows-same-length-2 t)
-    (run-rows-same-length-3 t)
-    (run-rows-same-length-4 t)
-    (run-rows-returns t)
-    (run-rows-same-length-5 t)
-    (run-rows-same-length-6 t)
-    (run-rows-same-length-7 t)
-    (run-rows-same-length-8 t)
-    (run-rows-returns-2 t)
-    (run-rows-same-length-9 t)
-    (run-rows-same-length-10 t)
-    (run-rows-same-length-11 t)
-    (run-rows-same-length-12 t)
-    (run-rows-returns-3 t)
-    (run-rows-same-length-13 t)
-    (run-rows-same-length-14 t)
-    (run-rows-same-length-15 t)
-    (run-rows-same-length-16 t)
-    (run-rows-returns-4 t)
++run-rows-spec = close μ-run-rows λ t. run-rows-lts.spec (calls t) (run-rows-at t) run-rows.Post (λ c κs. search needs) (run-rows-run-rows-requires t)
+    (run-rows-run-4-requires t) (run-rows-run-16-requires t) (run-rows-run-64-requires t) (λ c. search needs) (λ c. search needs) (λ c. search needs)
+    (λ c. search needs) (λ c. search needs) (λ c. search needs) (λ c. search needs) (λ c. search needs) (λ c. search needs) (λ c. search needs)
+    (λ c. search needs) (λ c. search needs) (λ c. search needs) (λ c. search needs) (λ c. search needs) (λ c. search needs) (λ c. search needs)
+    (λ c. search needs) (λ c. search needs) (λ c. search needs)

@@ -4,9 +4,6 @@ use native.Mathlib.Omega.{arith}
 use Rattle.linear_machine.proofs.rows_for.Statement.{statement}
 use Rattle.linear_machine.proofs.rows_for.Tie as tie
 
-count-of-requires : tie.Need-count-of-requires
-count-of-requires c κs = search needs
-
 returns : tie.Need-returns
 returns c = (omega arith, λ few. omega (arith, c .before .count-of .ensures, c .if1 .taken))
 
@@ -17,4 +14,4 @@ returns-3 : tie.Need-returns-3
 returns-3 c = (omega arith, λ few. omega arith)
 
 pub rows-for-spec : {M : Type 1} → statement M
-rows-for-spec = tie.close (tie.spec count-of-requires returns returns-2 returns-3)
+rows-for-spec = tie.close (tie.spec (λ c κs. search needs) returns returns-2 returns-3)

@@ -8,25 +8,10 @@ use borrow.Author.Needs.{needs}
 use Rattle.linear_machine.proofs.run_again.Statement.{statement}
 use Rattle.linear_machine.proofs.run_again.Tie as tie
 
-owner-of-requires : tie.Need-owner-of-requires
-owner-of-requires c κs = search needs
-
 run-read-requires : tie.Need-run-read-requires
 run-read-requires c κs =
     let p = c .before .before .before .before .before .before .before .before .before .before .before .pre in
     (startable _ _ _ _ (p .1), again-within _ _ (p .0))
-
-same-length : tie.Need-same-length
-same-length c = search needs
-
-same-length-2 : tie.Need-same-length-2
-same-length-2 c = search needs
-
-same-length-3 : tie.Need-same-length-3
-same-length-3 c = search needs
-
-same-length-4 : tie.Need-same-length-4
-same-length-4 c = search needs
 
 returns : tie.Need-returns
 unfolding linearRun
@@ -39,6 +24,5 @@ returns c =
     ∙ sym (started-go _ _ _ _ _ (p .1))
 
 pub run-again-spec : {M : Type 1} → statement M
-run-again-spec =
-    tie.close
-    (tie.spec owner-of-requires run-read-requires same-length same-length-2 same-length-3 same-length-4 returns)
+run-again-spec = tie.close (tie.spec (λ c κs. search needs) run-read-requires (λ c. search needs) (λ c. search needs) (λ c. search needs)
+    (λ c. search needs) returns)

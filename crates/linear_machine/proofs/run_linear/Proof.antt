@@ -7,38 +7,11 @@ use Rattle.linear_machine.proofs.FileLaws.{file-owned}
 use Rattle.linear_machine.proofs.run_linear.Statement.{statement}
 use Rattle.linear_machine.proofs.run_linear.Tie as tie
 
-start-refusal-requires : tie.Need-start-refusal-requires
-start-refusal-requires c κs = search needs
-
-enum-told : tie.Need-enum-told
-enum-told c = search needs
-
-owner-of-requires : tie.Need-owner-of-requires
-owner-of-requires c κs = search needs
-
 run-rows-requires : tie.Need-run-rows-requires
 run-rows-requires c κs =
     let start-refusal = c .before .before .before .before .before .before .before .start-refusal in
     let enum-told = c .before .before .before .before .before .enum-told in
     (may-start _ _ _ _ _ (start-refusal .ensures) (enum-told .given .1), λ h. absurd (omega arith))
-
-enum-known-number : tie.Need-enum-known-number
-enum-known-number c = search needs
-
-refused-requires : tie.Need-refused-requires
-refused-requires c κs = search needs
-
-same-length : tie.Need-same-length
-same-length c = search needs
-
-same-length-2 : tie.Need-same-length-2
-same-length-2 c = search needs
-
-same-length-3 : tie.Need-same-length-3
-same-length-3 c = search needs
-
-same-length-4 : tie.Need-same-length-4
-same-length-4 c = search needs
 
 returns : tie.Need-returns
 unfolding linearRun
@@ -52,18 +25,6 @@ returns c =
     let run-rows = c .before .before .before .before .before .before .before .before .run-rows in
     start-goes _ _ _ _ _ (start-refusal .ensures) _ _ (enum-told .given .1) (file-owned _ (args .owner) _ _ _ _ (owner-of .ensures) (run-rows .ensures))
 
-same-length-5 : tie.Need-same-length-5
-same-length-5 c = search needs
-
-same-length-6 : tie.Need-same-length-6
-same-length-6 c = search needs
-
-same-length-7 : tie.Need-same-length-7
-same-length-7 c = search needs
-
-same-length-8 : tie.Need-same-length-8
-same-length-8 c = search needs
-
 returns-2 : tie.Need-returns-2
 unfolding linearRun
 returns-2 c =
@@ -71,22 +32,6 @@ returns-2 c =
     start-refused _ _ _ _ _ (start-refusal .ensures) _ _ _ _ (c .before .before .number .given .1) (c .refused .ensures)
 
 pub run-linear-spec : {M : Type 1} → statement M
-run-linear-spec =
-    tie.close
-    (tie.spec
-    start-refusal-requires
-    enum-told
-    owner-of-requires
-    run-rows-requires
-    enum-known-number
-    refused-requires
-    same-length
-    same-length-2
-    same-length-3
-    same-length-4
-    returns
-    same-length-5
-    same-length-6
-    same-length-7
-    same-length-8
-    returns-2)
+run-linear-spec = tie.close (tie.spec (λ c κs. search needs) (λ c. search needs) (λ c κs. search needs) run-rows-requires (λ c. search needs)
+    (λ c κs. search needs) (λ c. search needs) (λ c. search needs) (λ c. search needs) (λ c. search needs) returns (λ c. search needs)
+    (λ c. search needs) (λ c. search needs) (λ c. search needs) returns-2)

@@ -8,17 +8,8 @@ use Rattle.lines.proofs.Laws.{lines-fit, lines-do-not-fit}
 use Rattle.lines.proofs.program.Statement.{statement}
 use Rattle.lines.proofs.program.Tie as tie
 
-slice-aggregate-put-lines : tie.Need-slice-aggregate-put-lines
-slice-aggregate-put-lines c = search needs
-
-put-lines-requires : tie.Need-put-lines-requires
-put-lines-requires c κs = search needs
-
 returns : tie.Need-returns
 returns c = lines-do-not-fit _ _ (c .before .before .put-lines .ensures .0) (c .if1 .taken)
-
-array-share-prefix-lines : tie.Need-array-share-prefix-lines
-array-share-prefix-lines c = search needs
 
 slice-aggregate-put-bytes : tie.Need-slice-aggregate-put-bytes
 slice-aggregate-put-bytes c = sym (length-take-le _ _ (omega (arith, c .before .before .before .before .put-lines .kept .0)))
@@ -29,9 +20,6 @@ put-bytes-requires c κs =
     let l = length-take-le (put-lines .result) (put-lines .last .0) (omega (arith, put-lines .kept .0)) in
     omega arith
 
-same-length : tie.Need-same-length
-same-length c = search needs
-
 returns-2 : tie.Need-returns-2
 returns-2 c =
     let p = c .before .before .before .before .before .before .before .put-lines in
@@ -39,14 +27,5 @@ returns-2 c =
     lines-fit _ q (omega (arith, p .ensures .0 .next, q .next))
 
 pub program-spec : {M : Type 1} → statement M
-program-spec =
-    tie.close
-    (tie.spec
-    slice-aggregate-put-lines
-    put-lines-requires
-    returns
-    array-share-prefix-lines
-    slice-aggregate-put-bytes
-    put-bytes-requires
-    same-length
-    returns-2)
+program-spec = tie.close (tie.spec (λ c. search needs) (λ c κs. search needs) returns (λ c. search needs) slice-aggregate-put-bytes put-bytes-requires
+    (λ c. search needs) returns-2)

@@ -7,18 +7,6 @@ use Rattle.text.specs.laws.Laws.{put-then}
 use Rattle.lines.proofs.put_linear.Statement.{statement}
 use Rattle.lines.proofs.put_linear.Tie as tie
 
-slice-aggregate-put-word : tie.Need-slice-aggregate-put-word
-slice-aggregate-put-word c = search needs
-
-put-word-requires : tie.Need-put-word-requires
-put-word-requires c κs = search needs
-
-put-number-requires : tie.Need-put-number-requires
-put-number-requires c κs = search needs
-
-same-length : tie.Need-same-length
-same-length c = search needs
-
 returns : tie.Need-returns
 unfolding line
 returns c =
@@ -26,6 +14,4 @@ returns c =
     (simp append-assoc at (put-then (put-word .ensures) (c .before .before .put-number .ensures .0)), omega arith)
 
 pub put-linear-spec : {M : Type 1} → statement M
-put-linear-spec =
-    tie.close
-    (tie.spec slice-aggregate-put-word put-word-requires put-number-requires same-length returns)
+put-linear-spec = tie.close (tie.spec (λ c. search needs) (λ c κs. search needs) (λ c κs. search needs) (λ c. search needs) returns)

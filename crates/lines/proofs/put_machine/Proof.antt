@@ -8,16 +8,10 @@ use Rattle.text.specs.laws.Laws.{put-then, put-length}
 use Rattle.lines.proofs.put_machine.Statement.{statement}
 use Rattle.lines.proofs.put_machine.Tie as tie
 
-put-word-requires : tie.Need-put-word-requires
-put-word-requires c κs = search needs
-
 put-end-requires : tie.Need-put-end-requires
 put-end-requires c κs =
     let put-word = c .before .before .before .put-word in
     omega (arith, simp length-append at (put-word .ensures .next), put-length (put-word .ensures))
-
-same-length : tie.Need-same-length
-same-length c = search needs
 
 returns : tie.Need-returns
 unfolding machineLine
@@ -28,4 +22,4 @@ returns c =
     )
 
 pub put-machine-spec : {M : Type 1} → statement M
-put-machine-spec = tie.close (tie.spec put-word-requires put-end-requires same-length returns)
+put-machine-spec = tie.close (tie.spec (λ c κs. search needs) put-end-requires (λ c. search needs) returns)

@@ -118,9 +118,6 @@ link-arms-link-list-requires-2 t c κs =
       ),
     )
 
-link-arms-same-length : (t : ℕ) → link-arms-lts.Need-same-length (link-arms-calls t) (link-arms-at t) link-arms.Post
-link-arms-same-length t c = search needs
-
 link-arms-returns : (t : ℕ) → link-arms-lts.Need-returns (link-arms-calls t) (link-arms-at t) link-arms.Post
 link-arms-returns t c =
     let args = c .before .before .before .before .before .before .before .before .before .before .before .before .before .before .before .before .before
@@ -156,25 +153,12 @@ link-list-parts-at-requires : (t : ℕ) → link-list-lts.Need-parts-at-requires
     link-list-μ-loop
 link-list-parts-at-requires t c κs = (c .before .before .before .before .pre .1 .0, here-within (c .before .loop .inv .1))
 
-link-list-enum-told : (t : ℕ) → link-list-lts.Need-enum-told (link-list-calls t) (link-list-at t) link-list.Post link-list-Inv-loop link-list-μ-loop
-link-list-enum-told t c = search needs
-
-link-list-set-link-requires : (t : ℕ) → link-list-lts.Need-set-link-requires (link-list-calls t) (link-list-at t) link-list.Post link-list-Inv-loop
-    link-list-μ-loop
-link-list-set-link-requires t c κs = search needs
-
-link-list-same-length : (t : ℕ) → link-list-lts.Need-same-length (link-list-calls t) (link-list-at t) link-list.Post link-list-Inv-loop link-list-μ-loop
-link-list-same-length t c = search needs
-
 link-list-returns : (t : ℕ) → link-list-lts.Need-returns (link-list-calls t) (link-list-at t) link-list.Post link-list-Inv-loop link-list-μ-loop
 link-list-returns t c =
     let loop = c .before .before .before .before .before .before .before .before .loop in
     let before = c .before .before .before .before .before .before in
     let enum-told = c .before .before .before .before .enum-told in
     c .before .before .set-link .ensures ∙ sym (loop .inv .0 ∙ at-turn t (before) _ (enum-told .given .1))
-
-link-list-enum-known-past : (t : ℕ) → link-list-lts.Need-enum-known-past (link-list-calls t) (link-list-at t) link-list.Post link-list-Inv-loop link-list-μ-loop
-link-list-enum-known-past t c = search needs
 
 link-list-loop-less : (t : ℕ) → link-list-lts.Need-loop-less (link-list-calls t) (link-list-at t) link-list.Post link-list-Inv-loop link-list-μ-loop
 link-list-loop-less t c = let w = at-turn t (c .before .before .before) _ (c .before .past .given .1) in omega arith
@@ -184,10 +168,6 @@ link-list-loop-again t c =
     let loop = c .before .before .before .before .before .loop in
     let w = at-turn t (c .before .before .before) _ (c .before .past .given .1) in
     (loop .inv .0 ∙ w .links, w .rest, loop .inv .2)
-
-link-list-enum-known-second : (t : ℕ) → link-list-lts.Need-enum-known-second (link-list-calls t) (link-list-at t) link-list.Post link-list-Inv-loop
-    link-list-μ-loop
-link-list-enum-known-second t c = search needs
 
 link-list-sub-link-arms : (t : ℕ) → link-list-lts.Need-sub-link-arms (link-list-calls t) (link-list-at t) link-list.Post link-list-Inv-loop link-list-μ-loop
 link-list-sub-link-arms t c = let w = at-turn t (c .before .before .before .before) _ (c .before .before .second .given .1) in omega (arith, w .levels-left)
@@ -215,10 +195,6 @@ link-list-loop-again-2 t c =
     let link-arms′ = c .before .before .link-arms in
     let w = at-turn t (before) _ (second .given .1) in
     (linked-on _ _ _ _ (loop .inv .0 ∙ w .left .links) (link-arms′ .ensures), rw (link-arms′ .ensures) (w .left .rest), link-arms′ .kept .1 .0 ∙ loop .inv .2)
-
-link-list-enum-known-past-2 : (t : ℕ) → link-list-lts.Need-enum-known-past-2 (link-list-calls t) (link-list-at t) link-list.Post link-list-Inv-loop
-    link-list-μ-loop
-link-list-enum-known-past-2 t c = search needs
 
 link-list-sub-link-saved : (t : ℕ) → link-list-lts.Need-sub-link-saved (link-list-calls t) (link-list-at t) link-list.Post link-list-Inv-loop link-list-μ-loop
 link-list-sub-link-saved t c = let w = at-turn t (c .before .before .before .before) _ (c .before .before .past2 .given .1) in omega (arith, w .levels-left)
@@ -250,12 +226,6 @@ link-list-loop-again-3 t c =
       link-saved′ .kept .1 .0 ∙ loop .inv .2,
     )
 
-link-list-enum-told-2 : (t : ℕ) → link-list-lts.Need-enum-told-2 (link-list-calls t) (link-list-at t) link-list.Post link-list-Inv-loop link-list-μ-loop
-link-list-enum-told-2 t c = search needs
-
-link-list-same-length-2 : (t : ℕ) → link-list-lts.Need-same-length-2 (link-list-calls t) (link-list-at t) link-list.Post link-list-Inv-loop link-list-μ-loop
-link-list-same-length-2 t c = search needs
-
 link-list-returns-2 : (t : ℕ) → link-list-lts.Need-returns-2 (link-list-calls t) (link-list-at t) link-list.Post link-list-Inv-loop link-list-μ-loop
 link-list-returns-2 t c = absurd (at-turn t (c .before .before) _ (c .enum-told2 .given .1))
 
@@ -286,9 +256,6 @@ link-saved-link-list-requires t c κs =
       ),
     )
 
-link-saved-same-length : (t : ℕ) → link-saved-lts.Need-same-length (link-saved-calls t) (link-saved-at t) link-saved.Post
-link-saved-same-length t c = search needs
-
 link-saved-returns : (t : ℕ) → link-saved-lts.Need-returns (link-saved-calls t) (link-saved-at t) link-saved.Post
 link-saved-returns t c =
     let a = c .before .before .before .before .before .before .before .before .before .before .before .before .args in
@@ -298,55 +265,12 @@ link-saved-returns t c =
     saved-linked _ _ _ _ _ (a .at .0) _ (a .past .0) (past .ensures) (back .ensures) (set-link .ensures) (c .before .before .link-list .ensures)
 
 pub +link-arms+link-list+link-saved-spec : {M : Type 1} → statement M
-+link-arms+link-list+link-saved-spec =
-    close
-    μ-link-arms
-    μ-link-list
-    μ-link-saved
-    (λ t. link-arms-lts.spec (link-arms-calls t)
-    (link-arms-at t)
-    link-arms.Post
-    (link-arms-set-link-requires t)
-    (link-arms-past-requires t)
-    (link-arms-back-requires t)
-    (link-arms-link-list-requires t)
-    (link-arms-back-requires-2 t)
-    (link-arms-link-list-requires-2 t)
-    (link-arms-same-length t)
-    (link-arms-returns t))
-    (λ t. link-list-lts.spec (link-list-calls t)
-    (link-list-at t)
-    link-list.Post
-    link-list-Inv-loop
-    link-list-μ-loop
-    (link-list-loop-holds t)
-    (link-list-parts-at-requires t)
-    (link-list-enum-told t)
-    (link-list-set-link-requires t)
-    (link-list-same-length t)
-    (link-list-returns t)
-    (link-list-enum-known-past t)
-    (link-list-loop-less t)
-    (link-list-loop-again t)
-    (link-list-enum-known-second t)
-    (link-list-sub-link-arms t)
-    (link-list-link-arms-requires t)
-    (link-list-loop-less-2 t)
-    (link-list-loop-again-2 t)
-    (link-list-enum-known-past-2 t)
-    (link-list-sub-link-saved t)
-    (link-list-link-saved-requires t)
-    (link-list-loop-less-3 t)
-    (link-list-loop-again-3 t)
-    (link-list-enum-told-2 t)
-    (link-list-same-length-2 t)
-    (link-list-returns-2 t))
-    λ t. link-saved-lts.spec (link-saved-calls t)
-    (link-saved-at t)
-    link-saved.Post
-    (link-saved-set-link-requires t)
-    (link-saved-past-requires t)
-    (link-saved-back-requires t)
-    (link-saved-link-list-requires t)
-    (link-saved-same-length t)
-    (link-saved-returns t)
++link-arms+link-list+link-saved-spec = close μ-link-arms μ-link-list μ-link-saved (λ t. link-arms-lts.spec (link-arms-calls t) (link-arms-at t)
+    link-arms.Post (link-arms-set-link-requires t) (link-arms-past-requires t) (link-arms-back-requires t) (link-arms-link-list-requires t)
+    (link-arms-back-requires-2 t) (link-arms-link-list-requires-2 t) (search needs) (link-arms-returns t)) (λ t. link-list-lts.spec
+    (link-list-calls t) (link-list-at t) link-list.Post link-list-Inv-loop link-list-μ-loop (link-list-loop-holds t) (link-list-parts-at-requires t)
+    (search needs) (search needs) (search needs) (link-list-returns t) (search needs) (link-list-loop-less t) (link-list-loop-again t) (search needs)
+    (link-list-sub-link-arms t) (link-list-link-arms-requires t) (link-list-loop-less-2 t) (link-list-loop-again-2 t) (search needs)
+    (link-list-sub-link-saved t) (link-list-link-saved-requires t) (link-list-loop-less-3 t) (link-list-loop-again-3 t) (search needs) (search needs)
+    (link-list-returns-2 t)) λ t. link-saved-lts.spec (link-saved-calls t) (link-saved-at t) link-saved.Post (link-saved-set-link-requires t)
+    (link-saved-past-requires t) (link-saved-back-requires t) (link-saved-link-list-requires t) (search needs) (link-saved-returns t)

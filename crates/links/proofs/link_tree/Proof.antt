@@ -35,9 +35,6 @@ shared-slice-read-from-slot c =
     let pre = c .before .before .before .before .before .before .pre in
     omega (arith, at-most-64 (pre .0), pre .1)
 
-from-slot-requires : tie.Need-from-slot-requires Inv-loop μ-loop
-from-slot-requires c κs = search needs
-
 link-list-requires : tie.Need-link-list-requires Inv-loop μ-loop
 link-list-requires c κs =
     let pre = c .before .before .before .before .before .before .before .before .pre in
@@ -45,12 +42,6 @@ link-list-requires c κs =
     let loop-test = c .before .before .before .loop-test in
     let r = pre .0 in
     (ready-short r, omega arith, omega arith, rw (c .before .from-slot .ensures) (list-to-link r (loop .own) (loop-test .taken) _ (loop .inv .3 _ _ (r .read))))
-
-add-own : tie.Need-add-own Inv-loop μ-loop
-add-own c = search needs
-
-loop-less : tie.Need-loop-less Inv-loop μ-loop
-loop-less c = search needs
 
 loop-again : tie.Need-loop-again Inv-loop μ-loop
 loop-again c =
@@ -66,26 +57,9 @@ loop-again c =
           (next-has (pre .0) (loop .own) (loop-test .taken) _ (loop .inv .3 _ _ (pre .0 .read)) (rw (from-slot .ensures) at (link-list .ensures))),
     )
 
-same-length : tie.Need-same-length Inv-loop μ-loop
-same-length c = search needs
-
 returns : tie.Need-returns Inv-loop μ-loop
 returns c = sym (c .before .loop .inv .0 ∙ linked-all (c .before .before .before .before .before .pre .0) _ _ (omega arith))
 
 pub link-tree-spec : {M : Type 1} → statement M
-link-tree-spec =
-    tie.close
-    (tie.spec
-    Inv-loop
-    μ-loop
-    loop-holds
-    mul-from-slot
-    mul-from-slot-2
-    shared-slice-read-from-slot
-    from-slot-requires
-    link-list-requires
-    add-own
-    loop-less
-    loop-again
-    same-length
-    returns)
+link-tree-spec = tie.close (tie.spec Inv-loop μ-loop loop-holds mul-from-slot mul-from-slot-2 shared-slice-read-from-slot (search needs)
+    link-list-requires (search needs) (search needs) loop-again (search needs) returns)

@@ -40,57 +40,6 @@ returns-5 c =
     let bits-at = c .before .before .before .bits-at in
     λ l w. absurd (bad-here w (ap shapeOf (sym (bits-at .ensures .0)) ∙ sym (c .before .before .shape-of .ensures)) (omega arith) (omega arith))
 
-bits-at-requires : tie.Need-bits-at-requires
-bits-at-requires c κs = search needs
-
-past-requires : tie.Need-past-requires
-past-requires c κs = search needs
-
-link-at-requires : tie.Need-link-at-requires
-link-at-requires c κs = search needs
-
-link-at-requires-2 : tie.Need-link-at-requires-2
-link-at-requires-2 c κs = search needs
-
-past-requires-2 : tie.Need-past-requires-2
-past-requires-2 c κs = search needs
-
-link-at-requires-3 : tie.Need-link-at-requires-3
-link-at-requires-3 c κs = search needs
-
-cast-past : tie.Need-cast-past
-cast-past c = search needs
-
-sub-past : tie.Need-sub-past
-sub-past c = search needs
-
-mul-past : tie.Need-mul-past
-mul-past c = search needs
-
-add-past : tie.Need-add-past
-add-past c = search needs
-
-past-requires-3 : tie.Need-past-requires-3
-past-requires-3 c κs = search needs
-
 pub parts-at-spec : {M : Type 1} → statement M
-parts-at-spec =
-    tie.close
-    (tie.spec
-    bits-at-requires
-    shape-of-requires
-    past-requires
-    link-at-requires
-    link-at-requires-2
-    past-requires-2
-    link-at-requires-3
-    cast-past
-    sub-past
-    mul-past
-    add-past
-    past-requires-3
-    returns
-    returns-2
-    returns-3
-    returns-4
-    returns-5)
+parts-at-spec = tie.close (tie.spec (search needs) shape-of-requires (search needs) (search needs) (search needs) (search needs) (search needs)
+    (search needs) (search needs) (search needs) (search needs) (search needs) returns returns-2 returns-3 returns-4 returns-5)

@@ -5,21 +5,6 @@ use borrow.Author.Needs.{needs}
 use Rattle.links.proofs.set_link.Statement.{statement}
 use Rattle.links.proofs.set_link.Tie as tie
 
-link-index-requires : tie.Need-link-index-requires
-link-index-requires c κs = search needs
-
-to-link-requires : tie.Need-to-link-requires
-to-link-requires c κs = search needs
-
-mul-links : tie.Need-mul-links
-mul-links c = search needs
-
-slice-write-links : tie.Need-slice-write-links
-slice-write-links c = search needs
-
-same-length : tie.Need-same-length
-same-length c = search needs
-
 returns : tie.Need-returns
 returns c = rw (c .to-link .ensures, c .before .before .link-index .ensures) refl
 
@@ -27,13 +12,4 @@ returns-2 : tie.Need-returns-2
 returns-2 c = rw (← c .before .link-index .ensures) (sym (set-out _ _ _ (c .if1 .left)))
 
 pub set-link-spec : {M : Type 1} → statement M
-set-link-spec =
-    tie.close
-    (tie.spec
-    link-index-requires
-    to-link-requires
-    mul-links
-    slice-write-links
-    same-length
-    returns
-    returns-2)
+set-link-spec = tie.close (tie.spec (search needs) (search needs) (search needs) (search needs) (search needs) returns returns-2)

@@ -121,20 +121,6 @@ read-list-calls t = (begin-reads.Asked, begin-reads.Learnt, read-instr-below t, 
 abbrev read-make-cont-calls : ℕ → read-make-cont-lts.Claims
 read-make-cont-calls t = (read-field-reads.Asked, read-field-reads.Learnt, read-list-below t, read-list.Post, save-added-reads.Asked, save-added-reads.Learnt)
 
-read-conditional-read-list-requires : (t : ℕ) → read-conditional-lts.Need-read-list-requires (read-conditional-calls t) (read-conditional-at t)
-    read-conditional.Post
-read-conditional-read-list-requires t c κs = search needs
-
-read-conditional-enum-known-mid : (t : ℕ) → read-conditional-lts.Need-enum-known-mid (read-conditional-calls t) (read-conditional-at t) read-conditional.Post
-read-conditional-enum-known-mid t c = search needs
-
-read-conditional-read-list-requires-2 : (t : ℕ) → read-conditional-lts.Need-read-list-requires-2 (read-conditional-calls t) (read-conditional-at t)
-    read-conditional.Post
-read-conditional-read-list-requires-2 t c κs = search needs
-
-read-conditional-enum-known-last : (t : ℕ) → read-conditional-lts.Need-enum-known-last (read-conditional-calls t) (read-conditional-at t) read-conditional.Post
-read-conditional-enum-known-last t c = search needs
-
 read-conditional-conditional-added-requires : (t : ℕ) → read-conditional-lts.Need-conditional-added-requires (read-conditional-calls t)
     (read-conditional-at t) read-conditional.Post
 read-conditional-conditional-added-requires t c κs =
@@ -145,12 +131,6 @@ read-conditional-conditional-added-requires t c κs =
       listed-size _ _ _ _ _ _ _ (pre .1 .0) (sym (read-list′ .ensures .0) ∙ mid .given .1),
       listed-size _ _ _ _ _ _ _ (pre .1 .0) (sym (read-list2 .ensures .0) ∙ c .before .last .given .1),
     )
-
-read-conditional-enum-known-no : (t : ℕ) → read-conditional-lts.Need-enum-known-no (read-conditional-calls t) (read-conditional-at t) read-conditional.Post
-read-conditional-enum-known-no t c = search needs
-
-read-conditional-enum-known-no-2 : (t : ℕ) → read-conditional-lts.Need-enum-known-no-2 (read-conditional-calls t) (read-conditional-at t) read-conditional.Post
-read-conditional-enum-known-no-2 t c = search needs
 
 read-conditional-same-length : (t : ℕ) → read-conditional-lts.Need-same-length (read-conditional-calls t) (read-conditional-at t) read-conditional.Post
 read-conditional-same-length t c =
@@ -209,9 +189,6 @@ at-code : (t : ℕ) (k : read-instr-lts.After-shape-by-words (read-instr-calls t
     (k .shape-by-words .result)
 at-code t k = code-read _ _ _ _ _ _ (code-there t (k .before)) (sym (k .shape-by-words .ensures))
 
-read-instr-within-requires : (t : ℕ) → read-instr-lts.Need-within-requires (read-instr-calls t) (read-instr-at t) read-instr.Post
-read-instr-within-requires t c κs = search needs
-
 read-instr-returns : (t : ℕ) → read-instr-lts.Need-returns (read-instr-calls t) (read-instr-at t) read-instr.Post
 unfolding itemed headMarked
 read-instr-returns t c = rw (code-cut _ _ _ (sym (cut _ _ 5 (leb-false _ _ (sym (c .before .within .ensures) ∙ not-true _ (c .if1 .taken)))))) (refl, tt)
@@ -247,18 +224,6 @@ read-instr-read-simple-requires t c κs =
 read-instr-returns-2 : (t : ℕ) → read-instr-lts.Need-returns-2 (read-instr-calls t) (read-instr-at t) read-instr.Post
 unfolding itemed headMarked
 read-instr-returns-2 t c = rw (at-code t (c .before .before .before .before) ∙ deep-last _ _ _ _ _ _ (omega arith) (omega arith) (omega arith)) (refl, tt)
-
-read-instr-sub-read-conditional : (t : ℕ) → read-instr-lts.Need-sub-read-conditional (read-instr-calls t) (read-instr-at t) read-instr.Post
-read-instr-sub-read-conditional t c = search needs
-
-read-instr-read-conditional-requires : (t : ℕ) → read-instr-lts.Need-read-conditional-requires (read-instr-calls t) (read-instr-at t) read-instr.Post
-read-instr-read-conditional-requires t c κs = search needs
-
-read-instr-sub-read-make-cont : (t : ℕ) → read-instr-lts.Need-sub-read-make-cont (read-instr-calls t) (read-instr-at t) read-instr.Post
-read-instr-sub-read-make-cont t c = search needs
-
-read-instr-read-make-cont-requires : (t : ℕ) → read-instr-lts.Need-read-make-cont-requires (read-instr-calls t) (read-instr-at t) read-instr.Post
-read-instr-read-make-cont-requires t c κs = search needs
 
 read-instr-returns-3 : (t : ℕ) → read-instr-lts.Need-returns-3 (read-instr-calls t) (read-instr-at t) read-instr.Post
 unfolding itemed shaped headMarked
@@ -302,23 +267,9 @@ read-list-Inv-loop s table own at levels keep marks₀ here₀ st₀ marks here 
 abbrev read-list-μ-loop : read-list-lts.MeasureT-loop
 read-list-μ-loop s table own at levels keep marks₀ here₀ st₀ marks here st = 8 * length s - here .0
 
-read-list-begin-requires : (t : ℕ) → read-list-lts.Need-begin-requires (read-list-calls t) (read-list-at t) read-list.Post read-list-Inv-loop read-list-μ-loop
-read-list-begin-requires t c κs = search needs
-
 read-list-loop-holds : (t : ℕ) → read-list-lts.Need-loop-holds (read-list-calls t) (read-list-at t) read-list.Post read-list-Inv-loop read-list-μ-loop
 unfolding begun
 read-list-loop-holds t c = rw (c .begin .ensures) (listed-begun _ _ _, omega arith, omega arith, marking-begun _ _ _ _ _, refl)
-
-read-list-read-instr-requires : (t : ℕ) → read-list-lts.Need-read-instr-requires (read-list-calls t) (read-list-at t) read-list.Post read-list-Inv-loop
-    read-list-μ-loop
-read-list-read-instr-requires t c κs = search needs
-
-read-list-enum-known-next : (t : ℕ) → read-list-lts.Need-enum-known-next (read-list-calls t) (read-list-at t) read-list.Post read-list-Inv-loop read-list-μ-loop
-read-list-enum-known-next t c = search needs
-
-read-list-finished-requires : (t : ℕ) → read-list-lts.Need-finished-requires (read-list-calls t) (read-list-at t) read-list.Post read-list-Inv-loop
-    read-list-μ-loop
-read-list-finished-requires t c κs = search needs
 
 read-list-mark-of-requires : (t : ℕ) → read-list-lts.Need-mark-of-requires (read-list-calls t) (read-list-at t) read-list.Post read-list-Inv-loop
     read-list-μ-loop
@@ -330,10 +281,6 @@ read-list-mark-of-requires t c κs =
     let e = loop .inv .0 ∙ turn-end _ _ _ _ _ _ _ (sym (read-instr′ .ensures .0) ∙ next .given .1) ∙ ap (Done (next .given .0 .0))
     (sym (c .before .finished .ensures)) in
     listed-near _ _ _ _ _ _ _ (pre .1 .0) e
-
-read-list-set-mark-requires : (t : ℕ) → read-list-lts.Need-set-mark-requires (read-list-calls t) (read-list-at t) read-list.Post read-list-Inv-loop
-    read-list-μ-loop
-read-list-set-mark-requires t c κs = search needs
 
 read-list-same-length : (t : ℕ) → read-list-lts.Need-same-length (read-list-calls t) (read-list-at t) read-list.Post read-list-Inv-loop read-list-μ-loop
 read-list-same-length t c =
@@ -354,10 +301,6 @@ read-list-returns t c =
           (marking-end _ _ _ _ _ _ _ (loop .inv .3) _ _ (sym (read-instr′ .ensures .0) ∙ next .given .1) (read-instr′ .ensures .1)) e (mark-of .ensures)
           (c .before .before .set-mark .ensures),
     )
-
-read-list-enum-known-next-2 : (t : ℕ) → read-list-lts.Need-enum-known-next-2 (read-list-calls t) (read-list-at t) read-list.Post read-list-Inv-loop
-    read-list-μ-loop
-read-list-enum-known-next-2 t c = search needs
 
 read-list-state-after-requires : (t : ℕ) → read-list-lts.Need-state-after-requires (read-list-calls t) (read-list-at t) read-list.Post read-list-Inv-loop read-list-μ-loop
 read-list-state-after-requires t c κs = let w = turn-bits _ _ _ _ _ _ _ (sym (c .before .before .before .before .before .read-instr .ensures .0) ∙ c .before .next2 .given .1) in (omega arith, c .before .before .before .before .before .before .before .loop .inv .2)
@@ -383,9 +326,6 @@ read-list-loop-again t c =
       read-instr′ .kept .1 .1 .1 .1 .1 .1 .0 ∙ loop .inv .4,
     )
 
-read-list-enum-known-no : (t : ℕ) → read-list-lts.Need-enum-known-no (read-list-calls t) (read-list-at t) read-list.Post read-list-Inv-loop read-list-μ-loop
-read-list-enum-known-no t c = search needs
-
 read-list-same-length-2 : (t : ℕ) → read-list-lts.Need-same-length-2 (read-list-calls t) (read-list-at t) read-list.Post read-list-Inv-loop read-list-μ-loop
 read-list-same-length-2 t c =
     let loop = c .before .before .before .before .before .before .before .loop in
@@ -400,33 +340,15 @@ read-list-returns-2 t c =
     let e = loop .inv .0 ∙ turn-bad _ _ _ _ _ _ _ _ (sym (read-instr′ .ensures .0) ∙ c .before .no .given .1) in
     (sym e, rw (listed-refused _ _ _ _ _ e) tt)
 
-read-make-cont-read-field-requires : (t : ℕ) → read-make-cont-lts.Need-read-field-requires (read-make-cont-calls t) (read-make-cont-at t) read-make-cont.Post
-read-make-cont-read-field-requires t c κs = search needs
-
-read-make-cont-enum-known-saved : (t : ℕ) → read-make-cont-lts.Need-enum-known-saved (read-make-cont-calls t) (read-make-cont-at t) read-make-cont.Post
-read-make-cont-enum-known-saved t c = search needs
-
-read-make-cont-enum-told : (t : ℕ) → read-make-cont-lts.Need-enum-told (read-make-cont-calls t) (read-make-cont-at t) read-make-cont.Post
-read-make-cont-enum-told t c = search needs
-
 read-make-cont-returns : (t : ℕ) → read-make-cont-lts.Need-returns (read-make-cont-calls t) (read-make-cont-at t) read-make-cont.Post
 unfolding itemed headMarked
 read-make-cont-returns t c = rw (count-cut _ _ _ _ _ (sym (c .before .before .read-field .ensures) ∙ c .enum-told .given .1)) (refl, tt)
-
-read-make-cont-read-list-requires : (t : ℕ) → read-make-cont-lts.Need-read-list-requires (read-make-cont-calls t) (read-make-cont-at t) read-make-cont.Post
-read-make-cont-read-list-requires t c κs = search needs
-
-read-make-cont-enum-known-last : (t : ℕ) → read-make-cont-lts.Need-enum-known-last (read-make-cont-calls t) (read-make-cont-at t) read-make-cont.Post
-read-make-cont-enum-known-last t c = search needs
 
 read-make-cont-save-added-requires : (t : ℕ) → read-make-cont-lts.Need-save-added-requires (read-make-cont-calls t) (read-make-cont-at t) read-make-cont.Post
 read-make-cont-save-added-requires t c κs =
     let pre = c .before .before .before .before .before .before .before .before .before .before .before .before .before .before .pre in
     let read-list′ = c .before .before .before .before .before .read-list in
     listed-size _ _ _ _ _ _ _ (pre .1 .0) (sym (read-list′ .ensures .0) ∙ c .before .last .given .1)
-
-read-make-cont-enum-known-no : (t : ℕ) → read-make-cont-lts.Need-enum-known-no (read-make-cont-calls t) (read-make-cont-at t) read-make-cont.Post
-read-make-cont-enum-known-no t c = search needs
 
 read-make-cont-same-length : (t : ℕ) → read-make-cont-lts.Need-same-length (read-make-cont-calls t) (read-make-cont-at t) read-make-cont.Post
 read-make-cont-same-length t c = c .before .before .before .before .before .before .read-list .kept .1 .1 .1 .1 .1 .1 .0
@@ -456,82 +378,18 @@ read-make-cont-returns-3 t c =
     (listed-refused _ _ _ _ _ (sym (read-list′ .ensures .0) ∙ c .before .no .given .1))) (refl, tt)
 
 pub +read-conditional+read-instr+read-list+read-make-cont-spec : {M : Type 1} → statement M
-+read-conditional+read-instr+read-list+read-make-cont-spec =
-    close
-    μ-read-conditional
-    μ-read-instr
-    μ-read-list
-    μ-read-make-cont
-    (λ t. read-conditional-lts.spec (read-conditional-calls t)
-    (read-conditional-at t)
-    read-conditional.Post
-    (read-conditional-read-list-requires t)
-    (read-conditional-enum-known-mid t)
-    (read-conditional-read-list-requires-2 t)
-    (read-conditional-enum-known-last t)
-    (read-conditional-conditional-added-requires t)
-    (read-conditional-enum-known-no t)
-    (read-conditional-enum-known-no-2 t)
-    (read-conditional-same-length t)
-    (read-conditional-returns t)
-    (read-conditional-same-length-2 t)
-    (read-conditional-returns-2 t)
-    (read-conditional-same-length-3 t)
-    (read-conditional-returns-3 t))
-    (λ t. read-instr-lts.spec (read-instr-calls t)
-    (read-instr-at t)
-    read-instr.Post
-    (read-instr-within-requires t)
-    (read-instr-returns t)
-    (read-instr-line-at-requires t)
-    (read-instr-past-requires t)
-    (read-instr-shape-by-words-requires t)
-    (read-instr-read-simple-requires t)
-    (read-instr-returns-2 t)
-    (read-instr-sub-read-conditional t)
-    (read-instr-read-conditional-requires t)
-    (read-instr-sub-read-make-cont t)
-    (read-instr-read-make-cont-requires t)
-    (read-instr-returns-3 t)
-    (read-instr-returns-4 t)
-    (read-instr-same-length t)
-    (read-instr-returns-5 t)
-    (read-instr-same-length-2 t)
-    (read-instr-returns-6 t)
-    (read-instr-returns-7 t))
-    (λ t. read-list-lts.spec (read-list-calls t)
-    (read-list-at t)
-    read-list.Post
-    read-list-Inv-loop
-    read-list-μ-loop
-    (read-list-begin-requires t)
-    (read-list-loop-holds t)
-    (read-list-read-instr-requires t)
-    (read-list-enum-known-next t)
-    (read-list-finished-requires t)
-    (read-list-mark-of-requires t)
-    (read-list-set-mark-requires t)
-    (read-list-same-length t)
-    (read-list-returns t)
-    (read-list-enum-known-next-2 t)
-    (read-list-state-after-requires t)
-    (read-list-loop-less t)
-    (read-list-loop-again t)
-    (read-list-enum-known-no t)
-    (read-list-same-length-2 t)
-    (read-list-returns-2 t))
-    λ t. read-make-cont-lts.spec (read-make-cont-calls t)
-    (read-make-cont-at t)
-    read-make-cont.Post
-    (read-make-cont-read-field-requires t)
-    (read-make-cont-enum-known-saved t)
-    (read-make-cont-enum-told t)
-    (read-make-cont-returns t)
-    (read-make-cont-read-list-requires t)
-    (read-make-cont-enum-known-last t)
-    (read-make-cont-save-added-requires t)
-    (read-make-cont-enum-known-no t)
-    (read-make-cont-same-length t)
-    (read-make-cont-returns-2 t)
-    (read-make-cont-same-length-2 t)
++read-conditional+read-instr+read-list+read-make-cont-spec = close μ-read-conditional μ-read-instr μ-read-list μ-read-make-cont (λ t.
+    read-conditional-lts.spec (read-conditional-calls t) (read-conditional-at t) read-conditional.Post (search needs) (search needs) (search needs)
+    (search needs) (read-conditional-conditional-added-requires t) (search needs) (search needs) (read-conditional-same-length t)
+    (read-conditional-returns t) (read-conditional-same-length-2 t) (read-conditional-returns-2 t) (read-conditional-same-length-3 t)
+    (read-conditional-returns-3 t)) (λ t. read-instr-lts.spec (read-instr-calls t) (read-instr-at t) read-instr.Post (search needs)
+    (read-instr-returns t) (read-instr-line-at-requires t) (read-instr-past-requires t) (read-instr-shape-by-words-requires t)
+    (read-instr-read-simple-requires t) (read-instr-returns-2 t) (search needs) (search needs) (search needs) (search needs) (read-instr-returns-3 t)
+    (read-instr-returns-4 t) (read-instr-same-length t) (read-instr-returns-5 t) (read-instr-same-length-2 t) (read-instr-returns-6 t)
+    (read-instr-returns-7 t)) (λ t. read-list-lts.spec (read-list-calls t) (read-list-at t) read-list.Post read-list-Inv-loop read-list-μ-loop
+    (search needs) (read-list-loop-holds t) (search needs) (search needs) (search needs) (read-list-mark-of-requires t) (search needs)
+    (read-list-same-length t) (read-list-returns t) (search needs) (read-list-state-after-requires t) (read-list-loop-less t) (read-list-loop-again t)
+    (search needs) (read-list-same-length-2 t) (read-list-returns-2 t)) λ t. read-make-cont-lts.spec (read-make-cont-calls t) (read-make-cont-at t)
+    read-make-cont.Post (search needs) (search needs) (search needs) (read-make-cont-returns t) (search needs) (search needs)
+    (read-make-cont-save-added-requires t) (search needs) (read-make-cont-same-length t) (read-make-cont-returns-2 t) (read-make-cont-same-length-2 t)
     (read-make-cont-returns-3 t)

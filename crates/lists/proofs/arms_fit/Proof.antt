@@ -10,15 +10,9 @@ returns : tie.Need-returns
 unfolding armsFit
 returns c = rw (eq-eqb _ _ (c .if1 .taken)) refl
 
-add-both : tie.Need-add-both
-add-both c = search needs
-
-both-requires : tie.Need-both-requires
-both-requires c κs = search needs
-
 returns-2 : tie.Need-returns-2
 unfolding armsFit
 returns-2 c = c .both .ensures ∙ rw (ne-eqb _ _ (c .before .if1 .left)) refl
 
 pub arms-fit-spec : {M : Type 1} → statement M
-arms-fit-spec = tie.close (tie.spec returns add-both both-requires returns-2)
+arms-fit-spec = tie.close (tie.spec returns (search needs) (search needs) returns-2)

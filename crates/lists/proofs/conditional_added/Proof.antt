@@ -5,27 +5,6 @@ use mathlib.Core.Path.{refl}
 use Rattle.lists.proofs.conditional_added.Statement.{statement}
 use Rattle.lists.proofs.conditional_added.Tie as tie
 
-conditional-kind-requires : tie.Need-conditional-kind-requires
-conditional-kind-requires c κs = search needs
-
-conditional-size-requires : tie.Need-conditional-size-requires
-conditional-size-requires c κs = search needs
-
-both-requires : tie.Need-both-requires
-both-requires c κs = search needs
-
-arms-fit-requires : tie.Need-arms-fit-requires
-arms-fit-requires c κs = search needs
-
-both-requires-2 : tie.Need-both-requires-2
-both-requires-2 c κs = search needs
-
-both-requires-3 : tie.Need-both-requires-3
-both-requires-3 c κs = search needs
-
-unite-requires : tie.Need-unite-requires
-unite-requires c κs = search needs
-
 returns : tie.Need-returns
 unfolding conditionalAdded
 returns c =
@@ -40,14 +19,5 @@ returns c =
     ) refl
 
 pub conditional-added-spec : {M : Type 1} → statement M
-conditional-added-spec =
-    tie.close
-    (tie.spec
-    conditional-kind-requires
-    conditional-size-requires
-    both-requires
-    arms-fit-requires
-    both-requires-2
-    both-requires-3
-    unite-requires
+conditional-added-spec = tie.close (tie.spec (search needs) (search needs) (search needs) (search needs) (search needs) (search needs) (search needs)
     returns)

@@ -5,15 +5,9 @@ use mathlib.Core.Path.{refl, sym, _∙_}
 use Rattle.lists.proofs.conditional_kind.Statement.{statement}
 use Rattle.lists.proofs.conditional_kind.Tie as tie
 
-both-requires : tie.Need-both-requires
-both-requires c κs = search needs
-
 returns : tie.Need-returns
 unfolding conditionalKind
 returns c = rw (sym (c .before .both .ensures) ∙ c .if1 .taken) refl
-
-both-requires-2 : tie.Need-both-requires-2
-both-requires-2 c κs = search needs
 
 returns-2 : tie.Need-returns-2
 unfolding conditionalKind
@@ -24,5 +18,4 @@ unfolding conditionalKind
 returns-3 c = rw (sym (c .before .before .before .both .ensures) ∙ c .before .before .if1 .left, sym (c .before .both2 .ensures) ∙ c .if2 .left) refl
 
 pub conditional-kind-spec : {M : Type 1} → statement M
-conditional-kind-spec =
-    tie.close (tie.spec both-requires returns both-requires-2 returns-2 returns-3)
+conditional-kind-spec = tie.close (tie.spec (search needs) returns (search needs) returns-2 returns-3)

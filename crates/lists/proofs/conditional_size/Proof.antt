@@ -6,26 +6,13 @@ use borrow.Author.Tests.{eq-eqb, ne-eqb}
 use Rattle.lists.proofs.conditional_size.Statement.{statement}
 use Rattle.lists.proofs.conditional_size.Tie as tie
 
-add-result : tie.Need-add-result
-add-result c = search needs
-
-add-result-2 : tie.Need-add-result-2
-add-result-2 c = search needs
-
 returns : tie.Need-returns
 unfolding conditionalSize
 returns c = rw (eq-eqb _ _ (c .if1 .taken)) refl
-
-add-result-3 : tie.Need-add-result-3
-add-result-3 c = search needs
-
-add-result-4 : tie.Need-add-result-4
-add-result-4 c = search needs
 
 returns-2 : tie.Need-returns-2
 unfolding conditionalSize
 returns-2 c = rw (ne-eqb _ _ (c .if1 .left)) refl
 
 pub conditional-size-spec : {M : Type 1} → statement M
-conditional-size-spec =
-    tie.close (tie.spec add-result add-result-2 returns add-result-3 add-result-4 returns-2)
+conditional-size-spec = tie.close (tie.spec (search needs) (search needs) returns (search needs) (search needs) returns-2)

@@ -5,12 +5,9 @@ use mathlib.Core.Path.{refl}
 use Rattle.lists.proofs.finished.Statement.{statement}
 use Rattle.lists.proofs.finished.Tie as tie
 
-both-requires : tie.Need-both-requires
-both-requires c κs = search needs
-
 returns : tie.Need-returns
 unfolding finish
 returns c = rw (c .both .ensures) refl
 
 pub finished-spec : {M : Type 1} → statement M
-finished-spec = tie.close (tie.spec both-requires returns)
+finished-spec = tie.close (tie.spec (search needs) returns)

@@ -5,24 +5,6 @@ use mathlib.Core.Path.{refl}
 use Rattle.lists.proofs.is_save.Statement.{statement}
 use Rattle.lists.proofs.is_save.Tie as tie
 
-enum-told : tie.Need-enum-told
-enum-told c = search needs
-
-enum-told-2 : tie.Need-enum-told-2
-enum-told-2 c = search needs
-
-enum-told-3 : tie.Need-enum-told-3
-enum-told-3 c = search needs
-
-enum-told-4 : tie.Need-enum-told-4
-enum-told-4 c = search needs
-
-enum-told-5 : tie.Need-enum-told-5
-enum-told-5 c = search needs
-
-enum-told-6 : tie.Need-enum-told-6
-enum-told-6 c = search needs
-
 returns : tie.Need-returns
 unfolding isSave
 returns c = rw (c .enum-told .given .1) refl
@@ -48,18 +30,5 @@ unfolding isSave
 returns-6 c = rw (c .enum-told6 .given .1) refl
 
 pub is-save-spec : {M : Type 1} → statement M
-is-save-spec =
-    tie.close
-    (tie.spec
-    enum-told
-    enum-told-2
-    enum-told-3
-    enum-told-4
-    enum-told-5
-    enum-told-6
-    returns
-    returns-2
-    returns-3
-    returns-4
-    returns-5
-    returns-6)
+is-save-spec = tie.close (tie.spec (search needs) (search needs) (search needs) (search needs) (search needs) (search needs) returns returns-2
+    returns-3 returns-4 returns-5 returns-6)

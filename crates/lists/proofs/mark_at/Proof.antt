@@ -6,9 +6,6 @@ use borrow.Author.Needs.{needs}
 use Rattle.lists.proofs.mark_at.Statement.{statement}
 use Rattle.lists.proofs.mark_at.Tie as tie
 
-link-index-requires : tie.Need-link-index-requires
-link-index-requires c κs = search needs
-
 returns : tie.Need-returns
 returns c = ap (λ (i : ℕ). getD (c .before .before .before .before .args .marks .now) i 0) (c .before .before .link-index .ensures)
 
@@ -18,18 +15,5 @@ returns-2 c =
     let L = args .marks .now in
     sym (List·getD-eq-default L 0 (c .if1 .left)) ∙ ap (λ (i : ℕ). getD L i 0) (c .before .link-index .ensures)
 
-mul-result : tie.Need-mul-result
-mul-result c = search needs
-
-shared-slice-read-result : tie.Need-shared-slice-read-result
-shared-slice-read-result c = search needs
-
 pub mark-at-spec : {M : Type 1} → statement M
-mark-at-spec =
-    tie.close
-    (tie.spec
-    link-index-requires
-    mul-result
-    shared-slice-read-result
-    returns
-    returns-2)
+mark-at-spec = tie.close (tie.spec (search needs) (search needs) (search needs) returns returns-2)

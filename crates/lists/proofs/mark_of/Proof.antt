@@ -5,18 +5,6 @@ use Rattle.lists.specs.Marks.{markBy}
 use Rattle.lists.proofs.mark_of.Statement.{statement}
 use Rattle.lists.proofs.mark_of.Tie as tie
 
-enum-told : tie.Need-enum-told
-enum-told c = search needs
-
-size-mark-requires : tie.Need-size-mark-requires
-size-mark-requires c κs = search needs
-
-enum-told-2 : tie.Need-enum-told-2
-enum-told-2 c = search needs
-
-to-link-requires : tie.Need-to-link-requires
-to-link-requires c κs = search needs
-
 returns : tie.Need-returns
 unfolding markBy
 returns c = c .size-mark .ensures ∙ rw (c .before .before .enum-told .given .1) refl
@@ -26,4 +14,4 @@ unfolding markBy
 returns-2 c = c .to-link .ensures ∙ rw (c .before .enum-told2 .given .1) refl
 
 pub mark-of-spec : {M : Type 1} → statement M
-mark-of-spec = tie.close (tie.spec enum-told size-mark-requires enum-told-2 to-link-requires returns returns-2)
+mark-of-spec = tie.close (tie.spec (search needs) (search needs) (search needs) (search needs) returns returns-2)

@@ -5,15 +5,9 @@ use mathlib.Core.Path.{refl}
 use Rattle.lists.proofs.save_added.Statement.{statement}
 use Rattle.lists.proofs.save_added.Tie as tie
 
-save-kind-requires : tie.Need-save-kind-requires
-save-kind-requires c κs = search needs
-
-add-t3 : tie.Need-add-t3
-add-t3 c = search needs
-
 returns : tie.Need-returns
 unfolding saveAdded
 returns c = rw (c .before .save-kind .ensures) refl
 
 pub save-added-spec : {M : Type 1} → statement M
-save-added-spec = tie.close (tie.spec save-kind-requires add-t3 returns)
+save-added-spec = tie.close (tie.spec (search needs) (search needs) returns)

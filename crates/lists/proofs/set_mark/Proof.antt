@@ -5,18 +5,6 @@ use borrow.Author.Needs.{needs}
 use Rattle.lists.proofs.set_mark.Statement.{statement}
 use Rattle.lists.proofs.set_mark.Tie as tie
 
-link-index-requires : tie.Need-link-index-requires
-link-index-requires c κs = search needs
-
-mul-marks : tie.Need-mul-marks
-mul-marks c = search needs
-
-slice-write-marks : tie.Need-slice-write-marks
-slice-write-marks c = search needs
-
-same-length : tie.Need-same-length
-same-length c = search needs
-
 returns : tie.Need-returns
 returns c = rw (c .before .link-index .ensures) refl
 
@@ -24,4 +12,4 @@ returns-2 : tie.Need-returns-2
 returns-2 c = rw (← c .before .link-index .ensures) (sym (set-out _ _ _ (c .if1 .left)))
 
 pub set-mark-spec : {M : Type 1} → statement M
-set-mark-spec = tie.close (tie.spec link-index-requires mul-marks slice-write-marks same-length returns returns-2)
+set-mark-spec = tie.close (tie.spec (search needs) (search needs) (search needs) (search needs) returns returns-2)

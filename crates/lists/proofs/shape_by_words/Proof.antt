@@ -9,18 +9,6 @@ use borrow.Author.Needs.{needs}
 use Rattle.lists.proofs.shape_by_words.Statement.{statement}
 use Rattle.lists.proofs.shape_by_words.Tie as tie
 
-mul-result : tie.Need-mul-result
-mul-result c = search needs
-
-cast-result : tie.Need-cast-result
-cast-result c = search needs
-
-shr-result : tie.Need-shr-result
-shr-result c = search needs
-
-cast-result-2 : tie.Need-cast-result-2
-cast-result-2 c = search needs
-
 low : (v : ℕ) → v < 16 → 0x1621332222654210 / 2 ^ (4 * (v % 16)) % 16 ≡ shapeOf v
 unfolding shapeOf
 low v h =
@@ -37,4 +25,4 @@ returns : tie.Need-returns
 returns c = ⊎-elim (λ x. rw (x .1) (low _ (x .0 .taken))) (λ x. rw (x .1) (high _ (x .0 .left) (c .before .before .pre))) (c .before .if1 .came)
 
 pub shape-by-words-spec : {M : Type 1} → statement M
-shape-by-words-spec = tie.close (tie.spec mul-result cast-result shr-result cast-result-2 returns)
+shape-by-words-spec = tie.close (tie.spec (search needs) (search needs) (search needs) (search needs) returns)

@@ -6,22 +6,13 @@ use borrow.Author.Tests.{lt-ltb, le-ltb}
 use Rattle.lists.proofs.simple_added.Statement.{statement}
 use Rattle.lists.proofs.simple_added.Tie as tie
 
-add-size : tie.Need-add-size
-add-size c = search needs
-
 returns : tie.Need-returns
 unfolding simpleAdded
 returns c = rw (lt-ltb _ _ (c .if1 .taken)) refl
-
-slot-named-requires : tie.Need-slot-named-requires
-slot-named-requires c κs = search needs
-
-slot-closes-requires : tie.Need-slot-closes-requires
-slot-closes-requires c κs = search needs
 
 returns-2 : tie.Need-returns-2
 unfolding simpleAdded
 returns-2 c = rw (c .slot-closes .ensures, c .before .slot-named .ensures, le-ltb _ _ (c .before .before .if1 .left)) refl
 
 pub simple-added-spec : {M : Type 1} → statement M
-simple-added-spec = tie.close (tie.spec add-size returns slot-named-requires slot-closes-requires returns-2)
+simple-added-spec = tie.close (tie.spec (search needs) returns (search needs) (search needs) returns-2)

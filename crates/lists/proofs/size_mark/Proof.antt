@@ -5,15 +5,6 @@ use Rattle.lists.specs.Marks.{sizeMark}
 use Rattle.lists.proofs.size_mark.Statement.{statement}
 use Rattle.lists.proofs.size_mark.Tie as tie
 
-cast-twice : tie.Need-cast-twice
-cast-twice c = search needs
-
-mul-twice : tie.Need-mul-twice
-mul-twice c = search needs
-
-add-result : tie.Need-add-result
-add-result c = search needs
-
 returns : tie.Need-returns
 unfolding sizeMark
 returns c = rw (c .if1 .taken) (omega arith)
@@ -23,4 +14,4 @@ unfolding sizeMark
 returns-2 c = rw (c .if1 .left) (omega arith)
 
 pub size-mark-spec : {M : Type 1} → statement M
-size-mark-spec = tie.close (tie.spec cast-twice mul-twice add-result returns returns-2)
+size-mark-spec = tie.close (tie.spec (search needs) (search needs) (search needs) returns returns-2)

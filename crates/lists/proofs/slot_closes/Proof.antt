@@ -7,27 +7,6 @@ use borrow.Author.Needs.{needs}
 use Rattle.lists.proofs.slot_closes.Statement.{statement}
 use Rattle.lists.proofs.slot_closes.Tie as tie
 
-mul-slot : tie.Need-mul-slot
-mul-slot c = search needs
-
-add-slot : tie.Need-add-slot
-add-slot c = search needs
-
-mul-slot-2 : tie.Need-mul-slot-2
-mul-slot-2 c = search needs
-
-shared-slice-read-slot : tie.Need-shared-slice-read-slot
-shared-slice-read-slot c = search needs
-
-slot-named-requires : tie.Need-slot-named-requires
-slot-named-requires c κs = search needs
-
-both-requires : tie.Need-both-requires
-both-requires c κs = search needs
-
-shl-result : tie.Need-shl-result
-shl-result c = search needs
-
 returns : tie.Need-returns
 returns c =
     let e = sym (c .before .both .ensures) ∙ c .if1 .taken in
@@ -39,15 +18,5 @@ returns-2 c =
     closes-any _ _ _ _ (rw (c .before .before .slot-named .ensures) at e)
 
 pub slot-closes-spec : {M : Type 1} → statement M
-slot-closes-spec =
-    tie.close
-    (tie.spec
-    mul-slot
-    add-slot
-    mul-slot-2
-    shared-slice-read-slot
-    slot-named-requires
-    both-requires
-    shl-result
-    returns
-    returns-2)
+slot-closes-spec = tie.close (tie.spec (search needs) (search needs) (search needs) (search needs) (search needs) (search needs) (search needs)
+    returns returns-2)

@@ -6,9 +6,6 @@ use borrow.Author.Tests.{eq-eqb, ne-eqb}
 use Rattle.lists.proofs.slot_fits.Statement.{statement}
 use Rattle.lists.proofs.slot_fits.Tie as tie
 
-both-requires : tie.Need-both-requires
-both-requires c κs = search needs
-
 returns : tie.Need-returns
 unfolding slotFits
 returns c = c .both .ensures ∙ rw (eq-eqb _ _ (c .before .if1 .taken)) refl
@@ -22,4 +19,4 @@ unfolding slotFits
 returns-3 c = rw (ne-eqb _ _ (c .before .if1 .left), ne-eqb _ _ (c .if2 .left)) refl
 
 pub slot-fits-spec : {M : Type 1} → statement M
-slot-fits-spec = tie.close (tie.spec both-requires returns returns-2 returns-3)
+slot-fits-spec = tie.close (tie.spec (search needs) returns returns-2 returns-3)

@@ -16,30 +16,12 @@ Inv-loop globals i₀ i = (i ≤ length globals) × (lowestUnfit i (drop i globa
 abbrev μ-loop : tie.MeasureT-loop
 μ-loop globals i₀ i = length globals - i
 
-loop-holds : tie.Need-loop-holds Inv-loop μ-loop
-loop-holds c = search needs
-
-mul-starting-global : tie.Need-mul-starting-global Inv-loop μ-loop
-mul-starting-global c = search needs
-
-shared-slice-read-starting-global : tie.Need-shared-slice-read-starting-global Inv-loop μ-loop
-shared-slice-read-starting-global c = search needs
-
-starting-global-requires : tie.Need-starting-global-requires Inv-loop μ-loop
-starting-global-requires c κs = search needs
-
 returns : tie.Need-returns Inv-loop μ-loop
 unfolding globalsRefusal
 returns c =
     let loop = c .before .before .before .before .loop in
     let loop-test = c .before .before .before .loop-test in
     ap globalsRefusal (unfit-here _ _ (loop .inv .1) _ (loop-test .taken) (c .before .starting-global .ensures) (not-true _ (c .if1 .taken)))
-
-add-i : tie.Need-add-i Inv-loop μ-loop
-add-i c = search needs
-
-loop-less : tie.Need-loop-less Inv-loop μ-loop
-loop-less c = search needs
 
 loop-again : tie.Need-loop-again Inv-loop μ-loop
 loop-again c =
@@ -52,17 +34,5 @@ unfolding globalsRefusal
 returns-2 c = ap globalsRefusal (unfit-nowhere _ _ (c .before .loop .inv .1) (c .loop-test .left))
 
 pub globals-refusal-spec : {M : Type 1} → statement M
-globals-refusal-spec =
-    tie.close
-    (tie.spec
-    Inv-loop
-    μ-loop
-    loop-holds
-    mul-starting-global
-    shared-slice-read-starting-global
-    starting-global-requires
-    returns
-    add-i
-    loop-less
-    loop-again
-    returns-2)
+globals-refusal-spec = tie.close (tie.spec Inv-loop μ-loop (search needs) (search needs) (search needs) (search needs) returns (search needs)
+    (search needs) loop-again returns-2)

@@ -7,9 +7,6 @@ use Rattle.machines.proofs.ResolveLaws.{no-literal}
 use Rattle.machines.proofs.literal.Statement.{statement}
 use Rattle.machines.proofs.literal.Tie as tie
 
-tag-of-requires : tie.Need-tag-of-requires
-tag-of-requires c κs = search needs
-
 returns : tie.Need-returns
 unfolding slotNames asLiteral resolvedAs
 returns c = simp (← c .before .tag-of .ensures, eq-eqb _ _ (c .if1 .taken))
@@ -22,4 +19,4 @@ returns-3 : tie.Need-returns-3
 returns-3 c = no-literal (c .before .before .before .args .slot) _ (c .before .before .tag-of .ensures) (c .if2 .left)
 
 pub literal-spec : {M : Type 1} → statement M
-literal-spec = tie.close (tie.spec tag-of-requires returns returns-2 returns-3)
+literal-spec = tie.close (tie.spec (search needs) returns returns-2 returns-3)

@@ -8,48 +8,6 @@ use Rattle.machines.proofs.ResolveLaws.{coded, other-code, closure-slot
 use Rattle.machines.proofs.resolve.Statement.{statement}
 use Rattle.machines.proofs.resolve.Tie as tie
 
-slot-at-requires : tie.Need-slot-at-requires
-slot-at-requires c κs = search needs
-
-literal-requires : tie.Need-literal-requires
-literal-requires c κs = search needs
-
-slot-at-requires-2 : tie.Need-slot-at-requires-2
-slot-at-requires-2 c κs = search needs
-
-under-tag-requires : tie.Need-under-tag-requires
-under-tag-requires c κs = search needs
-
-enum-known-t : tie.Need-enum-known-t
-enum-known-t c = search needs
-
-enum-told : tie.Need-enum-told
-enum-told c = search needs
-
-slot-at-requires-3 : tie.Need-slot-at-requires-3
-slot-at-requires-3 c κs = search needs
-
-under-tag-requires-2 : tie.Need-under-tag-requires-2
-under-tag-requires-2 c κs = search needs
-
-enum-known-g : tie.Need-enum-known-g
-enum-known-g c = search needs
-
-enum-told-2 : tie.Need-enum-told-2
-enum-told-2 c = search needs
-
-slot-at-requires-4 : tie.Need-slot-at-requires-4
-slot-at-requires-4 c κs = search needs
-
-under-tag-requires-3 : tie.Need-under-tag-requires-3
-under-tag-requires-3 c κs = search needs
-
-enum-known-g-2 : tie.Need-enum-known-g-2
-enum-known-g-2 c = search needs
-
-enum-told-3 : tie.Need-enum-told-3
-enum-told-3 c = search needs
-
 returns : tie.Need-returns
 unfolding slotResolve ruleOf
 returns c =
@@ -122,38 +80,12 @@ returns-7 c =
     (marked-other x SetGlobal 11 _ (c .before .before .under-tag3 .ensures ∙ ap (markedAs 11) (slot-at4 .ensures)) _ (global-slot x SetGlobal)
     (c .enum-told3 .given .1))
 
-unnamed-requires : tie.Need-unnamed-requires
-unnamed-requires c κs = search needs
-
 returns-8 : tie.Need-returns-8
 returns-8 c =
     let n = c .before .match .rest in
     c .unnamed .ensures ∙ other-code _ _ _ _ (n .0 .0 .0 .1) (n .0 .0 .1) (n .0 .1) (n .1)
 
 pub resolve-spec : {M : Type 1} → statement M
-resolve-spec =
-    tie.close
-    (tie.spec
-    slot-at-requires
-    literal-requires
-    slot-at-requires-2
-    under-tag-requires
-    enum-known-t
-    enum-told
-    slot-at-requires-3
-    under-tag-requires-2
-    enum-known-g
-    enum-told-2
-    slot-at-requires-4
-    under-tag-requires-3
-    enum-known-g-2
-    enum-told-3
-    unnamed-requires
-    returns
-    returns-2
-    returns-3
-    returns-4
-    returns-5
-    returns-6
-    returns-7
-    returns-8)
+resolve-spec = tie.close (tie.spec (search needs) (search needs) (search needs) (search needs) (search needs) (search needs) (search needs)
+    (search needs) (search needs) (search needs) (search needs) (search needs) (search needs) (search needs) (search needs) returns returns-2
+    returns-3 returns-4 returns-5 returns-6 returns-7 returns-8)

@@ -6,18 +6,6 @@ use Rattle.machines.specs.Slots.{slotAt}
 use Rattle.machines.proofs.slot_at.Statement.{statement}
 use Rattle.machines.proofs.slot_at.Tie as tie
 
-mul-i : tie.Need-mul-i
-mul-i c = search needs
-
-add-i : tie.Need-add-i
-add-i c = search needs
-
-mul-result : tie.Need-mul-result
-mul-result c = search needs
-
-shared-slice-read-result : tie.Need-shared-slice-read-result
-shared-slice-read-result c = search needs
-
 returns : tie.Need-returns
 unfolding slotAt
 returns c = refl
@@ -27,5 +15,4 @@ unfolding slotAt
 returns-2 c = sym (List·getD-eq-default (c .before .args .table .now) 0 (c .if1 .left))
 
 pub slot-at-spec : {M : Type 1} → statement M
-slot-at-spec =
-    tie.close (tie.spec mul-i add-i mul-result shared-slice-read-result returns returns-2)
+slot-at-spec = tie.close (tie.spec (search needs) (search needs) (search needs) (search needs) returns returns-2)

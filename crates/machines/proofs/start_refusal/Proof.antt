@@ -38,9 +38,6 @@ returns-5 c =
       lt-leb _ _ (c .if5 .taken),
     )
 
-is-owner-requires : tie.Need-is-owner-requires
-is-owner-requires c κs = search needs
-
 returns-6 : tie.Need-returns-6
 unfolding startRefusal rightLengths
 returns-6 c =
@@ -56,9 +53,6 @@ returns-6 c =
       le-leb _ _ (c .before .before .if5 .left),
       sym (c .before .is-owner .ensures) ∙ not-true _ (c .if6 .taken),
     )
-
-globals-refusal-requires : tie.Need-globals-refusal-requires
-globals-refusal-requires c κs = search needs
 
 returns-7 : tie.Need-returns-7
 unfolding startRefusal rightLengths
@@ -78,15 +72,4 @@ returns-7 c =
     ) (c .globals-refusal .ensures)
 
 pub start-refusal-spec : {M : Type 1} → statement M
-start-refusal-spec =
-    tie.close
-    (tie.spec
-    returns
-    returns-2
-    returns-3
-    returns-4
-    returns-5
-    is-owner-requires
-    returns-6
-    globals-refusal-requires
-    returns-7)
+start-refusal-spec = tie.close (tie.spec returns returns-2 returns-3 returns-4 returns-5 (search needs) returns-6 (search needs) returns-7)

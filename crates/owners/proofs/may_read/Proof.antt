@@ -5,12 +5,6 @@ use Rattle.owners.specs.Owners.{mayRead}
 use Rattle.owners.proofs.may_read.Statement.{statement}
 use Rattle.owners.proofs.may_read.Tie as tie
 
-enum-told : tie.Need-enum-told
-enum-told c = search needs
-
-enum-told-2 : tie.Need-enum-told-2
-enum-told-2 c = search needs
-
 returns : tie.Need-returns
 unfolding mayRead
 returns c = rw (c .enum-told .given .1) refl
@@ -20,4 +14,4 @@ unfolding mayRead
 returns-2 c = rw (c .enum-told2 .given .1) refl
 
 pub may-read-spec : {M : Type 1} → statement M
-may-read-spec = tie.close (tie.spec enum-told enum-told-2 returns returns-2)
+may-read-spec = tie.close (tie.spec (search needs) (search needs) returns returns-2)

@@ -5,12 +5,6 @@ use Rattle.owners.specs.Owners.{maySet}
 use Rattle.owners.proofs.may_set.Statement.{statement}
 use Rattle.owners.proofs.may_set.Tie as tie
 
-enum-told : tie.Need-enum-told
-enum-told c = search needs
-
-enum-told-2 : tie.Need-enum-told-2
-enum-told-2 c = search needs
-
 returns : tie.Need-returns
 unfolding maySet
 returns c = rw (c .enum-told .given .1) refl
@@ -20,4 +14,4 @@ unfolding maySet
 returns-2 c = rw (c .enum-told2 .given .1) refl
 
 pub may-set-spec : {M : Type 1} → statement M
-may-set-spec = tie.close (tie.spec enum-told enum-told-2 returns returns-2)
+may-set-spec = tie.close (tie.spec (search needs) (search needs) returns returns-2)

@@ -10,18 +10,6 @@ returns c = many _ _ _ (c .if1 .taken)
 returns-2 : tie.Need-returns-2
 returns-2 c = cut _ _ _ (c .before .if1 .left) (c .if2 .taken)
 
-check-speeds-requires : tie.Need-check-speeds-requires
-check-speeds-requires c κs = search needs
-
-enum-told : tie.Need-enum-told
-enum-told c = search needs
-
-check-room-requires : tie.Need-check-room-requires
-check-room-requires c κs = search needs
-
-enum-known-number : tie.Need-enum-known-number
-enum-known-number c = search needs
-
 returns-3 : tie.Need-returns-3
 returns-3 c =
     let asked = c .before .before .before in
@@ -34,14 +22,5 @@ returns-4 c =
     no-speed _ _ _ (asked .before .before .if1 .left) (asked .before .if2 .left) _ _ _ (asked .check-speeds .ensures) (c .before .number .given .1)
 
 pub check-clips-spec : {M : Type 1} → statement M
-check-clips-spec =
-    tie.close
-    (tie.spec
-    returns
-    returns-2
-    check-speeds-requires
-    enum-told
-    check-room-requires
-    enum-known-number
-    returns-3
-    returns-4)
+check-clips-spec = tie.close (tie.spec returns returns-2 (λ c κs. search needs) (λ c. search needs) (λ c κs. search needs) (λ c. search needs)
+    returns-3 returns-4)

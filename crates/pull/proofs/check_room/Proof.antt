@@ -5,9 +5,6 @@ use borrow.Author.Needs.{needs}
 use Rattle.pull.proofs.check_room.Statement.{statement}
 use Rattle.pull.proofs.check_room.Tie as tie
 
-mul-if1 : tie.Need-mul-if1
-mul-if1 c = search needs
-
 returns : tie.Need-returns
 returns c = no-room _ _ _ (c .if1 .taken)
 
@@ -18,4 +15,4 @@ returns-3 : tie.Need-returns-3
 returns-3 c = fits _ _ _ (c .before .if1 .left) (c .if2 .left)
 
 pub check-room-spec : {M : Type 1} → statement M
-check-room-spec = tie.close (tie.spec mul-if1 returns returns-2 returns-3)
+check-room-spec = tie.close (tie.spec (λ c. search needs) returns returns-2 returns-3)

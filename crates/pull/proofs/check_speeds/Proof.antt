@@ -19,29 +19,11 @@ abbrev μ-loop : tie.MeasureT-loop
 loop-holds : tie.Need-loop-holds Inv-loop μ-loop
 loop-holds c = (omega arith, search needs, simp sub-zero)
 
-mul-if1 : tie.Need-mul-if1 Inv-loop μ-loop
-mul-if1 c = search needs
-
-add-if1 : tie.Need-add-if1 Inv-loop μ-loop
-add-if1 c = search needs
-
-mul-if1-2 : tie.Need-mul-if1-2 Inv-loop μ-loop
-mul-if1-2 c = search needs
-
-shared-slice-copy-out-if1 : tie.Need-shared-slice-copy-out-if1 Inv-loop μ-loop
-shared-slice-copy-out-if1 c = search needs
-
 returns : tie.Need-returns Inv-loop μ-loop
 unfolding speedsChecked clipCount
 returns c =
     let i = c .before .before .before .loop .inv in
     rw (sym (i .1), sym (i .2) ∙ still _ _ _ (c .before .before .loop-test .taken) (c .before .if12 .given) (c .if1 .taken))
-
-add-k : tie.Need-add-k Inv-loop μ-loop
-add-k c = search needs
-
-loop-less : tie.Need-loop-less Inv-loop μ-loop
-loop-less c = search needs
 
 loop-again : tie.Need-loop-again Inv-loop μ-loop
 loop-again c =
@@ -53,18 +35,5 @@ unfolding speedsChecked clipCount
 returns-2 c = let i = c .before .loop .inv in rw (sym (i .1), sym (i .2) ∙ none-still _ _ _ (c .loop-test .left))
 
 pub check-speeds-spec : {M : Type 1} → statement M
-check-speeds-spec =
-    tie.close
-    (tie.spec
-    Inv-loop
-    μ-loop
-    loop-holds
-    mul-if1
-    add-if1
-    mul-if1-2
-    shared-slice-copy-out-if1
-    returns
-    add-k
-    loop-less
-    loop-again
-    returns-2)
+check-speeds-spec = tie.close (tie.spec Inv-loop μ-loop loop-holds (λ c. search needs) (λ c. search needs) (λ c. search needs) (λ c. search needs)
+    returns (λ c. search needs) (λ c. search needs) loop-again returns-2)

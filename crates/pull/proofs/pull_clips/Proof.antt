@@ -31,9 +31,6 @@ pull-clip-requires c κs =
     let t = c .before .before .before .before .before .loop-test in
     ((omega (arith, t, i, p), omega (arith, t, i), p .0 .2, p .0 .3), ((i .2, i .3, i .4, i .5), omega (arith, t, i, p)))
 
-add-k : tie.Need-add-k Inv-loop μ-loop
-add-k c = search needs
-
 loop-less : tie.Need-loop-less Inv-loop μ-loop
 loop-less c =
     let call = c .before .before .before .before .before .before .before .before .before .before in
@@ -77,19 +74,5 @@ returns c =
     (all-lines _ _ _ _ (omega (arith, c .loop-test, i)) (i .8), omega (arith, c .loop-test, i))
 
 pub pull-clips-spec : {M : Type 1} → statement M
-pull-clips-spec =
-    tie.close
-    (tie.spec
-    Inv-loop
-    μ-loop
-    loop-holds
-    pull-clip-requires
-    add-k
-    loop-less
-    loop-again
-    same-length
-    same-length-2
-    same-length-3
-    same-length-4
-    same-length-5
-    returns)
+pull-clips-spec = tie.close (tie.spec Inv-loop μ-loop loop-holds pull-clip-requires (λ c. search needs) loop-less loop-again same-length same-length-2
+    same-length-3 same-length-4 same-length-5 returns)

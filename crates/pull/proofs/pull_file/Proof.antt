@@ -8,17 +8,8 @@ use borrow.Author.Needs.{needs}
 use Rattle.pull.proofs.pull_file.Statement.{statement}
 use Rattle.pull.proofs.pull_file.Tie as tie
 
-slice-aggregate-read-linear : tie.Need-slice-aggregate-read-linear
-slice-aggregate-read-linear c = search needs
-
 read-linear-requires : tie.Need-read-linear-requires
 read-linear-requires c κs few = search needs
-
-enum-told : tie.Need-enum-told
-enum-told c = search needs
-
-slice-aggregate-pull-read : tie.Need-slice-aggregate-pull-read
-slice-aggregate-pull-read c = search needs
 
 pull-read-requires : tie.Need-pull-read-requires
 unfolding zeros
@@ -27,15 +18,6 @@ pull-read-requires c κs =
     let f = accepted-fit _ _ _ (read .before .before .before .before .pre) in
     let was = sym (read .read-linear .ensures .0) ∙ c .before .before .enum-told .given .1 in
     (f .few, f .room-for, record { count = _; read = was; filled = read .read-linear .ensures .1 }, f .small)
-
-enum-known-number : tie.Need-enum-known-number
-enum-known-number c = search needs
-
-number-requires : tie.Need-number-requires
-number-requires c κs = search needs
-
-same-length : tie.Need-same-length
-same-length c = search needs
 
 returns : tie.Need-returns
 returns c =
@@ -51,16 +33,5 @@ returns-2 c =
     file-refused _ _ _ _ (read .before .before .before .before .pre) _ _ _ was (c .number2 .ensures)
 
 pub pull-file-spec : {M : Type 1} → statement M
-pull-file-spec =
-    tie.close
-    (tie.spec
-    slice-aggregate-read-linear
-    read-linear-requires
-    enum-told
-    slice-aggregate-pull-read
-    pull-read-requires
-    enum-known-number
-    number-requires
-    same-length
-    returns
-    returns-2)
+pull-file-spec = tie.close (tie.spec (λ c. search needs) read-linear-requires (λ c. search needs) (λ c. search needs) pull-read-requires
+    (λ c. search needs) (λ c κs. search needs) (λ c. search needs) returns returns-2)

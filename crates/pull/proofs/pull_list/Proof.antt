@@ -5,20 +5,8 @@ use borrow.Author.Needs.{needs}
 use Rattle.pull.proofs.pull_list.Statement.{statement}
 use Rattle.pull.proofs.pull_list.Tie as tie
 
-check-clips-requires : tie.Need-check-clips-requires
-check-clips-requires c κs = search needs
-
-enum-told : tie.Need-enum-told
-enum-told c = search needs
-
 pull-file-requires : tie.Need-pull-file-requires
 pull-file-requires c κs = sym (c .before .before .before .check-clips .ensures) ∙ c .before .enum-told .given .1
-
-enum-known-number : tie.Need-enum-known-number
-enum-known-number c = search needs
-
-same-length : tie.Need-same-length
-same-length c = search needs
 
 returns : tie.Need-returns
 returns c = c .before .before .pull-file .ensures
@@ -27,13 +15,5 @@ returns-2 : tie.Need-returns-2
 returns-2 c = clips-refused _ _ _ _ _ _ _ (c .before .before .before .check-clips .ensures) (c .before .number .given .1)
 
 pub pull-list-spec : {M : Type 1} → statement M
-pull-list-spec =
-    tie.close
-    (tie.spec
-    check-clips-requires
-    enum-told
-    pull-file-requires
-    enum-known-number
-    same-length
-    returns
+pull-list-spec = tie.close (tie.spec (λ c κs. search needs) (λ c. search needs) pull-file-requires (λ c. search needs) (λ c. search needs) returns
     returns-2)

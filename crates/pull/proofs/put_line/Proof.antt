@@ -6,17 +6,11 @@ use borrow.Author.Needs.{needs}
 use Rattle.pull.proofs.put_line.Statement.{statement}
 use Rattle.pull.proofs.put_line.Tie as tie
 
-put-number-requires : tie.Need-put-number-requires
-put-number-requires c κs = search needs
-
 put-end-requires : tie.Need-put-end-requires
 put-end-requires c κs =
     let number = c .before .before .before in
     let p = number .put-number .ensures .0 in
     omega (arith, number-after _ (number .before .before .before .pre .0) p, put-length p, number .before .before .before .pre)
-
-same-length : tie.Need-same-length
-same-length c = search needs
 
 returns : tie.Need-returns
 returns c =
@@ -26,4 +20,4 @@ returns c =
     (put-found _ _ _ p (rest .0), omega (arith, number-after _ (number .before .before .before .pre .0) p, rest .1))
 
 pub put-line-spec : {M : Type 1} → statement M
-put-line-spec = tie.close (tie.spec put-number-requires put-end-requires same-length returns)
+put-line-spec = tie.close (tie.spec (λ c κs. search needs) put-end-requires (λ c. search needs) returns)

@@ -6,21 +6,6 @@ use borrow.Author.Needs.{needs}
 use Rattle.pull.proofs.put_range.Statement.{statement}
 use Rattle.pull.proofs.put_range.Tie as tie
 
-word-bits-requires : tie.Need-word-bits-requires
-word-bits-requires c κs = search needs
-
-word-bits-requires-2 : tie.Need-word-bits-requires-2
-word-bits-requires-2 c κs = search needs
-
-put-verdict-requires : tie.Need-put-verdict-requires
-put-verdict-requires c κs = search needs
-
-put-source-requires : tie.Need-put-source-requires
-put-source-requires c κs = search needs
-
-same-length : tie.Need-same-length
-same-length c = search needs
-
 returns : tie.Need-returns
 unfolding sourceWords
 returns c =
@@ -30,12 +15,5 @@ returns c =
     (put-before _ _ _ word (c .before .before .put-source .ensures .0), omega arith)
 
 pub put-range-spec : {M : Type 1} → statement M
-put-range-spec =
-    tie.close
-    (tie.spec
-    word-bits-requires
-    word-bits-requires-2
-    put-verdict-requires
-    put-source-requires
-    same-length
+put-range-spec = tie.close (tie.spec (λ c κs. search needs) (λ c κs. search needs) (λ c κs. search needs) (λ c κs. search needs) (λ c. search needs)
     returns)

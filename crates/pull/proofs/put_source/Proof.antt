@@ -6,12 +6,6 @@ use borrow.Author.Needs.{needs}
 use Rattle.pull.proofs.put_source.Statement.{statement}
 use Rattle.pull.proofs.put_source.Tie as tie
 
-put-integer-requires : tie.Need-put-integer-requires
-put-integer-requires c κs = search needs
-
-put-byte-requires : tie.Need-put-byte-requires
-put-byte-requires c κs = search needs
-
 put-integer-requires-2 : tie.Need-put-integer-requires-2
 put-integer-requires-2 c κs =
     let one = c .before .before .before .before .before .before .before in
@@ -29,9 +23,6 @@ put-byte-requires-2 c κs =
     let o = integer-short (one .before .before .before .args .o) in
     omega (arith, p .next, i, put-length p, q .next, put-length q, r .next, o, put-length r)
 
-same-length : tie.Need-same-length
-same-length c = search needs
-
 returns : tie.Need-returns
 returns c =
     let one = c .before .before .before .before .before .before .before .before .before .before .before .before .before .before in
@@ -44,12 +35,5 @@ returns c =
     (put-two _ _ (put-then p q) (put-then r s), omega (arith, p .next, i, q .next, r .next, o, s .next))
 
 pub put-source-spec : {M : Type 1} → statement M
-put-source-spec =
-    tie.close
-    (tie.spec
-    put-integer-requires
-    put-byte-requires
-    put-integer-requires-2
-    put-byte-requires-2
-    same-length
+put-source-spec = tie.close (tie.spec (λ c κs. search needs) (λ c κs. search needs) put-integer-requires-2 put-byte-requires-2 (λ c. search needs)
     returns)

@@ -7,9 +7,6 @@ use borrow.Author.Needs.{needs}
 use Rattle.pull.proofs.run_clip.Statement.{statement}
 use Rattle.pull.proofs.run_clip.Tie as tie
 
-set-globals-requires : tie.Need-set-globals-requires
-set-globals-requires c κs = search needs
-
 run-again-requires : tie.Need-run-again-requires
 run-again-requires c κs =
     let set = c .before .before .before .before .before .before in
@@ -18,24 +15,6 @@ run-again-requires c κs =
       may-run _ 0 _ _ _ _ (omega (arith, set .set-globals .kept, p .1 .0)) (p .1 .1) (p .1 .2) (p .1 .3) (p .0 .2) (omega arith)
           (set .set-globals .ensures .1),
     )
-
-slice-read-t23 : tie.Need-slice-read-t23
-slice-read-t23 c = search needs
-
-slice-read-t25 : tie.Need-slice-read-t25
-slice-read-t25 c = search needs
-
-same-length : tie.Need-same-length
-same-length c = search needs
-
-same-length-2 : tie.Need-same-length-2
-same-length-2 c = search needs
-
-same-length-3 : tie.Need-same-length-3
-same-length-3 c = search needs
-
-same-length-4 : tie.Need-same-length-4
-same-length-4 c = search needs
 
 returns : tie.Need-returns
 unfolding foundOf
@@ -46,15 +25,5 @@ returns c =
     run-found _ _ _ _ _ _ _ _ (set .set-globals .ensures .0) (p .1) (p .2) (p .3) (run .run-again .ensures)
 
 pub run-clip-spec : {M : Type 1} → statement M
-run-clip-spec =
-    tie.close
-    (tie.spec
-    set-globals-requires
-    run-again-requires
-    slice-read-t23
-    slice-read-t25
-    same-length
-    same-length-2
-    same-length-3
-    same-length-4
-    returns)
+run-clip-spec = tie.close (tie.spec (λ c κs. search needs) run-again-requires (λ c. search needs) (λ c. search needs) (λ c. search needs)
+    (λ c. search needs) (λ c. search needs) (λ c. search needs) returns)

@@ -6,49 +6,25 @@ use borrow.Author.Needs.{needs}
 use Rattle.pull.proofs.set_globals.Statement.{statement}
 use Rattle.pull.proofs.set_globals.Tie as tie
 
-undefine-requires : tie.Need-undefine-requires
-undefine-requires c κs = search needs
-
-word-cell-requires : tie.Need-word-cell-requires
-word-cell-requires c κs = search needs
-
-slice-write-globals : tie.Need-slice-write-globals
-slice-write-globals c = search needs
-
-word-cell-requires-2 : tie.Need-word-cell-requires-2
-word-cell-requires-2 c κs = search needs
-
 slice-write-globals-2 : tie.Need-slice-write-globals-2
 slice-write-globals-2 c =
     let all = c .before .before .before .before in
     simp length-set (omega (arith, all .undefine .kept, all .before .before .before .pre))
-
-word-cell-requires-3 : tie.Need-word-cell-requires-3
-word-cell-requires-3 c κs = search needs
 
 slice-write-globals-3 : tie.Need-slice-write-globals-3
 slice-write-globals-3 c =
     let all = c .before .before .before .before .before in
     simp length-set (omega (arith, all .undefine .kept, all .before .before .before .pre))
 
-word-cell-requires-4 : tie.Need-word-cell-requires-4
-word-cell-requires-4 c κs = search needs
-
 slice-write-globals-4 : tie.Need-slice-write-globals-4
 slice-write-globals-4 c =
     let all = c .before .before .before .before .before .before in
     simp length-set (omega (arith, all .undefine .kept, all .before .before .before .pre))
 
-word-cell-requires-5 : tie.Need-word-cell-requires-5
-word-cell-requires-5 c κs = search needs
-
 slice-write-globals-5 : tie.Need-slice-write-globals-5
 slice-write-globals-5 c =
     let all = c .before .before .before .before .before .before .before in
     simp length-set (omega (arith, all .undefine .kept, all .before .before .before .pre))
-
-word-cell-requires-6 : tie.Need-word-cell-requires-6
-word-cell-requires-6 c κs = search needs
 
 slice-write-globals-6 : tie.Need-slice-write-globals-6
 slice-write-globals-6 c =
@@ -74,21 +50,6 @@ returns c =
     )
 
 pub set-globals-spec : {M : Type 1} → statement M
-set-globals-spec =
-    tie.close
-    (tie.spec
-    undefine-requires
-    word-cell-requires
-    slice-write-globals
-    word-cell-requires-2
-    slice-write-globals-2
-    word-cell-requires-3
-    slice-write-globals-3
-    word-cell-requires-4
-    slice-write-globals-4
-    word-cell-requires-5
-    slice-write-globals-5
-    word-cell-requires-6
-    slice-write-globals-6
-    same-length
-    returns)
+set-globals-spec = tie.close (tie.spec (λ c κs. search needs) (λ c κs. search needs) (λ c. search needs) (λ c κs. search needs) slice-write-globals-2
+    (λ c κs. search needs) slice-write-globals-3 (λ c κs. search needs) slice-write-globals-4 (λ c κs. search needs) slice-write-globals-5
+    (λ c κs. search needs) slice-write-globals-6 same-length returns)

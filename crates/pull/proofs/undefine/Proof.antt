@@ -21,15 +21,6 @@ abbrev μ-loop : tie.MeasureT-loop
 loop-holds : tie.Need-loop-holds Inv-loop μ-loop
 loop-holds c = (search needs, search needs, refl)
 
-mul-globals : tie.Need-mul-globals Inv-loop μ-loop
-mul-globals c = search needs
-
-slice-write-globals : tie.Need-slice-write-globals Inv-loop μ-loop
-slice-write-globals c = search needs
-
-add-i : tie.Need-add-i Inv-loop μ-loop
-add-i c = search needs
-
 loop-less : tie.Need-loop-less Inv-loop μ-loop
 loop-less c = simp length-set (omega arith)
 
@@ -39,9 +30,6 @@ loop-again c =
     let more = fill-on (h .globals) (h .i) 256 undefinedCell (omega (arith, h .inv, c .before .before .pre, c .loop-test)) in
     (simp length-set (omega arith), simp length-set (omega (arith, h .inv)), more ∙ h .inv .2)
 
-same-length : tie.Need-same-length Inv-loop μ-loop
-same-length c = search needs
-
 returns : tie.Need-returns Inv-loop μ-loop
 returns c =
     let h = c .before .loop in
@@ -50,16 +38,5 @@ returns c =
     sym done ∙ h .inv .2 ∙ fill-all (start .args .globals .now) 256 undefinedCell (start .pre)
 
 pub undefine-spec : {M : Type 1} → statement M
-undefine-spec =
-    tie.close
-    (tie.spec
-    Inv-loop
-    μ-loop
-    loop-holds
-    mul-globals
-    slice-write-globals
-    add-i
-    loop-less
-    loop-again
-    same-length
-    returns)
+undefine-spec = tie.close (tie.spec Inv-loop μ-loop loop-holds (λ c. search needs) (λ c. search needs) (λ c. search needs) loop-less loop-again
+    (λ c. search needs) returns)

@@ -5,17 +5,8 @@ use borrow.Author.Needs.{needs}
 use Rattle.pull.proofs.word_bits.Statement.{statement}
 use Rattle.pull.proofs.word_bits.Tie as tie
 
-mul-w : tie.Need-mul-w
-mul-w c = search needs
-
-shared-slice-copy-out-w : tie.Need-shared-slice-copy-out-w
-shared-slice-copy-out-w c = search needs
-
 cast-result : tie.Need-cast-result
 cast-result c = word-wide (word-fits (c .before .before .args .clip .now) (c .before .before .args .n) (c .before .w .given))
-
-cast-result-2 : tie.Need-cast-result-2
-cast-result-2 c = search needs
 
 add-result : tie.Need-add-result
 add-result c = sum-fits (word-fits (c .before .before .args .clip .now) (c .before .before .args .n) (c .before .w .given)) (c .if1 .taken)
@@ -35,15 +26,5 @@ unfolding word
 returns-2 c = positive-bits (word-fits (c .before .before .args .clip .now) (c .before .before .args .n) (c .before .w .given)) (c .if1 .left)
 
 pub word-bits-spec : {M : Type 1} → statement M
-word-bits-spec =
-    tie.close
-    (tie.spec
-    mul-w
-    shared-slice-copy-out-w
-    cast-result
-    cast-result-2
-    add-result
-    cast-result-3
-    cast-result-4
-    returns
-    returns-2)
+word-bits-spec = tie.close (tie.spec (λ c. search needs) (λ c. search needs) cast-result (λ c. search needs) add-result cast-result-3 cast-result-4
+    returns returns-2)

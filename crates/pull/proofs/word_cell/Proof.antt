@@ -7,12 +7,6 @@ use borrow.Author.Needs.{needs}
 use Rattle.pull.proofs.word_cell.Statement.{statement}
 use Rattle.pull.proofs.word_cell.Tie as tie
 
-word-bits-requires : tie.Need-word-bits-requires
-word-bits-requires c κs = search needs
-
-int-cell-requires : tie.Need-int-cell-requires
-int-cell-requires c κs = search needs
-
 returns : tie.Need-returns
 unfolding wordCell
 returns c =
@@ -20,4 +14,4 @@ returns c =
     (c .int-cell .ensures ∙ ap intCell (w .0), ap startingGlobal (c .int-cell .ensures) ∙ integer-fits _ (w .1 .0))
 
 pub word-cell-spec : {M : Type 1} → statement M
-word-cell-spec = tie.close (tie.spec word-bits-requires int-cell-requires returns)
+word-cell-spec = tie.close (tie.spec (λ c κs. search needs) (λ c κs. search needs) returns)

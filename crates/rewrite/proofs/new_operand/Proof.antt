@@ -15,9 +15,6 @@ returns-2 : tie.Need-returns-2
 unfolding newOperand
 returns-2 c = (rw (le-ltb _ 6 (c .before .if1 .left), lt-ltb 9 _ (c .if2 .taken)), c .before .before .pre .1)
 
-shared-slice-read-result : tie.Need-shared-slice-read-result
-shared-slice-read-result c = search needs
-
 cast-result : tie.Need-cast-result
 cast-result c = omega (arith, c .shared-slice-known .given (c .before .before .before .args .n))
 
@@ -28,5 +25,4 @@ returns-3 c =
     (rw (le-ltb _ 6 (c .before .before .if1 .left), le-ltb 9 _ (c .before .if2 .left)), omega (arith, c .shared-slice-known .given (args .n)))
 
 pub new-operand-spec : {M : Type 1} → statement M
-new-operand-spec =
-    tie.close (tie.spec returns returns-2 shared-slice-read-result cast-result returns-3)
+new-operand-spec = tie.close (tie.spec returns returns-2 (search needs) cast-result returns-3)

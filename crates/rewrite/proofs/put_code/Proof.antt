@@ -9,32 +9,11 @@ use borrow.Author.Needs.{needs}
 use Rattle.rewrite.proofs.put_code.Statement.{statement}
 use Rattle.rewrite.proofs.put_code.Tie as tie
 
-put-field-requires : tie.Need-put-field-requires
-put-field-requires c κs = search needs
-
-same-length : tie.Need-same-length
-same-length c = search needs
-
 returns : tie.Need-returns
 returns c =
     let e = c .before .before .before .put-field .ensures in
     let z = c .if1 .taken in
     (omega (arith, e .0), put-none _ _ _ _ _ _ _ _ (e .1) (e .0) _ z)
-
-past-requires : tie.Need-past-requires
-past-requires c κs = search needs
-
-bits-at-requires : tie.Need-bits-at-requires
-bits-at-requires c κs = search needs
-
-new-operand-requires : tie.Need-new-operand-requires
-new-operand-requires c κs = search needs
-
-put-field-requires-2 : tie.Need-put-field-requires-2
-put-field-requires-2 c κs = search needs
-
-same-length-2 : tie.Need-same-length-2
-same-length-2 c = search needs
 
 returns-2 : tie.Need-returns-2
 returns-2 c =
@@ -49,12 +28,6 @@ returns-2 c =
     let x = new-operand .ensures .0 in
     let z = c .if2 .taken in
     (omega (arith, e .0, g .0), put-one _ _ _ _ _ _ _ _ (e .1) (e .0) _ _ (g .1) (rw (bits-at .ensures .0, past .ensures) at x) _ z (omega (arith, p .1 .1)))
-
-past-requires-2 : tie.Need-past-requires-2
-past-requires-2 c κs = search needs
-
-bits-at-requires-2 : tie.Need-bits-at-requires-2
-bits-at-requires-2 c κs = search needs
 
 put-field-requires-3 : tie.Need-put-field-requires-3
 put-field-requires-3 c κs =
@@ -73,9 +46,6 @@ put-field-requires-3 c κs =
       rw (c .bits-at2 .ensures .0) (field-small _ _ _),
       omega (arith, m₁, m₂, e .0, g .0, p .1 .1, if1 .left, if2 .left),
     )
-
-same-length-3 : tie.Need-same-length-3
-same-length-3 c = search needs
 
 returns-3 : tie.Need-returns-3
 returns-3 c =
@@ -103,20 +73,5 @@ returns-3 c =
     )
 
 pub put-code-spec : {M : Type 1} → statement M
-put-code-spec =
-    tie.close
-    (tie.spec
-    put-field-requires
-    same-length
-    returns
-    past-requires
-    bits-at-requires
-    new-operand-requires
-    put-field-requires-2
-    same-length-2
-    returns-2
-    past-requires-2
-    bits-at-requires-2
-    put-field-requires-3
-    same-length-3
-    returns-3)
+put-code-spec = tie.close (tie.spec (search needs) (search needs) returns (search needs) (search needs) (search needs) (search needs) (search needs)
+    returns-2 (search needs) (search needs) put-field-requires-3 (search needs) returns-3)

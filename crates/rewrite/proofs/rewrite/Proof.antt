@@ -18,9 +18,6 @@ Inv-loop s n table out₀ here₀ there₀ left₀ out here there left = (length
 abbrev μ-loop : tie.MeasureT-loop
 μ-loop s n table out₀ here₀ there₀ left₀ out here there left = left
 
-put-field-requires : tie.Need-put-field-requires Inv-loop μ-loop
-put-field-requires c κs = search needs
-
 loop-holds : tie.Need-loop-holds Inv-loop μ-loop
 loop-holds c =
     let p = c .before .before .before .before .before .before .before .pre in
@@ -42,9 +39,6 @@ shape-of-requires c κs =
     let l = v .2 (p .1) in
     let k = left-code _ _ _ _ l (c .before .loop-test .taken) in
     left-small _ _ _ _ l (c .before .loop-test .taken) _ 0 (c .bits-at .ensures .0)
-
-operand-count-requires : tie.Need-operand-count-requires Inv-loop μ-loop
-operand-count-requires c κs = search needs
 
 put-code-requires : tie.Need-put-code-requires Inv-loop μ-loop
 put-code-requires c κs =
@@ -193,9 +187,6 @@ loop-again c =
           (d .1) (d .0)),
     )
 
-same-length : tie.Need-same-length Inv-loop μ-loop
-same-length c = search needs
-
 returns : tie.Need-returns Inv-loop μ-loop
 returns c =
     let p = c .before .before .before .before .before .before .before .before .before .pre in
@@ -207,24 +198,5 @@ returns c =
     )
 
 pub rewrite-spec : {M : Type 1} → statement M
-rewrite-spec =
-    tie.close
-    (tie.spec
-    Inv-loop
-    μ-loop
-    put-field-requires
-    loop-holds
-    bits-at-requires
-    shape-of-requires
-    operand-count-requires
-    put-code-requires
-    mul-past
-    add-past
-    past-requires
-    mul-left
-    add-left
-    sub-left
-    loop-less
-    loop-again
-    same-length
-    returns)
+rewrite-spec = tie.close (tie.spec Inv-loop μ-loop (search needs) loop-holds bits-at-requires shape-of-requires (search needs) put-code-requires
+    mul-past add-past past-requires mul-left add-left sub-left loop-less loop-again (search needs) returns)

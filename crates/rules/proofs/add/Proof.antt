@@ -7,32 +7,17 @@ use Rattle.rules.proofs.Laws.{added, add-by-sum, sum-fits}
 use Rattle.rules.proofs.add.Statement.{statement}
 use Rattle.rules.proofs.add.Tie as tie
 
-sum-up-requires : tie.Need-sum-up-requires
-sum-up-requires c κs = search needs
-
-enum-told : tie.Need-enum-told
-enum-told c = search needs
-
-enum-known-x : tie.Need-enum-known-x
-enum-known-x c = search needs
-
 integer-requires : tie.Need-integer-requires
 integer-requires c κs =
     let pre = c .before .before .before .before .before .before .before .pre in
     let sum-up = c .before .before .before .before .sum-up in
     (pre .0, pre .1, sum-fits _ _ (sym (sum-up .ensures) ∙ c .before .before .x .given .1))
 
-same-length : tie.Need-same-length
-same-length c = search needs
-
 returns : tie.Need-returns
 unfolding told added
 returns c =
     let args = c .before .before .before .before .before .args in
     λ g t. rw (add-by-sum (mem g (now (args .stack)) t) (args .r), ← c .before .before .sum-up .ensures, c .enum-told .given .1)
-
-same-length-2 : tie.Need-same-length-2
-same-length-2 c = search needs
 
 returns-2 : tie.Need-returns-2
 unfolding told added
@@ -43,14 +28,4 @@ returns-2 c =
     λ g t. rw (add-by-sum (mem g (now (args .stack)) t) (args .r), ← sum-up .ensures, x .given .1) (c .before .before .integer .ensures g t)
 
 pub add-spec : {M : Type 1} → statement M
-add-spec =
-    tie.close
-    (tie.spec
-    sum-up-requires
-    enum-told
-    enum-known-x
-    integer-requires
-    same-length
-    returns
-    same-length-2
-    returns-2)
+add-spec = tie.close (tie.spec (search needs) (search needs) (search needs) integer-requires (search needs) returns (search needs) returns-2)

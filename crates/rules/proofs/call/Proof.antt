@@ -12,15 +12,6 @@ returns : tie.Need-returns
 unfolding calledTo callRule
 returns c = (rw (ne-eqb (c .before .before .args .r .sp) (c .before .before .args .n) (λ e. omega arith)), λ f. tt)
 
-tag-of-requires : tie.Need-tag-of-requires
-tag-of-requires c κs = search needs
-
-closure-template-requires : tie.Need-closure-template-requires
-closure-template-requires c κs = search needs
-
-closure-env-requires : tie.Need-closure-env-requires
-closure-env-requires c κs = search needs
-
 returns-2 : tie.Need-returns-2
 unfolding calledTo callRule
 returns-2 c =
@@ -42,12 +33,4 @@ returns-3 c =
     (rw (eq-eqb (args .r .sp) (args .n) (omega arith), ne-eqb _ _ (λ k. c .if2 .left (c .before .tag-of .ensures ∙ k))), λ f. tt)
 
 pub call-spec : {M : Type 1} → statement M
-call-spec =
-    tie.close
-    (tie.spec
-    returns
-    tag-of-requires
-    closure-template-requires
-    closure-env-requires
-    returns-2
-    returns-3)
+call-spec = tie.close (tie.spec returns (search needs) (search needs) (search needs) returns-2 returns-3)

@@ -6,18 +6,6 @@ use Rattle.rules.specs.Rules.{carRule}
 use Rattle.rules.proofs.car.Statement.{statement}
 use Rattle.rules.proofs.car.Tie as tie
 
-top-of-requires : tie.Need-top-of-requires
-top-of-requires c κs = search needs
-
-pair-first-requires : tie.Need-pair-first-requires
-pair-first-requires c κs = search needs
-
-part-requires : tie.Need-part-requires
-part-requires c κs = search needs
-
-same-length : tie.Need-same-length
-same-length c = search needs
-
 returns : tie.Need-returns
 unfolding carRule
 returns c =
@@ -26,5 +14,4 @@ returns c =
     λ g. c .before .before .part .ensures pairFirst g (sym (pair-first .ensures ∙ ap pairFirst (top-of .ensures g g)))
 
 pub car-spec : {M : Type 1} → statement M
-car-spec =
-    tie.close (tie.spec top-of-requires pair-first-requires part-requires same-length returns)
+car-spec = tie.close (tie.spec (search needs) (search needs) (search needs) (search needs) returns)

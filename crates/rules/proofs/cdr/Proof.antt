@@ -6,18 +6,6 @@ use Rattle.rules.specs.Rules.{cdrRule}
 use Rattle.rules.proofs.cdr.Statement.{statement}
 use Rattle.rules.proofs.cdr.Tie as tie
 
-top-of-requires : tie.Need-top-of-requires
-top-of-requires c κs = search needs
-
-pair-second-requires : tie.Need-pair-second-requires
-pair-second-requires c κs = search needs
-
-part-requires : tie.Need-part-requires
-part-requires c κs = search needs
-
-same-length : tie.Need-same-length
-same-length c = search needs
-
 returns : tie.Need-returns
 unfolding cdrRule
 returns c =
@@ -26,5 +14,4 @@ returns c =
     λ g. c .before .before .part .ensures pairSecond g (sym (pair-second .ensures ∙ ap pairSecond (top-of .ensures g g)))
 
 pub cdr-spec : {M : Type 1} → statement M
-cdr-spec =
-    tie.close (tie.spec top-of-requires pair-second-requires part-requires same-length returns)
+cdr-spec = tie.close (tie.spec (search needs) (search needs) (search needs) (search needs) returns)

@@ -13,62 +13,8 @@ returns : tie.Need-returns
 unfolding told consRule
 returns c = λ g. rw (lt-leb _ _ (c .if1 .taken))
 
-add-if2 : tie.Need-add-if2
-add-if2 c = search needs
-
-mul-store : tie.Need-mul-store
-mul-store c = search needs
-
-slice-read-store : tie.Need-slice-read-store
-slice-read-store c = search needs
-
-mul-store-2 : tie.Need-mul-store-2
-mul-store-2 c = search needs
-
-slice-write-store : tie.Need-slice-write-store
-slice-write-store c = search needs
-
-sub-store : tie.Need-sub-store
-sub-store c = search needs
-
-mul-store-3 : tie.Need-mul-store-3
-mul-store-3 c = search needs
-
-slice-read-store-2 : tie.Need-slice-read-store-2
-slice-read-store-2 c = search needs
-
-add-store : tie.Need-add-store
-add-store c = search needs
-
-mul-store-4 : tie.Need-mul-store-4
-mul-store-4 c = search needs
-
 slice-write-store-2 : tie.Need-slice-write-store-2
 slice-write-store-2 c = simp length-set (omega arith)
-
-cast-pair-cell : tie.Need-cast-pair-cell
-cast-pair-cell c = search needs
-
-add-pair-cell : tie.Need-add-pair-cell
-add-pair-cell c = search needs
-
-cast-pair-cell-2 : tie.Need-cast-pair-cell-2
-cast-pair-cell-2 c = search needs
-
-pair-cell-requires : tie.Need-pair-cell-requires
-pair-cell-requires c κs = search needs
-
-emptied-requires : tie.Need-emptied-requires
-emptied-requires c κs = search needs
-
-add-t18 : tie.Need-add-t18
-add-t18 c = search needs
-
-same-length : tie.Need-same-length
-same-length c = search needs
-
-same-length-2 : tie.Need-same-length-2
-same-length-2 c = search needs
 
 returns-2 : tie.Need-returns-2
 unfolding told consRule
@@ -84,28 +30,6 @@ unfolding told consRule
 returns-3 c = λ g. rw (le-leb _ _ (c .before .if1 .left), lt-leb _ _ (c .if2 .left))
 
 pub cons-spec : {M : Type 1} → statement M
-cons-spec =
-    tie.close
-    (tie.spec
-    returns
-    add-if2
-    mul-store
-    slice-read-store
-    mul-store-2
-    slice-write-store
-    sub-store
-    mul-store-3
-    slice-read-store-2
-    add-store
-    mul-store-4
-    slice-write-store-2
-    cast-pair-cell
-    add-pair-cell
-    cast-pair-cell-2
-    pair-cell-requires
-    emptied-requires
-    add-t18
-    same-length
-    same-length-2
-    returns-2
-    returns-3)
+cons-spec = tie.close (tie.spec returns (search needs) (search needs) (search needs) (search needs) (search needs) (search needs) (search needs)
+    (search needs) (search needs) (search needs) slice-write-store-2 (search needs) (search needs) (search needs) (search needs) (search needs)
+    (search needs) (search needs) (search needs) returns-2 returns-3)

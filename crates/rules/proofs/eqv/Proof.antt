@@ -10,30 +10,6 @@ returns : tie.Need-returns
 unfolding told eqvRule
 returns c = λ g t. rw (lt-leb _ _ (c .if1 .taken))
 
-sub-if2 : tie.Need-sub-if2
-sub-if2 c = search needs
-
-mul-if2 : tie.Need-mul-if2
-mul-if2 c = search needs
-
-slice-read-if2 : tie.Need-slice-read-if2
-slice-read-if2 c = search needs
-
-mul-if2-2 : tie.Need-mul-if2-2
-mul-if2-2 c = search needs
-
-slice-read-if2-2 : tie.Need-slice-read-if2-2
-slice-read-if2-2 c = search needs
-
-emptied-requires : tie.Need-emptied-requires
-emptied-requires c κs = search needs
-
-emptied-requires-2 : tie.Need-emptied-requires-2
-emptied-requires-2 c κs = search needs
-
-same-length : tie.Need-same-length
-same-length c = search needs
-
 returns-2 : tie.Need-returns-2
 unfolding told eqvRule
 returns-2 c =
@@ -41,9 +17,6 @@ returns-2 c =
     let if2 = c .before .before .before .before .if2 in
     let emptied = c .before .before .emptied in
     λ g t. rw (le-leb _ _ (if1 .left), eq-eqb _ _ (if2 .taken), emptied .ensures .0, emptied .ensures .1)
-
-same-length-2 : tie.Need-same-length-2
-same-length-2 c = search needs
 
 returns-3 : tie.Need-returns-3
 unfolding told eqvRule
@@ -54,18 +27,5 @@ returns-3 c =
     λ g t. rw (le-leb _ _ (if1 .left), ne-eqb _ _ (if2 .left), emptied2 .ensures .0, emptied2 .ensures .1)
 
 pub eqv-spec : {M : Type 1} → statement M
-eqv-spec =
-    tie.close
-    (tie.spec
-    returns
-    sub-if2
-    mul-if2
-    slice-read-if2
-    mul-if2-2
-    slice-read-if2-2
-    emptied-requires
-    emptied-requires-2
-    same-length
-    returns-2
-    same-length-2
-    returns-3)
+eqv-spec = tie.close (tie.spec returns (search needs) (search needs) (search needs) (search needs) (search needs) (search needs) (search needs)
+    (search needs) returns-2 (search needs) returns-3)

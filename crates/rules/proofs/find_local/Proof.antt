@@ -16,36 +16,6 @@ Inv-loop store env layers place e₀ left₀ e left = (e < 65536) × (left < 256
 abbrev μ-loop : tie.MeasureT-loop
 μ-loop store env layers place e₀ left₀ e left = left
 
-loop-holds : tie.Need-loop-holds Inv-loop μ-loop
-loop-holds c = search needs
-
-cast-fetch : tie.Need-cast-fetch Inv-loop μ-loop
-cast-fetch c = search needs
-
-sub-fetch : tie.Need-sub-fetch Inv-loop μ-loop
-sub-fetch c = search needs
-
-fetch-requires : tie.Need-fetch-requires Inv-loop μ-loop
-fetch-requires c κs = search needs
-
-layer-count-requires : tie.Need-layer-count-requires Inv-loop μ-loop
-layer-count-requires c κs = search needs
-
-cast-t15 : tie.Need-cast-t15 Inv-loop μ-loop
-cast-t15 c = search needs
-
-add-t17 : tie.Need-add-t17 Inv-loop μ-loop
-add-t17 c = search needs
-
-layer-parent-requires : tie.Need-layer-parent-requires Inv-loop μ-loop
-layer-parent-requires c κs = search needs
-
-sub-left : tie.Need-sub-left Inv-loop μ-loop
-sub-left c = search needs
-
-loop-less : tie.Need-loop-less Inv-loop μ-loop
-loop-less c = search needs
-
 loop-again : tie.Need-loop-again Inv-loop μ-loop
 loop-again c =
     let if1 = c .before .before .before .if1 in
@@ -82,22 +52,6 @@ returns-3 c =
     )
 
 pub find-local-spec : {M : Type 1} → statement M
-find-local-spec =
-    tie.close
-    (tie.spec
-    Inv-loop
-    μ-loop
-    loop-holds
-    cast-fetch
-    sub-fetch
-    fetch-requires
-    layer-count-requires
-    cast-t15
-    add-t17
-    layer-parent-requires
-    sub-left
-    loop-less
-    loop-again
-    returns
-    returns-2
-    returns-3)
+find-local-spec = tie.close (tie.spec Inv-loop μ-loop (λ c. search needs) (λ c. search needs) (λ c. search needs) (λ c κs. search needs)
+    (λ c κs. search needs) (λ c. search needs) (λ c. search needs) (λ c κs. search needs) (λ c. search needs) (λ c. search needs) loop-again returns
+    returns-2 returns-3)

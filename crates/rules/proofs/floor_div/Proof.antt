@@ -10,15 +10,6 @@ use Rattle.rules.proofs.Laws.{two-are, two-wrong, integer-of, fits-of, 
 use Rattle.rules.proofs.floor_div.Statement.{statement}
 use Rattle.rules.proofs.floor_div.Tie as tie
 
-two-integers-requires : tie.Need-two-integers-requires
-two-integers-requires c κs = search needs
-
-enum-known-a : tie.Need-enum-known-a
-enum-known-a c = search needs
-
-same-length : tie.Need-same-length
-same-length c = search needs
-
 returns : tie.Need-returns
 unfolding told floorDivRule
 returns c =
@@ -41,12 +32,6 @@ integer-requires c κs =
     let pre = c .before .before .before .before .before .before .before .before .before .pre in
     (pre .0, pre .1, fits-of _ _ (c .floor-div .ensures))
 
-enum-known-n : tie.Need-enum-known-n
-enum-known-n c = search needs
-
-same-length-2 : tie.Need-same-length-2
-same-length-2 c = search needs
-
 returns-2 : tie.Need-returns-2
 unfolding floorDivRule
 returns-2 c =
@@ -59,9 +44,6 @@ returns-2 c =
     (integer-of _ _ _ _ (floor-div .ensures) ∙ by-other _ _ (mem g (now (args .stack)) t) (args .r) ((rw (a .given .1) at (two-integers .ensures .1)) .1)
     (if1 .left) ∙ two-are divided (mem g (now (args .stack)) t) (args .r) _ (two-integers .ensures .0 g t) _ _ (a .given .1))
 
-same-length-3 : tie.Need-same-length-3
-same-length-3 c = search needs
-
 returns-3 : tie.Need-returns-3
 unfolding told floorDivRule
 returns-3 c =
@@ -71,17 +53,5 @@ returns-3 c =
     (two-wrong divided (mem g (now (args .stack)) t) (args .r) _ (two-integers .ensures .0 g t) _ (c .before .n .given .1))
 
 pub floor-div-spec : {M : Type 1} → statement M
-floor-div-spec =
-    tie.close
-    (tie.spec
-    two-integers-requires
-    enum-known-a
-    same-length
-    returns
-    floor-div-requires
-    integer-requires
-    enum-known-n
-    same-length-2
-    returns-2
-    same-length-3
-    returns-3)
+floor-div-spec = tie.close (tie.spec (search needs) (search needs) (search needs) returns floor-div-requires integer-requires (search needs)
+    (search needs) returns-2 (search needs) returns-3)

@@ -9,21 +9,9 @@ use Rattle.rules.proofs.Laws.{barred, allowed}
 use Rattle.rules.proofs.global.Statement.{statement}
 use Rattle.rules.proofs.global.Tie as tie
 
-may-read-requires : tie.Need-may-read-requires
-may-read-requires c κs = search needs
-
 returns : tie.Need-returns
 unfolding told mayDo
 returns c = λ s t. ap (told _) (barred _ _ _ _ _ (c .before .may-read .ensures) (not-true _ (c .if1 .taken)))
-
-mul-held : tie.Need-mul-held
-mul-held c = search needs
-
-shared-slice-read-held : tie.Need-shared-slice-read-held
-shared-slice-read-held c = search needs
-
-held-requires : tie.Need-held-requires
-held-requires c κs = search needs
 
 returns-2 : tie.Need-returns-2
 unfolding mayDo plainRule globalRule
@@ -32,6 +20,4 @@ returns-2 c =
     λ s t. c .held .ensures _ ∙ ap (told _) (allowed _ _ _ _ _ (may-read .ensures) (not-false _ (c .before .before .if1 .left)))
 
 pub global-spec : {M : Type 1} → statement M
-global-spec =
-    tie.close
-    (tie.spec may-read-requires returns mul-held shared-slice-read-held held-requires returns-2)
+global-spec = tie.close (tie.spec (search needs) returns (search needs) (search needs) (search needs) returns-2)

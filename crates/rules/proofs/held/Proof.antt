@@ -6,9 +6,6 @@ use Rattle.rules.specs.State.{told}
 use Rattle.rules.proofs.held.Statement.{statement}
 use Rattle.rules.proofs.held.Tie as tie
 
-valued-requires : tie.Need-valued-requires
-valued-requires c κs = search needs
-
 returns : tie.Need-returns
 unfolding told heldRule
 returns c = λ m. rw (eq-eqb _ _ (c .if1 .taken))
@@ -18,4 +15,4 @@ unfolding told heldRule
 returns-2 c = λ m. rw (ne-eqb _ _ (c .before .if1 .left), c .valued .ensures)
 
 pub held-spec : {M : Type 1} → statement M
-held-spec = tie.close (tie.spec valued-requires returns returns-2)
+held-spec = tie.close (tie.spec (search needs) returns returns-2)

@@ -6,20 +6,8 @@ use Rattle.rules.specs.State.{told}
 use Rattle.rules.proofs.integer.Statement.{statement}
 use Rattle.rules.proofs.integer.Tie as tie
 
-enum-known-x : tie.Need-enum-known-x
-enum-known-x c = search needs
-
 int-cell-requires : tie.Need-int-cell-requires
 int-cell-requires c κs = rw (c .before .before .x .given .1) at (c .before .before .before .before .before .pre .2)
-
-emptied-requires : tie.Need-emptied-requires
-emptied-requires c κs = search needs
-
-enum-told : tie.Need-enum-told
-enum-told c = search needs
-
-same-length : tie.Need-same-length
-same-length c = search needs
 
 returns : tie.Need-returns
 unfolding told integerBy
@@ -34,13 +22,4 @@ unfolding told integerBy
 returns-2 c = λ g t. rw (c .enum-told .given .1)
 
 pub integer-spec : {M : Type 1} → statement M
-integer-spec =
-    tie.close
-    (tie.spec
-    enum-known-x
-    int-cell-requires
-    emptied-requires
-    enum-told
-    same-length
-    returns
-    returns-2)
+integer-spec = tie.close (tie.spec (search needs) int-cell-requires (search needs) (search needs) (search needs) returns returns-2)

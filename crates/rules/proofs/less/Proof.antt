@@ -8,26 +8,8 @@ use Rattle.rules.proofs.Laws.{two-are, two-wrong}
 use Rattle.rules.proofs.less.Statement.{statement}
 use Rattle.rules.proofs.less.Tie as tie
 
-two-integers-requires : tie.Need-two-integers-requires
-two-integers-requires c κs = search needs
-
-enum-known-a : tie.Need-enum-known-a
-enum-known-a c = search needs
-
 less-requires : tie.Need-less-requires
 less-requires c κs = rw (c .before .a .given .1) at (c .before .before .before .two-integers .ensures .1)
-
-emptied-requires : tie.Need-emptied-requires
-emptied-requires c κs = search needs
-
-emptied-requires-2 : tie.Need-emptied-requires-2
-emptied-requires-2 c κs = search needs
-
-enum-known-n : tie.Need-enum-known-n
-enum-known-n c = search needs
-
-same-length : tie.Need-same-length
-same-length c = search needs
 
 returns : tie.Need-returns
 unfolding told lessRule
@@ -46,9 +28,6 @@ returns c =
       emptied .ensures .1,
     )
 
-same-length-2 : tie.Need-same-length-2
-same-length-2 c = search needs
-
 returns-2 : tie.Need-returns-2
 unfolding told lessRule
 returns-2 c =
@@ -66,9 +45,6 @@ returns-2 c =
       emptied2 .ensures .1,
     )
 
-same-length-3 : tie.Need-same-length-3
-same-length-3 c = search needs
-
 returns-3 : tie.Need-returns-3
 unfolding told lessRule
 returns-3 c =
@@ -78,18 +54,5 @@ returns-3 c =
     (two-wrong compared (mem g (now (args .stack)) t) (args .r) _ (two-integers .ensures .0 g t) _ (c .before .n .given .1))
 
 pub less-spec : {M : Type 1} → statement M
-less-spec =
-    tie.close
-    (tie.spec
-    two-integers-requires
-    enum-known-a
-    less-requires
-    emptied-requires
-    emptied-requires-2
-    enum-known-n
-    same-length
-    returns
-    same-length-2
-    returns-2
-    same-length-3
-    returns-3)
+less-spec = tie.close (tie.spec (search needs) (search needs) less-requires (search needs) (search needs) (search needs) (search needs) returns
+    (search needs) returns-2 (search needs) returns-3)

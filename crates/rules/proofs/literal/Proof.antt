@@ -5,12 +5,9 @@ use Rattle.rules.specs.State.{told}
 use Rattle.rules.proofs.literal.Statement.{statement}
 use Rattle.rules.proofs.literal.Tie as tie
 
-valued-requires : tie.Need-valued-requires
-valued-requires c κs = search needs
-
 returns : tie.Need-returns
 unfolding told literalRule
 returns c = λ m. rw (c .valued .ensures)
 
 pub literal-spec : {M : Type 1} → statement M
-literal-spec = tie.close (tie.spec valued-requires returns)
+literal-spec = tie.close (tie.spec (search needs) returns)

@@ -7,21 +7,6 @@ use Rattle.rules.proofs.Laws.{found-beyond, found-cell}
 use Rattle.rules.proofs.local.Statement.{statement}
 use Rattle.rules.proofs.local.Tie as tie
 
-find-local-requires : tie.Need-find-local-requires
-find-local-requires c κs = search needs
-
-enum-known-n : tie.Need-enum-known-n
-enum-known-n c = search needs
-
-enum-known-l : tie.Need-enum-known-l
-enum-known-l c = search needs
-
-fetch-requires : tie.Need-fetch-requires
-fetch-requires c κs = search needs
-
-held-requires : tie.Need-held-requires
-held-requires c κs = search needs
-
 returns : tie.Need-returns
 unfolding told localRule
 returns c = λ g s. rw (found-beyond _ _ _ (sym (c .before .before .before .find-local .ensures) ∙ c .before .n .given .1))
@@ -34,13 +19,4 @@ returns-2 c =
     λ g s. rw (found-cell _ _ _ (sym (find-local .ensures) ∙ l .given .1), ← c .before .fetch .ensures) (c .held .ensures _)
 
 pub local-spec : {M : Type 1} → statement M
-local-spec =
-    tie.close
-    (tie.spec
-    find-local-requires
-    enum-known-n
-    enum-known-l
-    fetch-requires
-    held-requires
-    returns
-    returns-2)
+local-spec = tie.close (tie.spec (search needs) (search needs) (search needs) (search needs) (search needs) returns returns-2)

@@ -10,24 +10,6 @@ returns : tie.Need-returns
 unfolding told
 returns c = λ location g e. rw (lt-leb _ _ (c .if1 .taken))
 
-mul-tag-of : tie.Need-mul-tag-of
-mul-tag-of c = search needs
-
-slice-read-tag-of : tie.Need-slice-read-tag-of
-slice-read-tag-of c = search needs
-
-tag-of-requires : tie.Need-tag-of-requires
-tag-of-requires c κs = search needs
-
-fetch-requires : tie.Need-fetch-requires
-fetch-requires c κs = search needs
-
-emptied-requires : tie.Need-emptied-requires
-emptied-requires c κs = search needs
-
-same-length : tie.Need-same-length
-same-length c = search needs
-
 returns-2 : tie.Need-returns-2
 unfolding told
 returns-2 c =
@@ -43,15 +25,4 @@ unfolding told
 returns-3 c = λ location g e. rw (le-leb _ _ (c .before .before .before .if1 .left), ne-eqb _ _ (λ k. c .if2 .left (c .before .tag-of .ensures ∙ k)))
 
 pub part-spec : {M : Type 1} → statement M
-part-spec =
-    tie.close
-    (tie.spec
-    returns
-    mul-tag-of
-    slice-read-tag-of
-    tag-of-requires
-    fetch-requires
-    emptied-requires
-    same-length
-    returns-2
-    returns-3)
+part-spec = tie.close (tie.spec returns (search needs) (search needs) (search needs) (search needs) (search needs) (search needs) returns-2 returns-3)

@@ -6,18 +6,6 @@ use Rattle.rules.specs.State.{told}
 use Rattle.rules.proofs.push.Statement.{statement}
 use Rattle.rules.proofs.push.Tie as tie
 
-mul-stack : tie.Need-mul-stack
-mul-stack c = search needs
-
-slice-write-stack : tie.Need-slice-write-stack
-slice-write-stack c = search needs
-
-add-t6 : tie.Need-add-t6
-add-t6 c = search needs
-
-same-length : tie.Need-same-length
-same-length c = search needs
-
 returns : tie.Need-returns
 unfolding told pushRule
 returns c = λ g t. rw (lt-ltb _ _ (c .if1 .taken))
@@ -27,4 +15,4 @@ unfolding told pushRule
 returns-2 c = λ g t. rw (le-ltb _ _ (c .if1 .left))
 
 pub push-spec : {M : Type 1} → statement M
-push-spec = tie.close (tie.spec mul-stack slice-write-stack add-t6 same-length returns returns-2)
+push-spec = tie.close (tie.spec (search needs) (search needs) (search needs) (search needs) returns returns-2)

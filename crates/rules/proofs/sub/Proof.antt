@@ -8,12 +8,6 @@ use Rattle.rules.proofs.Laws.{two-are, two-wrong, integer-of, fits-of}
 use Rattle.rules.proofs.sub.Statement.{statement}
 use Rattle.rules.proofs.sub.Tie as tie
 
-two-integers-requires : tie.Need-two-integers-requires
-two-integers-requires c κs = search needs
-
-enum-known-a : tie.Need-enum-known-a
-enum-known-a c = search needs
-
 difference-requires : tie.Need-difference-requires
 difference-requires c κs = rw (c .before .before .a .given .1) at (c .before .before .before .before .two-integers .ensures .1)
 
@@ -21,12 +15,6 @@ integer-requires : tie.Need-integer-requires
 integer-requires c κs =
     let pre = c .before .before .before .before .before .before .before .before .pre in
     (pre .0, pre .1, fits-of _ _ (c .difference .ensures))
-
-enum-known-n : tie.Need-enum-known-n
-enum-known-n c = search needs
-
-same-length : tie.Need-same-length
-same-length c = search needs
 
 returns : tie.Need-returns
 unfolding subRule
@@ -38,9 +26,6 @@ returns c =
     λ g t. c .before .before .integer .ensures g t ∙ ap (told (mem g (now (args .stack)) t))
     (integer-of _ _ _ _ (difference .ensures) ∙ two-are subtracted (mem g (now (args .stack)) t) (args .r) _ (two-integers .ensures .0 g t) _ _ (a .given .1))
 
-same-length-2 : tie.Need-same-length-2
-same-length-2 c = search needs
-
 returns-2 : tie.Need-returns-2
 unfolding told subRule
 returns-2 c =
@@ -50,15 +35,5 @@ returns-2 c =
     (two-wrong subtracted (mem g (now (args .stack)) t) (args .r) _ (two-integers .ensures .0 g t) _ (c .before .n .given .1))
 
 pub sub-spec : {M : Type 1} → statement M
-sub-spec =
-    tie.close
-    (tie.spec
-    two-integers-requires
-    enum-known-a
-    difference-requires
-    integer-requires
-    enum-known-n
-    same-length
-    returns
-    same-length-2
+sub-spec = tie.close (tie.spec (search needs) (search needs) difference-requires integer-requires (search needs) (search needs) returns (search needs)
     returns-2)

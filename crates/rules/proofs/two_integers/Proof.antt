@@ -11,35 +11,11 @@ use Rattle.rules.proofs.two_integers.Tie as tie
 returns : tie.Need-returns
 returns c = (λ g t. operands-count (mem g (now (c .before .before .args .stack)) t) (c .before .before .args .r) (λ e. omega (arith, e, c .if1 .taken)), tt)
 
-sub-left : tie.Need-sub-left
-sub-left c = search needs
-
-mul-left : tie.Need-mul-left
-mul-left c = search needs
-
-shared-slice-read-left : tie.Need-shared-slice-read-left
-shared-slice-read-left c = search needs
-
-sub-right : tie.Need-sub-right
-sub-right c = search needs
-
-mul-right : tie.Need-mul-right
-mul-right c = search needs
-
-shared-slice-read-right : tie.Need-shared-slice-read-right
-shared-slice-read-right c = search needs
-
-tag-of-requires : tie.Need-tag-of-requires
-tag-of-requires c κs = search needs
-
 returns-2 : tie.Need-returns-2
 returns-2 c =
     let args = c .before .before .before .before .before .before .args in
     let if1 = c .before .before .before .before .if1 in
     (λ g t. operands-left (mem g (now (args .stack)) t) (args .r) (if1 .left) (λ k. c .if2 .taken (c .before .tag-of .ensures ∙ k)), tt)
-
-tag-of-requires-2 : tie.Need-tag-of-requires-2
-tag-of-requires-2 c κs = search needs
 
 returns-3 : tie.Need-returns-3
 returns-3 c =
@@ -50,12 +26,6 @@ returns-3 c =
           (λ k. c .if3 .taken (c .before .tag-of2 .ensures ∙ k)),
       tt,
     )
-
-int-of-requires : tie.Need-int-of-requires
-int-of-requires c κs = search needs
-
-int-of-requires-2 : tie.Need-int-of-requires-2
-int-of-requires-2 c κs = search needs
 
 returns-4 : tie.Need-returns-4
 returns-4 c =
@@ -72,20 +42,5 @@ returns-4 c =
     )
 
 pub two-integers-spec : {M : Type 1} → statement M
-two-integers-spec =
-    tie.close
-    (tie.spec
-    returns
-    sub-left
-    mul-left
-    shared-slice-read-left
-    sub-right
-    mul-right
-    shared-slice-read-right
-    tag-of-requires
-    returns-2
-    tag-of-requires-2
-    returns-3
-    int-of-requires
-    int-of-requires-2
-    returns-4)
+two-integers-spec = tie.close (tie.spec returns (search needs) (search needs) (search needs) (search needs) (search needs) (search needs)
+    (search needs) returns-2 (search needs) returns-3 (search needs) (search needs) returns-4)

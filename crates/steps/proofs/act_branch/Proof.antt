@@ -4,12 +4,6 @@ use borrow.Author.Needs.{needs}
 use Rattle.steps.proofs.act_branch.Statement.{statement}
 use Rattle.steps.proofs.act_branch.Tie as tie
 
-act-jump-requires : tie.Need-act-jump-requires
-act-jump-requires c κs = search needs
-
-act-jump-requires-2 : tie.Need-act-jump-requires-2
-act-jump-requires-2 c κs = search needs
-
 returns : tie.Need-returns
 returns c =
     let pre = c .before .before .before .pre in
@@ -19,4 +13,4 @@ returns-2 : tie.Need-returns-2
 returns-2 c = λ o P m. let p = c .before .before .before .pre in branch-first o P m _ _ (p .0) (p .1) _ _ _ (c .before .if1 .left) (c .act-jump2 .ensures)
 
 pub act-branch-spec : {M : Type 1} → statement M
-act-branch-spec = tie.close (tie.spec act-jump-requires act-jump-requires-2 returns returns-2)
+act-branch-spec = tie.close (tie.spec (search needs) (search needs) returns returns-2)

@@ -5,18 +5,6 @@ use borrow.Author.Needs.{needs}
 use Rattle.steps.proofs.act_call.Statement.{statement}
 use Rattle.steps.proofs.act_call.Tie as tie
 
-call-requires : tie.Need-call-requires
-call-requires c κs = search needs
-
-enum-known-template : tie.Need-enum-known-template
-enum-known-template c = search needs
-
-start-place-requires : tie.Need-start-place-requires
-start-place-requires c κs = search needs
-
-enum-known-no : tie.Need-enum-known-no
-enum-known-no c = search needs
-
 returns : tie.Need-returns
 returns c =
     let pre = c .before .before .before .before .before .before .pre in
@@ -32,12 +20,4 @@ returns-2 c =
     λ o P m h. call-stops o P m _ _ (args .c) _ (call .ensures .0) _ (c .before .no .given .1)
 
 pub act-call-spec : {M : Type 1} → statement M
-act-call-spec =
-    tie.close
-    (tie.spec
-    call-requires
-    enum-known-template
-    start-place-requires
-    enum-known-no
-    returns
-    returns-2)
+act-call-spec = tie.close (tie.spec (search needs) (search needs) (search needs) (search needs) returns returns-2)

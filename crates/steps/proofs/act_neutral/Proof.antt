@@ -4,27 +4,6 @@ use borrow.Author.Needs.{needs}
 use Rattle.steps.proofs.act_neutral.Statement.{statement}
 use Rattle.steps.proofs.act_neutral.Tie as tie
 
-resolve-requires : tie.Need-resolve-requires
-resolve-requires c κs = search needs
-
-enum-known-i : tie.Need-enum-known-i
-enum-known-i c = search needs
-
-act-plain-requires : tie.Need-act-plain-requires
-act-plain-requires c κs = search needs
-
-enum-told : tie.Need-enum-told
-enum-told c = search needs
-
-same-length : tie.Need-same-length
-same-length c = search needs
-
-same-length-2 : tie.Need-same-length-2
-same-length-2 c = search needs
-
-same-length-3 : tie.Need-same-length-3
-same-length-3 c = search needs
-
 returns : tie.Need-returns
 returns c =
     let resolve = c .before .before .before .before .before .before .before .before .before .before .before .before .before .resolve in
@@ -36,15 +15,5 @@ returns-2 : tie.Need-returns-2
 returns-2 c = λ P f. neutral-stops _ P _ _ _ _ _ _ (c .before .before .resolve .ensures) (c .enum-told .given .1)
 
 pub act-neutral-spec : {M : Type 1} → statement M
-act-neutral-spec =
-    tie.close
-    (tie.spec
-    resolve-requires
-    enum-known-i
-    act-plain-requires
-    enum-told
-    same-length
-    same-length-2
-    same-length-3
-    returns
-    returns-2)
+act-neutral-spec = tie.close (tie.spec (search needs) (search needs) (search needs) (search needs) (search needs) (search needs) (search needs)
+    returns returns-2)

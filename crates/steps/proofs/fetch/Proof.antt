@@ -5,15 +5,9 @@ use borrow.Author.Needs.{needs}
 use Rattle.steps.proofs.fetch.Statement.{statement}
 use Rattle.steps.proofs.fetch.Tie as tie
 
-enum-known-at : tie.Need-enum-known-at
-enum-known-at c = search needs
-
 fetch-requires : tie.Need-fetch-requires
 unfolding CodeReady
 fetch-requires c κs = rw (in-tree _ _ (c .before .at .given .1)) at (c .before .before .before .before .before .before .pre)
-
-enum-known-at-2 : tie.Need-enum-known-at-2
-enum-known-at-2 c = search needs
 
 fetch-requires-2 : tie.Need-fetch-requires-2
 unfolding CodeReady
@@ -30,6 +24,4 @@ unfolding codeProgram
 returns-2 c = rw (in-linear _ _ (c .before .before .at2 .given .1), linear-number _ _ (c .before .before .at2 .given .1)) (c .fetch2 .ensures)
 
 pub fetch-spec : {M : Type 1} → statement M
-fetch-spec =
-    tie.close
-    (tie.spec enum-known-at fetch-requires enum-known-at-2 fetch-requires-2 returns returns-2)
+fetch-spec = tie.close (tie.spec (search needs) fetch-requires (search needs) fetch-requires-2 returns returns-2)

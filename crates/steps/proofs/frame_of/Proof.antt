@@ -4,18 +4,6 @@ use borrow.Author.Needs.{needs}
 use Rattle.steps.proofs.frame_of.Statement.{statement}
 use Rattle.steps.proofs.frame_of.Tie as tie
 
-enum-known-saved : tie.Need-enum-known-saved
-enum-known-saved c = search needs
-
-tree-frame-requires : tie.Need-tree-frame-requires
-tree-frame-requires c κs = search needs
-
-enum-known-saved-2 : tie.Need-enum-known-saved-2
-enum-known-saved-2 c = search needs
-
-linear-frame-requires : tie.Need-linear-frame-requires
-linear-frame-requires c κs = search needs
-
 returns : tie.Need-returns
 returns c = framed _ _ _ _ _ _ (tree-number _ _ (c .before .before .saved .given .1)) (c .tree-frame .ensures)
 
@@ -23,12 +11,4 @@ returns-2 : tie.Need-returns-2
 returns-2 c = framed _ _ _ _ _ _ (linear-number _ _ (c .before .before .saved2 .given .1)) (c .linear-frame .ensures)
 
 pub frame-of-spec : {M : Type 1} → statement M
-frame-of-spec =
-    tie.close
-    (tie.spec
-    enum-known-saved
-    tree-frame-requires
-    enum-known-saved-2
-    linear-frame-requires
-    returns
-    returns-2)
+frame-of-spec = tie.close (tie.spec (search needs) (search needs) (search needs) (search needs) returns returns-2)

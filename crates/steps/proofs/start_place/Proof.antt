@@ -7,18 +7,6 @@ use borrow.Author.Needs.{needs}
 use Rattle.steps.proofs.start_place.Statement.{statement}
 use Rattle.steps.proofs.start_place.Tie as tie
 
-enum-told : tie.Need-enum-told
-enum-told c = search needs
-
-slot-at-requires : tie.Need-slot-at-requires
-slot-at-requires c κs = search needs
-
-from-slot-requires : tie.Need-from-slot-requires
-from-slot-requires c κs = search needs
-
-enum-told-2 : tie.Need-enum-told-2
-enum-told-2 c = search needs
-
 returns : tie.Need-returns
 unfolding number formOf startAt
 returns c = let e = in-tree _ _ (c .before .before .enum-told .given .1) in (rw e (c .from-slot .ensures ∙ c .before .slot-at .ensures), sym e)
@@ -28,4 +16,4 @@ unfolding number formOf startAt
 returns-2 c = let e = in-linear _ _ (c .enum-told2 .given .1) in (rw e refl, sym e)
 
 pub start-place-spec : {M : Type 1} → statement M
-start-place-spec = tie.close (tie.spec enum-told slot-at-requires from-slot-requires enum-told-2 returns returns-2)
+start-place-spec = tie.close (tie.spec (search needs) (search needs) (search needs) (search needs) returns returns-2)

@@ -7,30 +7,6 @@ use borrow.Author.Needs.{needs}
 use Rattle.steps.proofs.take_step.Statement.{statement}
 use Rattle.steps.proofs.take_step.Tie as tie
 
-fetch-requires : tie.Need-fetch-requires
-fetch-requires c κs = search needs
-
-enum-known-op : tie.Need-enum-known-op
-enum-known-op c = search needs
-
-act-neutral-requires : tie.Need-act-neutral-requires
-act-neutral-requires c κs = search needs
-
-enum-told : tie.Need-enum-told
-enum-told c = search needs
-
-act-return-requires : tie.Need-act-return-requires
-act-return-requires c κs = search needs
-
-enum-known-n : tie.Need-enum-known-n
-enum-known-n c = search needs
-
-act-call-requires : tie.Need-act-call-requires
-act-call-requires c κs = search needs
-
-enum-known-first : tie.Need-enum-known-first
-enum-known-first c = search needs
-
 act-branch-requires : tie.Need-act-branch-requires
 act-branch-requires c κs =
     let pre = c .before .before .before .before .before .before .before .before .before .before .before .pre in
@@ -38,32 +14,11 @@ act-branch-requires c κs =
     let p = branch-places _ _ (fetch .ensures .1) _ _ (c .before .first .given .1) in
     (pre .fit, pre .frames-fit, p .1 ∙ sym (p .0))
 
-enum-known-n-2 : tie.Need-enum-known-n-2
-enum-known-n-2 c = search needs
-
 act-save-requires : tie.Need-act-save-requires
 act-save-requires c κs =
     let fetch = c .before .before .before .before .before .fetch in
     let n2 = c .before .before .before .n2 in
     (search needs, search needs, search needs, search needs, save-places _ _ (fetch .ensures .1) _ _ _ (n2 .given .1) .2)
-
-enum-known-to : tie.Need-enum-known-to
-enum-known-to c = search needs
-
-act-jump-requires : tie.Need-act-jump-requires
-act-jump-requires c κs = search needs
-
-enum-told-2 : tie.Need-enum-told-2
-enum-told-2 c = search needs
-
-same-length : tie.Need-same-length
-same-length c = search needs
-
-same-length-2 : tie.Need-same-length-2
-same-length-2 c = search needs
-
-same-length-3 : tie.Need-same-length-3
-same-length-3 c = search needs
 
 returns : tie.Need-returns
 unfolding fetchedAs
@@ -77,12 +32,6 @@ returns c =
     let f = fetch .ensures in
     step-is (a .owner) (a .file .now) (a .links .now) (a .table .now) (a .r) (a .c) _ _ (f .0) (op .given .1) _ _ _
     (stays _ _ (neutral-place _ _ (f .1) _ _ _ _ (op .given .1)) (act-neutral .ensures P (a .frames .now)))
-
-same-length-4 : tie.Need-same-length-4
-same-length-4 c = search needs
-
-same-length-5 : tie.Need-same-length-5
-same-length-5 c = search needs
 
 returns-2 : tie.Need-returns-2
 unfolding fetchedAs
@@ -119,12 +68,6 @@ returns-4 c =
     step-is (a .owner) (a .file .now) (a .links .now) (a .table .now) (a .r) (a .c) _ _ (f .0) (first .given .1) _ _ _
     (stays _ _ (branch-places _ _ (f .1) _ _ (first .given .1) .0) (c .act-branch .ensures (a .owner) P _))
 
-same-length-6 : tie.Need-same-length-6
-same-length-6 c = search needs
-
-same-length-7 : tie.Need-same-length-7
-same-length-7 c = search needs
-
 returns-5 : tie.Need-returns-5
 unfolding fetchedAs
 returns-5 c =
@@ -160,34 +103,7 @@ returns-7 c =
     (bad-stops _ (a .owner) P _ (a .r) (a .c))
 
 pub take-step-spec : {M : Type 1} → statement M
-take-step-spec =
-    tie.close
-    (tie.spec
-    fetch-requires
-    enum-known-op
-    act-neutral-requires
-    enum-told
-    act-return-requires
-    enum-known-n
-    act-call-requires
-    enum-known-first
-    act-branch-requires
-    enum-known-n-2
-    act-save-requires
-    enum-known-to
-    act-jump-requires
-    enum-told-2
-    same-length
-    same-length-2
-    same-length-3
-    returns
-    same-length-4
-    same-length-5
-    returns-2
-    returns-3
-    returns-4
-    same-length-6
-    same-length-7
-    returns-5
-    returns-6
-    returns-7)
+take-step-spec = tie.close (tie.spec (λ c κs. search needs) (λ c. search needs) (λ c κs. search needs) (λ c. search needs) (λ c κs. search needs)
+    (λ c. search needs) (λ c κs. search needs) (λ c. search needs) act-branch-requires (λ c. search needs) act-save-requires (λ c. search needs)
+    (λ c κs. search needs) (λ c. search needs) (λ c. search needs) (λ c. search needs) (λ c. search needs) returns (λ c. search needs)
+    (λ c. search needs) returns-2 returns-3 returns-4 (λ c. search needs) (λ c. search needs) returns-5 returns-6 returns-7)

@@ -5,17 +5,8 @@ use borrow.Author.Needs.{needs}
 use Rattle.tabulate.proofs.check_basic.Statement.{statement}
 use Rattle.tabulate.proofs.check_basic.Tie as tie
 
-read-basic-requires : tie.Need-read-basic-requires
-read-basic-requires c κs = search needs
-
-enum-known-end : tie.Need-enum-known-end
-enum-known-end c = search needs
-
 judge-lists-requires : tie.Need-judge-lists-requires
 judge-lists-requires c κs = let k = list-in _ _ (c .before .end .given .1) (c .before .before .before .read-basic .ensures) in (k .1, k .0)
-
-enum-known-count : tie.Need-enum-known-count
-enum-known-count c = search needs
 
 within-limits-requires : tie.Need-within-limits-requires
 within-limits-requires c κs =
@@ -25,15 +16,6 @@ within-limits-requires c κs =
     let judge-lists = c .before .before .before .before .judge-lists in
     let k = list-in _ _ (end .given .1) (read-basic .ensures) in
     (k .1, pre, judged-in _ _ (end .given .1) (read-basic .ensures) _ _ (c .before .before .count .given .1) (judge-lists .ensures))
-
-enum-known-t : tie.Need-enum-known-t
-enum-known-t c = search needs
-
-enum-known-no : tie.Need-enum-known-no
-enum-known-no c = search needs
-
-number-requires : tie.Need-number-requires
-number-requires c κs = search needs
 
 same-length : tie.Need-same-length
 same-length c =
@@ -58,18 +40,5 @@ returns-3 c =
     (rw (c .number .ensures) (file-unread _ _ _ (c .before .before .no .given .1) (read-basic .ensures)), pre)
 
 pub check-basic-spec : {M : Type 1} → statement M
-check-basic-spec =
-    tie.close
-    (tie.spec
-    read-basic-requires
-    enum-known-end
-    judge-lists-requires
-    enum-known-count
-    within-limits-requires
-    enum-known-t
-    enum-known-no
-    number-requires
-    same-length
-    returns
-    returns-2
-    returns-3)
+check-basic-spec = tie.close (tie.spec (search needs) (search needs) judge-lists-requires (search needs) within-limits-requires (search needs)
+    (search needs) (search needs) same-length returns returns-2 returns-3)

@@ -23,15 +23,6 @@ abbrev μ-loop : tie.MeasureT-loop
 loop-holds : tie.Need-loop-holds Inv-loop μ-loop
 loop-holds c = (omega arith, c .before .before .pre .1, λ w. collect-begin _ _ (w .read))
 
-before-requires : tie.Need-before-requires Inv-loop μ-loop
-before-requires c κs = search needs
-
-step-at-requires : tie.Need-step-at-requires Inv-loop μ-loop
-step-at-requires c κs = search needs
-
-enum-known-past : tie.Need-enum-known-past Inv-loop μ-loop
-enum-known-past c = search needs
-
 since-requires : tie.Need-since-requires Inv-loop μ-loop
 since-requires c κs =
     let v = c .before .before .before .before .before .before .loop .inv in
@@ -80,9 +71,6 @@ loop-again c =
       λ w. let v = loop .inv in let k = v .2 w in let h = ltb-true _ _ (sym (before2 .ensures) ∙ if1 .taken) in collect-copy k _ _
           (step-as (c .before .before .past .given .1) (step-at .ensures _ _ h (k .stand))) (ap (λ (x : ℕ). loop .bits + x) (c .since .ensures)),
     )
-
-enum-known-slot : tie.Need-enum-known-slot Inv-loop μ-loop
-enum-known-slot c = search needs
 
 add-requires : tie.Need-add-requires Inv-loop μ-loop
 add-requires c κs =
@@ -146,21 +134,6 @@ loop-again-2 c =
       λ w. let v = loop .inv in let k = v .2 w in let h = ltb-true _ _ (sym (before2 .ensures) ∙ if1 .taken) in collect-entry k _ _ _ (add .ensures) _
           (step-as (slot .given .1) (step-at .ensures _ _ h (k .stand))) refl,
     )
-
-enum-known-list : tie.Need-enum-known-list Inv-loop μ-loop
-enum-known-list c = search needs
-
-read-list-requires : tie.Need-read-list-requires Inv-loop μ-loop
-read-list-requires c κs = search needs
-
-enum-known-past-2 : tie.Need-enum-known-past-2 Inv-loop μ-loop
-enum-known-past-2 c = search needs
-
-enum-told : tie.Need-enum-told Inv-loop μ-loop
-enum-told c = search needs
-
-same-length-2 : tie.Need-same-length-2 Inv-loop μ-loop
-same-length-2 c = search needs
 
 returns-2 : tie.Need-returns-2 Inv-loop μ-loop
 returns-2 c =
@@ -309,12 +282,6 @@ loop-again-3 c =
           told _ refl (add2 .ensures) _ _ refl refl,
     )
 
-enum-told-2 : tie.Need-enum-told-2 Inv-loop μ-loop
-enum-told-2 c = search needs
-
-same-length-4 : tie.Need-same-length-4 Inv-loop μ-loop
-same-length-4 c = search needs
-
 returns-4 : tie.Need-returns-4 Inv-loop μ-loop
 returns-4 c = (
   (λ w. let k = c .before .before .before .before .before .loop .inv .2 w in
@@ -323,52 +290,13 @@ returns-4 c = (
   c .before .before .before .before .before .loop .inv .1,
 )
 
-same-length-5 : tie.Need-same-length-5 Inv-loop μ-loop
-same-length-5 c = search needs
-
 returns-5 : tie.Need-returns-5 Inv-loop μ-loop
 returns-5 c =
     let loop = c .before .before .loop in
     ((λ w. collect-end (loop .inv .2 w) (ltb-false _ _ (sym (c .before .before2 .ensures) ∙ c .if1 .left)) (loop .inv .0)), loop .inv .1)
 
 pub collect-spec : {M : Type 1} → statement M
-collect-spec =
-    tie.close
-    (tie.spec
-    Inv-loop
-    μ-loop
-    loop-holds
-    before-requires
-    step-at-requires
-    enum-known-past
-    since-requires
-    add-bits
-    loop-less
-    loop-again
-    enum-known-slot
-    add-requires
-    same-length
-    returns
-    add-bits-2
-    loop-less-2
-    loop-again-2
-    enum-known-list
-    read-list-requires
-    enum-known-past-2
-    enum-told
-    same-length-2
-    returns-2
-    add-add
-    add-requires-2
-    same-length-3
-    returns-3
-    add-bits-3
-    add-next
-    add-next-2
-    loop-less-3
-    loop-again-3
-    enum-told-2
-    same-length-4
-    returns-4
-    same-length-5
-    returns-5)
+collect-spec = tie.close (tie.spec Inv-loop μ-loop loop-holds (search needs) (search needs) (search needs) since-requires add-bits loop-less
+    loop-again (search needs) add-requires same-length returns add-bits-2 loop-less-2 loop-again-2 (search needs) (search needs) (search needs)
+    (search needs) (search needs) returns-2 add-add add-requires-2 same-length-3 returns-3 add-bits-3 add-next add-next-2 loop-less-3 loop-again-3
+    (search needs) (search needs) returns-4 (search needs) returns-5)

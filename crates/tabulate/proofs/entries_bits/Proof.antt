@@ -18,27 +18,12 @@ abbrev μ-loop : tie.MeasureT-loop
 loop-holds : tie.Need-loop-holds Inv-loop μ-loop
 loop-holds c = (omega arith, bits-none (c .before .args .table .now), omega arith)
 
-mul-slot-bits : tie.Need-mul-slot-bits Inv-loop μ-loop
-mul-slot-bits c = search needs
-
-shared-slice-read-slot-bits : tie.Need-shared-slice-read-slot-bits Inv-loop μ-loop
-shared-slice-read-slot-bits c = search needs
-
-slot-bits-requires : tie.Need-slot-bits-requires Inv-loop μ-loop
-slot-bits-requires c κs = search needs
-
 add-bits : tie.Need-add-bits Inv-loop μ-loop
 add-bits c =
     let pre = c .before .before .before .before .before .pre in
     let loop = c .before .before .before .loop in
     let b = bits-bound _ _ (c .slot-bits .ensures) in
     omega (arith, loop .inv .2, b, c .before .before .loop-test .taken, pre .0, pre .1)
-
-add-i : tie.Need-add-i Inv-loop μ-loop
-add-i c = search needs
-
-loop-less : tie.Need-loop-less Inv-loop μ-loop
-loop-less c = search needs
 
 loop-again : tie.Need-loop-again Inv-loop μ-loop
 loop-again c =
@@ -58,17 +43,5 @@ returns c =
     (k .1 ∙ ap (λ (x : ℕ). slotsBits (take x (c .before .before .before .args .table .now))) e, omega (arith, k .2))
 
 pub entries-bits-spec : {M : Type 1} → statement M
-entries-bits-spec =
-    tie.close
-    (tie.spec
-    Inv-loop
-    μ-loop
-    loop-holds
-    mul-slot-bits
-    shared-slice-read-slot-bits
-    slot-bits-requires
-    add-bits
-    add-i
-    loop-less
-    loop-again
-    returns)
+entries-bits-spec = tie.close (tie.spec Inv-loop μ-loop loop-holds (search needs) (search needs) (search needs) add-bits (search needs) (search needs)
+    loop-again returns)

@@ -6,15 +6,6 @@ use borrow.Author.Needs.{needs}
 use Rattle.tabulate.proofs.is_closed.Statement.{statement}
 use Rattle.tabulate.proofs.is_closed.Tie as tie
 
-read-list-requires : tie.Need-read-list-requires
-read-list-requires c κs = search needs
-
-enum-known-x : tie.Need-enum-known-x
-enum-known-x c = search needs
-
-enum-told : tie.Need-enum-told
-enum-told c = search needs
-
 returns : tie.Need-returns
 returns c = λ x q e. told-class (list-is _ _ _ _ _ (sym (c .before .before .x .given .1) ∙ c .before .before .before .before .read-list .ensures)) x q e
 
@@ -22,4 +13,4 @@ returns-2 : tie.Need-returns-2
 returns-2 c = λ x q e. told-none _ _ _ _ (c .enum-told .given .1) (c .before .before .read-list .ensures) x q e
 
 pub is-closed-spec : {M : Type 1} → statement M
-is-closed-spec = tie.close (tie.spec read-list-requires enum-known-x enum-told returns returns-2)
+is-closed-spec = tie.close (tie.spec (search needs) (search needs) (search needs) returns returns-2)

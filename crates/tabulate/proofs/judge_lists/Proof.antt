@@ -21,16 +21,10 @@ abbrev μ-loop : tie.MeasureT-loop
 loop-holds : tie.Need-loop-holds Inv-loop μ-loop
 loop-holds c = λ w. (from-first w, ap (lowest closedTemplate 0) (from-first-all w))
 
-is-closed-requires : tie.Need-is-closed-requires Inv-loop μ-loop
-is-closed-requires c κs = search needs
-
 next-closure-requires : tie.Need-next-closure-requires Inv-loop μ-loop
 next-closure-requires c κs =
     let pre = c .before .before .before .before .pre in
     (omega (arith, pre .0), from-walk (c .before .before .loop .inv (pre .1) .0))
-
-enum-told : tie.Need-enum-told Inv-loop μ-loop
-enum-told c = search needs
 
 add-t8 : tie.Need-add-t8 Inv-loop μ-loop
 add-t8 c =
@@ -46,9 +40,6 @@ returns c =
     let if1 = c .before .before .before .if1 in
     λ w. let k = loop .inv w in judge-end (w .list) (k .0) (k .1) _ (is-closed .ensures) (if1 .taken)
     (next-as (c .enum-told .given .1) (c .before .before .next-closure .ensures (from-walk (k .0)) _))
-
-enum-known-list : tie.Need-enum-known-list Inv-loop μ-loop
-enum-known-list c = search needs
 
 add-own : tie.Need-add-own Inv-loop μ-loop
 add-own c =
@@ -77,19 +68,5 @@ returns-2 : tie.Need-returns-2 Inv-loop μ-loop
 returns-2 c = λ w. let k = c .before .before .loop .inv w in judge-but (w .list) (k .0) (k .1) _ (c .before .is-closed .ensures) (c .if1 .left)
 
 pub judge-lists-spec : {M : Type 1} → statement M
-judge-lists-spec =
-    tie.close
-    (tie.spec
-    Inv-loop
-    μ-loop
-    loop-holds
-    is-closed-requires
-    next-closure-requires
-    enum-told
-    add-t8
-    returns
-    enum-known-list
-    add-own
-    loop-less
-    loop-again
-    returns-2)
+judge-lists-spec = tie.close (tie.spec Inv-loop μ-loop loop-holds (search needs) next-closure-requires (search needs) add-t8 returns (search needs)
+    add-own loop-less loop-again returns-2)

@@ -21,18 +21,6 @@ abbrev μ-loop : tie.MeasureT-loop
 loop-holds : tie.Need-loop-holds Inv-loop μ-loop
 loop-holds c = (c .before .before .pre .1, λ w. measure-begin (w .whole), omega arith, omega arith)
 
-read-list-requires : tie.Need-read-list-requires Inv-loop μ-loop
-read-list-requires c κs = search needs
-
-enum-known-past : tie.Need-enum-known-past Inv-loop μ-loop
-enum-known-past c = search needs
-
-enum-told : tie.Need-enum-told Inv-loop μ-loop
-enum-told c = search needs
-
-same-length : tie.Need-same-length Inv-loop μ-loop
-same-length c = search needs
-
 returns : tie.Need-returns Inv-loop μ-loop
 returns c =
     let loop = c .before .before .before .loop in (
@@ -41,9 +29,6 @@ returns c =
       loop .inv .0,
     )
 
-add-collect : tie.Need-add-collect Inv-loop μ-loop
-add-collect c = search needs
-
 collect-requires : tie.Need-collect-requires Inv-loop μ-loop
 collect-requires c κs =
     let pre = c .before .before .before .before .before .before .before .before .pre in
@@ -51,9 +36,6 @@ collect-requires c κs =
     let read-list = c .before .before .before .before .read-list in
     let w = pre .2 in
     (pre .0, loop .inv .0, (own-list (loop .inv .1 w .from) (w .few) _ _ (list-is _ _ _ _ _ (sym (c .before .before .past .given .1) ∙ read-list .ensures))))
-
-enum-told-2 : tie.Need-enum-told-2 Inv-loop μ-loop
-enum-told-2 c = search needs
 
 same-length-2 : tie.Need-same-length-2 Inv-loop μ-loop
 same-length-2 c =
@@ -72,9 +54,6 @@ returns-2 c =
           (collect .ensures .0 (own-list (loop .inv .1 w .from) (w .few) _ _ (list-is _ _ _ _ _ (sym (past .given .1) ∙ read-list .ensures))))),
       collect .ensures .1,
     )
-
-enum-known-count : tie.Need-enum-known-count Inv-loop μ-loop
-enum-known-count c = search needs
 
 entries-bits-requires : tie.Need-entries-bits-requires Inv-loop μ-loop
 unfolding own-list
@@ -144,9 +123,6 @@ next-closure-requires c κs =
     let loop = c .before .before .before .before .before .before .before .before .before .before .before .before .before .loop in
     (omega (arith, pre .0), from-walk (loop .inv .1 (pre .2) .from))
 
-enum-told-3 : tie.Need-enum-told-3 Inv-loop μ-loop
-enum-told-3 c = search needs
-
 same-length-3 : tie.Need-same-length-3 Inv-loop μ-loop
 same-length-3 c =
     let pre = c .before .before .before .before .before .before .before .before .before .before .before .before .before .before .before .before .before
@@ -175,9 +151,6 @@ returns-3 c =
           (next-as (c .enum-told3 .given .1) (c .before .before .next-closure .ensures (from-walk (k .from)) _)),
       collect .ensures .1,
     )
-
-enum-known-list : tie.Need-enum-known-list Inv-loop μ-loop
-enum-known-list c = search needs
 
 add-own : tie.Need-add-own Inv-loop μ-loop
 add-own c =
@@ -230,32 +203,6 @@ loop-again c =
     )
 
 pub measure-spec : {M : Type 1} → statement M
-measure-spec =
-    tie.close
-    (tie.spec
-    Inv-loop
-    μ-loop
-    loop-holds
-    read-list-requires
-    enum-known-past
-    enum-told
-    same-length
-    returns
-    add-collect
-    collect-requires
-    enum-told-2
-    same-length-2
-    returns-2
-    enum-known-count
-    entries-bits-requires
-    add-bits
-    add-bits-2
-    add-bits-3
-    next-closure-requires
-    enum-told-3
-    same-length-3
-    returns-3
-    enum-known-list
-    add-own
-    loop-less
-    loop-again)
+measure-spec = tie.close (tie.spec Inv-loop μ-loop loop-holds (search needs) (search needs) (search needs) (search needs) returns (search needs)
+    collect-requires (search needs) same-length-2 returns-2 (search needs) entries-bits-requires add-bits add-bits-2 add-bits-3 next-closure-requires
+    (search needs) same-length-3 returns-3 (search needs) add-own loop-less loop-again)

@@ -19,15 +19,6 @@ abbrev μ-loop : tie.MeasureT-loop
 loop-holds : tie.Need-loop-holds Inv-loop μ-loop
 loop-holds c = λ w. walked-none w
 
-before-requires : tie.Need-before-requires Inv-loop μ-loop
-before-requires c κs = search needs
-
-step-at-requires : tie.Need-step-at-requires Inv-loop μ-loop
-step-at-requires c κs = search needs
-
-enum-known-past : tie.Need-enum-known-past Inv-loop μ-loop
-enum-known-past c = search needs
-
 loop-less : tie.Need-loop-less Inv-loop μ-loop
 loop-less c =
     let k = c .before .before .before .before .before .before .loop .inv (c .before .before .before .before .before .before .before .before .pre .1) in
@@ -39,9 +30,6 @@ loop-again c =
     λ w. let k = c .before .before .before .before .before .before .loop .inv w in
     let h = ltb-true _ _ (sym (c .before .before .before .before .before .before2 .ensures) ∙ c .before .before .before .before .if1 .taken) in
     walked-copy k _ (step-as (c .before .past .given .1) (c .before .before .before .step-at .ensures _ _ h (k .stand)))
-
-enum-known-past-2 : tie.Need-enum-known-past-2 Inv-loop μ-loop
-enum-known-past-2 c = search needs
 
 loop-less-2 : tie.Need-loop-less-2 Inv-loop μ-loop
 loop-less-2 c =
@@ -55,17 +43,11 @@ loop-again-2 c =
     let h = ltb-true _ _ (sym (c .before .before .before .before .before .before2 .ensures) ∙ c .before .before .before .before .if1 .taken) in
     walked-entry k _ _ _ (step-as (c .before .past2 .given .1) (c .before .before .before .step-at .ensures _ _ h (k .stand)))
 
-enum-known-list : tie.Need-enum-known-list Inv-loop μ-loop
-enum-known-list c = search needs
-
 returns : tie.Need-returns Inv-loop μ-loop
 returns c =
     λ w n. let k = c .before .before .before .before .before .before .loop .inv w in
     let h = ltb-true _ _ (sym (c .before .before .before .before .before .before2 .ensures) ∙ c .before .before .before .before .if1 .taken) in
     walked-closure k n _ (step-as (c .before .list .given .1) (c .before .before .before .step-at .ensures _ _ h (k .stand)))
-
-enum-told : tie.Need-enum-told Inv-loop μ-loop
-enum-told c = search needs
 
 returns-2 : tie.Need-returns-2 Inv-loop μ-loop
 returns-2 c =
@@ -77,22 +59,5 @@ returns-3 : tie.Need-returns-3 Inv-loop μ-loop
 returns-3 c = λ w n. walked-end (c .before .before .loop .inv w) n (ltb-false _ _ (sym (c .before .before2 .ensures) ∙ c .if1 .left))
 
 pub next-closure-spec : {M : Type 1} → statement M
-next-closure-spec =
-    tie.close
-    (tie.spec
-    Inv-loop
-    μ-loop
-    loop-holds
-    before-requires
-    step-at-requires
-    enum-known-past
-    loop-less
-    loop-again
-    enum-known-past-2
-    loop-less-2
-    loop-again-2
-    enum-known-list
-    returns
-    enum-told
-    returns-2
-    returns-3)
+next-closure-spec = tie.close (tie.spec Inv-loop μ-loop loop-holds (search needs) (search needs) (search needs) loop-less loop-again (search needs)
+    loop-less-2 loop-again-2 (search needs) returns (search needs) returns-2 returns-3)

@@ -25,15 +25,6 @@ abbrev μ-loop : tie.MeasureT-loop
 loop-holds : tie.Need-loop-holds Inv-loop μ-loop
 loop-holds c = (refl, λ w. coding-begin w)
 
-before-requires : tie.Need-before-requires Inv-loop μ-loop
-before-requires c κs = search needs
-
-step-at-requires : tie.Need-step-at-requires Inv-loop μ-loop
-step-at-requires c κs = search needs
-
-enum-known-after : tie.Need-enum-known-after Inv-loop μ-loop
-enum-known-after c = search needs
-
 since-requires : tie.Need-since-requires Inv-loop μ-loop
 since-requires c κs =
     let w = c .before .before .before .before .before .before .before .before .before .before .pre .4 in
@@ -87,9 +78,6 @@ loop-again c =
           (step-as (after .given .1) (step-at .ensures _ _ h (k .stand))) (since .ensures) (copy-bits .ensures .0) (copy-bits .ensures .1),
     )
 
-enum-known-code : tie.Need-enum-known-code Inv-loop μ-loop
-enum-known-code c = search needs
-
 put-index-requires : tie.Need-put-index-requires Inv-loop μ-loop
 put-index-requires c κs =
     let pre = c .before .before .before .before .before .before .before .before .before .before .before .pre in
@@ -131,18 +119,6 @@ loop-again-2 c =
       λ w. let k = loop .inv .1 w in let h = ltb-true _ _ (sym (before2 .ensures) ∙ if1 .taken) in code-entry k (w .held) _ _ _
           (step-as (code .given .1) (step-at .ensures _ _ h (k .stand))) (put-index .ensures),
     )
-
-enum-known-list : tie.Need-enum-known-list Inv-loop μ-loop
-enum-known-list c = search needs
-
-read-list-requires : tie.Need-read-list-requires Inv-loop μ-loop
-read-list-requires c κs = search needs
-
-enum-known-after-2 : tie.Need-enum-known-after-2 Inv-loop μ-loop
-enum-known-after-2 c = search needs
-
-enum-told : tie.Need-enum-told Inv-loop μ-loop
-enum-told c = search needs
 
 same-length : tie.Need-same-length Inv-loop μ-loop
 same-length c = c .before .before .before .before .before .before .before .before .before .loop .inv .0
@@ -261,9 +237,6 @@ loop-again-3 c =
           (step-as (list .given .1) (step-at .ensures _ _ h (k .stand))) (put-index2 .ensures) refl,
     )
 
-enum-told-2 : tie.Need-enum-told-2 Inv-loop μ-loop
-enum-told-2 c = search needs
-
 same-length-2 : tie.Need-same-length-2 Inv-loop μ-loop
 same-length-2 c = c .before .before .before .before .before .loop .inv .0
 
@@ -280,37 +253,7 @@ returns-3 : tie.Need-returns-3 Inv-loop μ-loop
 returns-3 c = λ w. coding-end (c .before .before .loop .inv .1 w) (ltb-false _ _ (sym (c .before .before2 .ensures) ∙ c .if1 .left))
 
 pub put-code-spec : {M : Type 1} → statement M
-put-code-spec =
-    tie.close
-    (tie.spec
-    Inv-loop
-    μ-loop
-    loop-holds
-    before-requires
-    step-at-requires
-    enum-known-after
-    since-requires
-    copy-bits-requires
-    loop-less
-    loop-again
-    enum-known-code
-    put-index-requires
-    loop-less-2
-    loop-again-2
-    enum-known-list
-    read-list-requires
-    enum-known-after-2
-    enum-told
-    same-length
-    returns
-    add-put-index
-    put-index-requires-2
-    add-next
-    add-next-2
-    loop-less-3
-    loop-again-3
-    enum-told-2
-    same-length-2
-    returns-2
-    same-length-3
-    returns-3)
+put-code-spec = tie.close (tie.spec Inv-loop μ-loop loop-holds (search needs) (search needs) (search needs) since-requires copy-bits-requires
+    loop-less loop-again (search needs) put-index-requires loop-less-2 loop-again-2 (search needs) (search needs) (search needs) (search needs)
+    same-length returns add-put-index put-index-requires-2 add-next add-next-2 loop-less-3 loop-again-3 (search needs) same-length-2 returns-2
+    same-length-3 returns-3)

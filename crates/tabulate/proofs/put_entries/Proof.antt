@@ -18,12 +18,6 @@ abbrev μ-loop : tie.MeasureT-loop
 loop-holds : tie.Need-loop-holds Inv-loop μ-loop
 loop-holds c = (refl, omega arith, λ w. listing-begin w)
 
-mul-put-entry : tie.Need-mul-put-entry Inv-loop μ-loop
-mul-put-entry c = search needs
-
-shared-slice-read-put-entry : tie.Need-shared-slice-read-put-entry Inv-loop μ-loop
-shared-slice-read-put-entry c = search needs
-
 put-entry-requires : tie.Need-put-entry-requires Inv-loop μ-loop
 put-entry-requires c κs =
     let pre = c .before .before .before .before .before .before .pre in
@@ -34,12 +28,6 @@ put-entry-requires c κs =
       slot-next k (loop-test .taken) (omega (arith, pre .0, pre .1)),
       listing-room k (loop-test .taken) (omega (arith, pre .0, pre .1)),
     )
-
-add-i : tie.Need-add-i Inv-loop μ-loop
-add-i c = search needs
-
-loop-less : tie.Need-loop-less Inv-loop μ-loop
-loop-less c = search needs
 
 loop-again : tie.Need-loop-again Inv-loop μ-loop
 loop-again c =
@@ -59,17 +47,5 @@ returns : tie.Need-returns Inv-loop μ-loop
 returns c = λ w. listing-end (c .before .loop .inv .2 w) (omega (arith, c .loop-test .left))
 
 pub put-entries-spec : {M : Type 1} → statement M
-put-entries-spec =
-    tie.close
-    (tie.spec
-    Inv-loop
-    μ-loop
-    loop-holds
-    mul-put-entry
-    shared-slice-read-put-entry
-    put-entry-requires
-    add-i
-    loop-less
-    loop-again
-    same-length
-    returns)
+put-entries-spec = tie.close (tie.spec Inv-loop μ-loop loop-holds (search needs) (search needs) put-entry-requires (search needs) (search needs)
+    loop-again same-length returns)

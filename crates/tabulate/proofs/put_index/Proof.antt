@@ -11,18 +11,6 @@ use borrow.Author.Needs.{needs}
 use Rattle.tabulate.proofs.put_index.Statement.{statement}
 use Rattle.tabulate.proofs.put_index.Tie as tie
 
-find-requires : tie.Need-find-requires
-find-requires c κs = search needs
-
-put-field-requires : tie.Need-put-field-requires
-put-field-requires c κs = search needs
-
-add-put-field : tie.Need-add-put-field
-add-put-field c = search needs
-
-cast-put-field : tie.Need-cast-put-field
-cast-put-field c = search needs
-
 put-field-requires-2 : tie.Need-put-field-requires-2
 put-field-requires-2 c κs =
     let pre = c .before .before .before .before .before .before .before .before .pre in
@@ -47,13 +35,4 @@ returns c =
     (put-field2 .ensures .1)
 
 pub put-index-spec : {M : Type 1} → statement M
-put-index-spec =
-    tie.close
-    (tie.spec
-    find-requires
-    put-field-requires
-    add-put-field
-    cast-put-field
-    put-field-requires-2
-    same-length
-    returns)
+put-index-spec = tie.close (tie.spec (search needs) (search needs) (search needs) (search needs) put-field-requires-2 same-length returns)

@@ -12,12 +12,6 @@ use Rattle.tabulate.proofs.put_template.Tie as tie
 collect-requires : tie.Need-collect-requires
 collect-requires c κs = (c .before .before .before .before .pre .0, c .before .before .before .before .pre .1, c .before .before .before .before .pre .3 .own)
 
-enum-told : tie.Need-enum-told
-enum-told c = search needs
-
-enum-known-count : tie.Need-enum-known-count
-enum-known-count c = search needs
-
 cast-put-field : tie.Need-cast-put-field
 cast-put-field c =
     let pre = c .before .before .before .before .before .before .before .before .before .before .before .pre in
@@ -114,18 +108,5 @@ returns-2 c =
     )
 
 pub put-template-spec : {M : Type 1} → statement M
-put-template-spec =
-    tie.close
-    (tie.spec
-    collect-requires
-    enum-told
-    enum-known-count
-    cast-put-field
-    put-field-requires
-    put-entries-requires
-    put-code-requires
-    same-length
-    returns
-    same-length-2
-    same-length-3
-    returns-2)
+put-template-spec = tie.close (tie.spec collect-requires (search needs) (search needs) cast-put-field put-field-requires put-entries-requires
+    put-code-requires same-length returns same-length-2 same-length-3 returns-2)

@@ -23,15 +23,6 @@ abbrev μ-loop : tie.MeasureT-loop
 loop-holds : tie.Need-loop-holds Inv-loop μ-loop
 loop-holds c = (c .before .before .before .pre .1, refl, λ w. writing-begin w, omega arith)
 
-read-list-requires : tie.Need-read-list-requires Inv-loop μ-loop
-read-list-requires c κs = search needs
-
-enum-known-past : tie.Need-enum-known-past Inv-loop μ-loop
-enum-known-past c = search needs
-
-enum-told : tie.Need-enum-told Inv-loop μ-loop
-enum-told c = search needs
-
 same-length : tie.Need-same-length Inv-loop μ-loop
 same-length c = c .before .before .before .loop .inv .0 ∙ sym (c .before .before .before .before .before .before .before .pre .1)
 
@@ -42,9 +33,6 @@ returns : tie.Need-returns Inv-loop μ-loop
 returns c =
     let loop = c .before .before .before .loop in
     λ w. let k = loop .inv .2 w in let r = from-read (k .from) in told-none _ _ _ _ (c .enum-told .given .1) (c .before .before .read-list .ensures) _ _ (r .1)
-
-add-put-template : tie.Need-add-put-template Inv-loop μ-loop
-add-put-template c = search needs
 
 put-template-requires : tie.Need-put-template-requires Inv-loop μ-loop
 put-template-requires c κs =
@@ -65,9 +53,6 @@ next-closure-requires c κs =
     let pre = c .before .before .before .before .before .before .before .before .before .before .before .before .before .before .before .pre in
     let loop = c .before .before .before .before .before .before .before .before .before .before .before .loop in
     (omega (arith, pre .0), from-walk (loop .inv .2 (pre .3) .from))
-
-enum-told-2 : tie.Need-enum-told-2 Inv-loop μ-loop
-enum-told-2 c = search needs
 
 same-length-3 : tie.Need-same-length-3 Inv-loop μ-loop
 same-length-3 c =
@@ -99,9 +84,6 @@ returns-2 c =
     (own-list (loop .inv .2 w .from) (w .few .few) _ _ (list-is _ _ _ _ _ (sym (past .given .1) ∙ read-list .ensures)))
     (own-list-is (loop .inv .2 w .from) (w .few .few) _ _ (list-is _ _ _ _ _ (sym (past .given .1) ∙ read-list .ensures))) (put-template .ensures .0))
     (next-as (c .enum-told2 .given .1) (c .before .before .next-closure .ensures (from-walk (loop .inv .2 w .from)) _))
-
-enum-known-list : tie.Need-enum-known-list Inv-loop μ-loop
-enum-known-list c = search needs
 
 add-own : tie.Need-add-own Inv-loop μ-loop
 add-own c =
@@ -139,26 +121,6 @@ loop-again c =
     )
 
 pub put-templates-spec : {M : Type 1} → statement M
-put-templates-spec =
-    tie.close
-    (tie.spec
-    Inv-loop
-    μ-loop
-    loop-holds
-    read-list-requires
-    enum-known-past
-    enum-told
-    same-length
-    same-length-2
-    returns
-    add-put-template
-    put-template-requires
-    next-closure-requires
-    enum-told-2
-    same-length-3
-    same-length-4
-    returns-2
-    enum-known-list
-    add-own
-    loop-less
+put-templates-spec = tie.close (tie.spec Inv-loop μ-loop loop-holds (search needs) (search needs) (search needs) same-length same-length-2 returns
+    (search needs) put-template-requires next-closure-requires (search needs) same-length-3 same-length-4 returns-2 (search needs) add-own loop-less
     loop-again)

@@ -7,50 +7,11 @@ use borrow.Author.Needs.{needs}
 use Rattle.tabulate.proofs.step_at.Statement.{statement}
 use Rattle.tabulate.proofs.step_at.Tie as tie
 
-read-token-requires : tie.Need-read-token-requires
-read-token-requires c κs = search needs
-
-enum-known-next : tie.Need-enum-known-next
-enum-known-next c = search needs
-
-enum-known-next-2 : tie.Need-enum-known-next-2
-enum-known-next-2 c = search needs
-
-enum-known-next-3 : tie.Need-enum-known-next-3
-enum-known-next-3 c = search needs
-
-enum-known-t : tie.Need-enum-known-t
-enum-known-t c = search needs
-
-cast-t17 : tie.Need-cast-t17
-cast-t17 c = search needs
-
 mul-t18 : tie.Need-mul-t18
 mul-t18 c = let k = literal-small _ _ _ _ _ (turned (c .before .t .given .1) (c .before .before .before .read-token .ensures)) in omega (arith, k .0)
 
 add-t19 : tie.Need-add-t19
 add-t19 c = let k = literal-small _ _ _ _ _ (turned (c .before .t .given .1) (c .before .before .before .read-token .ensures)) in omega (arith, k .0, k .1)
-
-enum-known-code : tie.Need-enum-known-code
-enum-known-code c = search needs
-
-cast-t20 : tie.Need-cast-t20
-cast-t20 c = search needs
-
-add-t21 : tie.Need-add-t21
-add-t21 c = search needs
-
-enum-known-next-4 : tie.Need-enum-known-next-4
-enum-known-next-4 c = search needs
-
-enum-known-next-5 : tie.Need-enum-known-next-5
-enum-known-next-5 c = search needs
-
-enum-known-next-6 : tie.Need-enum-known-next-6
-enum-known-next-6 c = search needs
-
-enum-told : tie.Need-enum-told
-enum-told c = search needs
 
 returns : tie.Need-returns
 returns c = λ e cs h w. copy-end _ _ _ cs _ h w (turned (c .before .next .given .1) (c .before .before .before .read-token .ensures))
@@ -80,30 +41,6 @@ returns-9 : tie.Need-returns-9
 returns-9 c = λ e cs h w. no-refusal _ _ _ cs _ _ h w (turned (c .enum-told .given .1) (c .before .before .read-token .ensures))
 
 pub step-at-spec : {M : Type 1} → statement M
-step-at-spec =
-    tie.close
-    (tie.spec
-    read-token-requires
-    enum-known-next
-    enum-known-next-2
-    enum-known-next-3
-    enum-known-t
-    cast-t17
-    mul-t18
-    add-t19
-    enum-known-code
-    cast-t20
-    add-t21
-    enum-known-next-4
-    enum-known-next-5
-    enum-known-next-6
-    enum-told
-    returns
-    returns-2
-    returns-3
-    returns-4
-    returns-5
-    returns-6
-    returns-7
-    returns-8
-    returns-9)
+step-at-spec = tie.close (tie.spec (search needs) (search needs) (search needs) (search needs) (search needs) (search needs) mul-t18 add-t19
+    (search needs) (search needs) (search needs) (search needs) (search needs) (search needs) (search needs) returns returns-2 returns-3 returns-4
+    returns-5 returns-6 returns-7 returns-8 returns-9)

@@ -13,9 +13,6 @@ add-size c = let f = checked-short (c .before .before .before .pre .1) in omega 
 returns : tie.Need-returns
 returns c = short-output (c .before .before .before .before .pre .1) _ (c .if1 .taken)
 
-slice-relend-prefix-write-tabulated : tie.Need-slice-relend-prefix-write-tabulated
-slice-relend-prefix-write-tabulated c = search needs
-
 slice-aggregate-write-tabulated : tie.Need-slice-aggregate-write-tabulated
 slice-aggregate-write-tabulated c = sym (length-take-le _ _ (c .before .before .if1 .left))
 
@@ -27,12 +24,6 @@ write-tabulated-requires c κs =
     let m = length-take-le _ (args .out .now) (c .before .before .if1 .left) in
     (f .0, pre .0, rw m (omega (arith, f .1)), whole-in (pre .1) _ m)
 
-same-length : tie.Need-same-length
-same-length c = search needs
-
-same-length-2 : tie.Need-same-length-2
-same-length-2 c = search needs
-
 returns-2 : tie.Need-returns-2
 returns-2 c =
     let pre = c .before .before .before .before .before .before .before .before .before .before .before .pre in
@@ -41,14 +32,5 @@ returns-2 c =
     file-written (pre .1) _ (if1 .left) _ _ (write-tabulated .ensures) refl
 
 pub tabulate-checked-spec : {M : Type 1} → statement M
-tabulate-checked-spec =
-    tie.close
-    (tie.spec
-    add-size
-    returns
-    slice-relend-prefix-write-tabulated
-    slice-aggregate-write-tabulated
-    write-tabulated-requires
-    same-length
-    same-length-2
-    returns-2)
+tabulate-checked-spec = tie.close (tie.spec add-size returns (search needs) slice-aggregate-write-tabulated write-tabulated-requires (search needs)
+    (search needs) returns-2)

@@ -14,12 +14,6 @@ measure-requires c κs =
     let pre = c .before .before .before .before .pre in
     (pre .0, pre .1, few-in (pre .2) (c .before .if1 .left))
 
-enum-told : tie.Need-enum-told
-enum-told c = search needs
-
-enum-known-bits : tie.Need-enum-known-bits
-enum-known-bits c = search needs
-
 add-if2 : tie.Need-add-if2
 add-if2 c =
     let pre = c .before .before .before .before .before .before .before .before .before .before .pre in
@@ -42,9 +36,6 @@ returns-2 c =
     let measure = c .before .before .before .before .before .before .measure in
     let w = pre .2 in
     (long-file w (if1 .left) _ (measured-as w (if1 .left) _ (c .before .before .bits .given .1) (measure .ensures .0)) (c .if2 .taken), measure .ensures .1)
-
-add-t11 : tie.Need-add-t11
-add-t11 c = search needs
 
 same-length-2 : tie.Need-same-length-2
 same-length-2 c =
@@ -77,18 +68,5 @@ returns-4 c =
     )
 
 pub within-limits-spec : {M : Type 1} → statement M
-within-limits-spec =
-    tie.close
-    (tie.spec
-    returns
-    measure-requires
-    enum-told
-    enum-known-bits
-    add-if2
-    same-length
-    returns-2
-    add-t11
-    same-length-2
-    returns-3
-    same-length-3
-    returns-4)
+within-limits-spec = tie.close (tie.spec returns measure-requires (search needs) (search needs) add-if2 same-length returns-2 (search needs)
+    same-length-2 returns-3 same-length-3 returns-4)

@@ -24,12 +24,6 @@ put-templates-requires c κs =
     let m = ap length (put-field .ensures .1) ∙ put-length _ _ _ in
     (pre .0, pre .1, omega (arith, m, pre .2), templates-in (pre .3) _ _ (omega (arith, put-field .ensures .0)) (put-field .ensures .1))
 
-same-length : tie.Need-same-length
-same-length c = search needs
-
-same-length-2 : tie.Need-same-length-2
-same-length-2 c = search needs
-
 returns : tie.Need-returns
 returns c =
     let put-field = c .before .before .before .before .before .before .before .before .before .put-field in
@@ -37,12 +31,4 @@ returns c =
     λ w. file-put w _ _ (omega (arith, put-field .ensures .0)) (put-field .ensures .1) _ _ (put-templates .ensures)
 
 pub write-tabulated-spec : {M : Type 1} → statement M
-write-tabulated-spec =
-    tie.close
-    (tie.spec
-    cast-put-field
-    put-field-requires
-    put-templates-requires
-    same-length
-    same-length-2
-    returns)
+write-tabulated-spec = tie.close (tie.spec cast-put-field put-field-requires put-templates-requires (search needs) (search needs) returns)

@@ -6,15 +6,6 @@ use Rattle.text.proofs.Decimal.{decimal-short, decimal-spelled}
 use Rattle.text.proofs.put_decimal.Statement.{statement}
 use Rattle.text.proofs.put_decimal.Tie as tie
 
-decimal-requires : tie.Need-decimal-requires
-decimal-requires c κs = search needs
-
-array-share-prefix-text : tie.Need-array-share-prefix-text
-array-share-prefix-text c = search needs
-
-slice-aggregate-put-bytes : tie.Need-slice-aggregate-put-bytes
-slice-aggregate-put-bytes c = search needs
-
 put-bytes-requires : tie.Need-put-bytes-requires
 put-bytes-requires c κs =
     let fits = c .before .before .before .before .before .fits in
@@ -22,9 +13,6 @@ put-bytes-requires c κs =
     let d = c .before .before .decimal in
     let s = decimal-short (d .result) (args .n) (fits .n .fits) (d .ensures .1 .0) in
     omega arith
-
-same-length : tie.Need-same-length
-same-length c = search needs
 
 returns : tie.Need-returns
 returns c =
@@ -34,12 +22,4 @@ returns c =
     (rw (d .ensures .1 .1 ∙ decimal-spelled _ _ (d .ensures .1 .0)) at (c .before .before .put-bytes .ensures), omega arith)
 
 pub put-decimal-spec : {M : Type 1} → statement M
-put-decimal-spec =
-    tie.close
-    (tie.spec
-    decimal-requires
-    array-share-prefix-text
-    slice-aggregate-put-bytes
-    put-bytes-requires
-    same-length
-    returns)
+put-decimal-spec = tie.close (tie.spec (search needs) (search needs) (search needs) put-bytes-requires (search needs) returns)

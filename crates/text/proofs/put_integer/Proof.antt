@@ -9,39 +9,15 @@ use Rattle.text.specs.laws.Laws.{put-then}
 use Rattle.text.proofs.put_integer.Statement.{statement}
 use Rattle.text.proofs.put_integer.Tie as tie
 
-put-decimal-requires : tie.Need-put-decimal-requires
-put-decimal-requires c κs = search needs
-
-same-length : tie.Need-same-length
-same-length c = search needs
-
 returns : tie.Need-returns
 unfolding integer
 returns c = (simp (lt-ltb _ _ (c .before .before .before .before .if1 .taken)) (c .before .before .put-decimal .ensures .0), omega arith)
-
-put-byte-requires : tie.Need-put-byte-requires
-put-byte-requires c κs = search needs
-
-sub-put-decimal : tie.Need-sub-put-decimal
-sub-put-decimal c = search needs
-
-put-decimal-requires-2 : tie.Need-put-decimal-requires-2
-put-decimal-requires-2 c κs = search needs
-
-same-length-2 : tie.Need-same-length-2
-same-length-2 c = search needs
 
 returns-2 : tie.Need-returns-2
 unfolding integer
 returns-2 c =
     let sign = c .before .before .before .before .before .before .before in
     (simp (le-ltb _ _ (sign .before .before .if1 .left)) (put-then (sign .put-byte .ensures) (c .before .before .put-decimal2 .ensures .0)), omega arith)
-
-put-decimal-requires-3 : tie.Need-put-decimal-requires-3
-put-decimal-requires-3 c κs = search needs
-
-same-length-3 : tie.Need-same-length-3
-same-length-3 c = search needs
 
 returns-3 : tie.Need-returns-3
 unfolding integer
@@ -52,17 +28,5 @@ returns-3 c =
     (simp (le-ltb _ _ (sign .before .before .if1 .left), none) (put-then (sign .put-byte .ensures) (c .before .before .put-decimal3 .ensures .0)), omega arith)
 
 pub put-integer-spec : {M : Type 1} → statement M
-put-integer-spec =
-    tie.close
-    (tie.spec
-    put-decimal-requires
-    same-length
-    returns
-    put-byte-requires
-    sub-put-decimal
-    put-decimal-requires-2
-    same-length-2
-    returns-2
-    put-decimal-requires-3
-    same-length-3
-    returns-3)
+put-integer-spec = tie.close (tie.spec (search needs) (search needs) returns (search needs) (search needs) (search needs) (search needs) returns-2
+    (search needs) (search needs) returns-3)

@@ -6,9 +6,6 @@ use Rattle.text.specs.laws.Laws.{put-line, put-length}
 use Rattle.text.proofs.put_numbers.Statement.{statement}
 use Rattle.text.proofs.put_numbers.Tie as tie
 
-put-word-requires : tie.Need-put-word-requires
-put-word-requires c κs = search needs
-
 put-number-requires : tie.Need-put-number-requires
 put-number-requires c κs =
     let put-word = c .before .before .before .put-word in
@@ -20,9 +17,6 @@ put-number-requires-2 c κs =
     let put-number = c .before .before .before .put-number in
     omega (arith, simp length-append at (put-word .ensures .next), put-length (put-word .ensures), put-length (put-number .ensures .0))
 
-same-length : tie.Need-same-length
-same-length c = search needs
-
 returns : tie.Need-returns
 returns c =
     let put-word = c .before .before .before .before .before .before .before .before .before .before .put-word in
@@ -32,6 +26,4 @@ returns c =
     )
 
 pub put-numbers-spec : {M : Type 1} → statement M
-put-numbers-spec =
-    tie.close
-    (tie.spec put-word-requires put-number-requires put-number-requires-2 same-length returns)
+put-numbers-spec = tie.close (tie.spec (search needs) put-number-requires put-number-requires-2 (search needs) returns)

@@ -4,17 +4,8 @@ use Rattle.text.specs.laws.Laws.{put-then}
 use Rattle.text.proofs.put_word.Statement.{statement}
 use Rattle.text.proofs.put_word.Tie as tie
 
-put-bytes-requires : tie.Need-put-bytes-requires
-put-bytes-requires c κs = search needs
-
-put-byte-requires : tie.Need-put-byte-requires
-put-byte-requires c κs = search needs
-
-same-length : tie.Need-same-length
-same-length c = search needs
-
 returns : tie.Need-returns
 returns c = put-then (c .before .before .before .before .before .before .put-bytes .ensures) (c .before .before .put-byte .ensures)
 
 pub put-word-spec : {M : Type 1} → statement M
-put-word-spec = tie.close (tie.spec put-bytes-requires put-byte-requires same-length returns)
+put-word-spec = tie.close (tie.spec (search needs) (search needs) (search needs) returns)

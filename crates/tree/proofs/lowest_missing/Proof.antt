@@ -20,12 +20,6 @@ loop-holds c = (omega arith, refl)
 returns : tie.Need-returns Inv-loop μ-loop
 returns c = sym (c .before .before .loop .inv .1 ∙ missing-here _ _ _ (c .before .loop-test .taken) (c .if1 .taken))
 
-add-own : tie.Need-add-own Inv-loop μ-loop
-add-own c = search needs
-
-loop-less : tie.Need-loop-less Inv-loop μ-loop
-loop-less c = search needs
-
 loop-again : tie.Need-loop-again Inv-loop μ-loop
 loop-again c = (omega arith, c .before .before .loop .inv .1 ∙ missing-on _ _ _ (c .before .loop-test .taken) (c .if1 .left))
 
@@ -33,5 +27,4 @@ returns-2 : tie.Need-returns-2 Inv-loop μ-loop
 returns-2 c = sym (c .before .loop .inv .1 ∙ missing-none _ _ _ (c .loop-test .left))
 
 pub lowest-missing-spec : {M : Type 1} → statement M
-lowest-missing-spec =
-    tie.close (tie.spec Inv-loop μ-loop loop-holds returns add-own loop-less loop-again returns-2)
+lowest-missing-spec = tie.close (tie.spec Inv-loop μ-loop loop-holds returns (search needs) (search needs) loop-again returns-2)

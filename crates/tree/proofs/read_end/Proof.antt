@@ -6,21 +6,6 @@ use borrow.Author.Needs.{needs}
 use Rattle.tree.proofs.read_end.Statement.{statement}
 use Rattle.tree.proofs.read_end.Tie as tie
 
-to-byte-requires : tie.Need-to-byte-requires
-to-byte-requires c κs = search needs
-
-zero-bits-requires : tie.Need-zero-bits-requires
-zero-bits-requires c κs = search needs
-
-enum-known-past : tie.Need-enum-known-past
-enum-known-past c = search needs
-
-nothing-more-requires : tie.Need-nothing-more-requires
-nothing-more-requires c κs = search needs
-
-enum-known-place : tie.Need-enum-known-place
-enum-known-place c = search needs
-
 returns : tie.Need-returns
 returns c =
     let to-byte = c .before .before .before .before .before .to-byte in
@@ -36,13 +21,4 @@ returns-2 c =
     sym (ap (paddingTold {A = Unit {0}}) (end-set (tt {0}) _ _ (sym (rw (to-byte .ensures) at (zero-bits .ensures)) ∙ c .before .place .given .1)))
 
 pub read-end-spec : {M : Type 1} → statement M
-read-end-spec =
-    tie.close
-    (tie.spec
-    to-byte-requires
-    zero-bits-requires
-    enum-known-past
-    nothing-more-requires
-    enum-known-place
-    returns
-    returns-2)
+read-end-spec = tie.close (tie.spec (search needs) (search needs) (search needs) (search needs) (search needs) returns returns-2)

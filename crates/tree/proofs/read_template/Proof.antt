@@ -12,20 +12,8 @@ use borrow.Author.Needs.{needs}
 use Rattle.tree.proofs.read_template.Statement.{statement}
 use Rattle.tree.proofs.read_template.Tie as tie
 
-read-field-requires : tie.Need-read-field-requires
-read-field-requires c κs = search needs
-
-enum-known-n : tie.Need-enum-known-n
-enum-known-n c = search needs
-
-enum-told : tie.Need-enum-told
-enum-told c = search needs
-
 returns : tie.Need-returns
 returns c = also-by (count-cut _ _ _ _ _ (field-cut _ _ _ (c .before .before .read-field .ensures) (c .enum-told .given .1))) (template-unmarked _ _ _ _)
-
-cast-read-entries : tie.Need-cast-read-entries
-cast-read-entries c = search needs
 
 read-entries-requires : tie.Need-read-entries-requires
 read-entries-requires c κs =
@@ -33,29 +21,11 @@ read-entries-requires c κs =
     let read-field = c .before .before .before .before .read-field in
     (omega arith, (omega (arith, p .1 .1 .1 .0, p .1 .0), (p .1 .1 .0, field-below _ _ _ (read-field .ensures) (c .before .before .n .given .1))))
 
-enum-known-start : tie.Need-enum-known-start
-enum-known-start c = search needs
-
-to-slot-requires : tie.Need-to-slot-requires
-to-slot-requires c κs = search needs
-
-mul-table : tie.Need-mul-table
-mul-table c = search needs
-
-mul-table-2 : tie.Need-mul-table-2
-mul-table-2 c = search needs
-
-slice-write-table : tie.Need-slice-write-table
-slice-write-table c = search needs
-
 read-list-requires : tie.Need-read-list-requires
 read-list-requires c κs =
     let p = c .before .before .before .before .before .before .before .before .before .before .before .before .before .before .before .before .before .pre in
     let read-entries = c .before .before .before .before .before .before .before .before .read-entries in
     (p .0, simp length-set (omega (arith, read-entries .kept .1 .0, p .1 .1 .1 .0, p .1 .0)), omega (arith, p .1 .0, p .1 .1 .0))
-
-enum-known-past : tie.Need-enum-known-past
-enum-known-past c = search needs
 
 since-requires : tie.Need-since-requires
 since-requires c κs =
@@ -80,15 +50,6 @@ report-by-requires c κs =
     let p = pre .0 in
     (listed-size _ _ _ _ _ _ _ p (sym (read-list .ensures .0) ∙ past .given .1), omega (arith, p, c .since .ensures, list-bits _ _ _ _ _ (l .1)))
 
-enum-known-no : tie.Need-enum-known-no
-enum-known-no c = search needs
-
-enum-known-no-2 : tie.Need-enum-known-no-2
-enum-known-no-2 c = search needs
-
-same-length : tie.Need-same-length
-same-length c = search needs
-
 returns-2 : tie.Need-returns-2
 returns-2 c =
     let p = c .before .before .before .before .before .before .before .before .before .before .before .before .before .before .before .before .before
@@ -112,9 +73,6 @@ returns-2 c =
     (p .1 .0) (p .1 .1 .1) (l .1) (sym (l .2)) (rw (c .before .since .ensures) at (c .report-by .ensures)))
     (template-marked _ _ _ _ _ _ _ (field-read _ _ _ field number) (e .is) (l .1) (read-list .ensures .1)))
 
-same-length-2 : tie.Need-same-length-2
-same-length-2 c = search needs
-
 returns-3 : tie.Need-returns-3
 returns-3 c =
     let read-field = c .before .before .before .before .before .before .before .before .before .before .before .before .before .before .before .before
@@ -129,9 +87,6 @@ returns-3 c =
     rw slot (also-by (list-stop _ _ _ _ _ (field-read _ _ _ (read-field .ensures) (n .given .1)) (read-entries .ensures .1) (e .is)
     (listed-refused _ _ _ _ _ (sym (rw slot at (read-list .ensures .0)) ∙ c .before .no .given .1))) (template-unmarked _ _ _ _))
 
-same-length-3 : tie.Need-same-length-3
-same-length-3 c = search needs
-
 returns-4 : tie.Need-returns-4
 returns-4 c =
     let read-field = c .before .before .before .before .before .before .before .before .before .before .read-field in
@@ -140,38 +95,8 @@ returns-4 c =
     also-by (entries-stop _ _ _ _ _ (field-read _ _ _ (read-field .ensures) (n .given .1)) (read-entries .ensures .1)
     (entries-refused _ (sym (read-entries .ensures .0) ∙ c .before .no2 .given .1))) (template-unmarked _ _ _ _)
 
-same-length-4 : tie.Need-same-length-4
-same-length-4 c = search needs
-
-same-length-5 : tie.Need-same-length-5
-same-length-5 c = search needs
-
 pub read-template-spec : {M : Type 1} → statement M
-read-template-spec =
-    tie.close
-    (tie.spec
-    read-field-requires
-    enum-known-n
-    enum-told
-    returns
-    cast-read-entries
-    read-entries-requires
-    enum-known-start
-    to-slot-requires
-    mul-table
-    mul-table-2
-    slice-write-table
-    read-list-requires
-    enum-known-past
-    since-requires
-    report-by-requires
-    enum-known-no
-    enum-known-no-2
-    same-length
-    same-length-2
-    returns-2
-    same-length-3
-    same-length-4
-    returns-3
-    same-length-5
-    returns-4)
+read-template-spec = tie.close (tie.spec (λ c κs. search needs) (λ c. search needs) (λ c. search needs) returns (λ c. search needs)
+    read-entries-requires (λ c. search needs) (λ c κs. search needs) (λ c. search needs) (λ c. search needs) (λ c. search needs) read-list-requires
+    (λ c. search needs) since-requires report-by-requires (λ c. search needs) (λ c. search needs) (λ c. search needs) (λ c. search needs) returns-2
+    (λ c. search needs) (λ c. search needs) returns-3 (λ c. search needs) returns-4)

@@ -37,12 +37,6 @@ read-template-requires c κs =
     let i = loop .inv in
     (k .0, (omega arith, (k .1 .0, i .1)))
 
-enum-known-past : tie.Need-enum-known-past Inv-loop μ-loop
-enum-known-past c = search needs
-
-cast-summary-after : tie.Need-cast-summary-after Inv-loop μ-loop
-cast-summary-after c = search needs
-
 summary-after-requires : tie.Need-summary-after-requires Inv-loop μ-loop
 summary-after-requires c κs =
     let k = c .before .before .before .before .before .before .before .before .before .before .before .before .before .before .before .pre in
@@ -52,12 +46,6 @@ summary-after-requires c κs =
     let small = next-small _ _ _ _ _ (k .1 .0) (read-template .ensures .0, read-template .ensures .1 .0) (c .before .past .given .1) (k .0) in
     (small, omega arith)
 
-enum-known-no : tie.Need-enum-known-no Inv-loop μ-loop
-enum-known-no c = search needs
-
-same-length : tie.Need-same-length Inv-loop μ-loop
-same-length c = search needs
-
 returns : tie.Need-returns Inv-loop μ-loop
 returns c =
     let loop = c .before .before .before .before .before .before .before .before .before .before .before .loop in
@@ -66,12 +54,6 @@ returns c =
     let i = loop .inv in
     let d = templates-stop _ _ _ _ _ _ (loop-test .taken) (read-template .ensures .0, read-template .ensures .1 .0) (c .before .no .given .1) in
     also-by (d .0 ∙ sym (i .3), d .1 ∙ sym (i .4)) (templates-unmarked _ _ _ _)
-
-add-own : tie.Need-add-own Inv-loop μ-loop
-add-own c = search needs
-
-loop-less : tie.Need-loop-less Inv-loop μ-loop
-loop-less c = search needs
 
 loop-again : tie.Need-loop-again Inv-loop μ-loop
 unfolding summaryAfter
@@ -96,43 +78,13 @@ loop-again c =
       read-template .kept .1 .0 ∙ i .7,
     )
 
-same-length-2 : tie.Need-same-length-2 Inv-loop μ-loop
-same-length-2 c = search needs
-
 returns-2 : tie.Need-returns-2 Inv-loop μ-loop
 returns-2 c =
     let i = c .before .loop .inv in
     let d = templates-none _ _ _ _ _ _ (c .loop-test .left) in
     (d .0 ∙ sym (i .3), (d .1 ∙ sym (i .4), marking-done _ _ _ _ _ (i .5) (c .loop-test .left)))
 
-cast-t14 : tie.Need-cast-t14 Inv-loop μ-loop
-cast-t14 c = search needs
-
-same-length-3 : tie.Need-same-length-3 Inv-loop μ-loop
-same-length-3 c = search needs
-
-same-length-4 : tie.Need-same-length-4 Inv-loop μ-loop
-same-length-4 c = search needs
-
 pub read-templates-spec : {M : Type 1} → statement M
-read-templates-spec =
-    tie.close
-    (tie.spec
-    Inv-loop
-    μ-loop
-    cast-t14
-    loop-holds
-    read-template-requires
-    enum-known-past
-    cast-summary-after
-    summary-after-requires
-    enum-known-no
-    same-length
-    same-length-2
-    returns
-    add-own
-    loop-less
-    loop-again
-    same-length-3
-    same-length-4
+read-templates-spec = tie.close (tie.spec Inv-loop μ-loop (search needs) loop-holds read-template-requires (search needs) (search needs)
+    summary-after-requires (search needs) (search needs) (search needs) returns (search needs) (search needs) loop-again (search needs) (search needs)
     returns-2)

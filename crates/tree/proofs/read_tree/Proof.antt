@@ -12,15 +12,6 @@ use Rattle.tree.proofs.read_tree.Tie as tie
 returns : tie.Need-returns
 returns c = also-by (too-long _ _ (c .if1 .taken)) (tree-unmarked _ _ _ _)
 
-read-field-requires : tie.Need-read-field-requires
-read-field-requires c κs = search needs
-
-enum-known-count : tie.Need-enum-known-count
-enum-known-count c = search needs
-
-enum-told : tie.Need-enum-told
-enum-told c = search needs
-
 returns-2 : tie.Need-returns-2
 returns-2 c =
     let if1 = c .before .before .before .if1 in
@@ -39,9 +30,6 @@ returns-4 c =
     let count = c .before .before .before .count in
     also-by (count-many _ _ (if1 .left) (field-read _ _ _ (read-field .ensures) (count .given .1)) (c .if3 .taken)) (tree-unmarked _ _ _ _)
 
-cast-read-templates : tie.Need-cast-read-templates
-cast-read-templates c = search needs
-
 read-templates-requires : tie.Need-read-templates-requires
 read-templates-requires c κs =
     let z = c .before .before .before .before .before .before .before .before .before .before .before .before .pre in
@@ -52,9 +40,6 @@ read-templates-requires c κs =
     let short = if1 .left in
     let rows = room-rows _ (omega (arith, short)) (z .room) (field-read _ _ _ (read-field .ensures) (count .given .1)) (if3 .left) in
     (if1 .left, (if3 .left, rw (z .zero) (zeros-unfilled _ _ rows)))
-
-enum-known-past : tie.Need-enum-known-past
-enum-known-past c = search needs
 
 read-end-requires : tie.Need-read-end-requires
 read-end-requires c κs =
@@ -68,18 +53,6 @@ read-end-requires c κs =
       file-within _ _ (if1 .left) (field-read _ _ _ (read-field .ensures) (count .given .1)) (if2 .left) (if3 .left) (read-templates .ensures .0)
           (read-templates .ensures .1 .0) (c .before .past .given .1),
     )
-
-enum-told-2 : tie.Need-enum-told-2
-enum-told-2 c = search needs
-
-enum-known-place : tie.Need-enum-known-place
-enum-known-place c = search needs
-
-enum-known-no : tie.Need-enum-known-no
-enum-known-no c = search needs
-
-same-length : tie.Need-same-length
-same-length c = search needs
 
 returns-5 : tie.Need-returns-5
 returns-5 c =
@@ -95,9 +68,6 @@ returns-5 c =
     also (file-read _ _ (if1 .left) (field-read _ _ _ (read-field .ensures) (count .given .1)) (if2 .left) (if3 .left) (read-templates .ensures .0)
     (read-templates .ensures .1 .0) (past .given .1) (c .before .before .read-end .ensures) (c .enum-told2 .given .1))
     (tree-marked _ _ _ _ (field-read _ _ _ (read-field .ensures) (count .given .1)) (read-templates .ensures .1 .1))
-
-same-length-2 : tie.Need-same-length-2
-same-length-2 c = search needs
 
 returns-6 : tie.Need-returns-6
 returns-6 c =
@@ -116,9 +86,6 @@ returns-6 c =
     (read-templates .ensures .1 .0) (past .given .1) (read-end .ensures) (c .before .place .given .1))
     (tree-marked _ _ _ _ (field-read _ _ _ (read-field .ensures) (count .given .1)) (read-templates .ensures .1 .1))
 
-same-length-3 : tie.Need-same-length-3
-same-length-3 c = search needs
-
 returns-7 : tie.Need-returns-7
 returns-7 c =
     let if1 = c .before .before .before .before .before .before .before .before .before .before .before .before .before .before .before .before .if1 in
@@ -131,39 +98,7 @@ returns-7 c =
     (read-templates .ensures .1 .0) (c .before .no .given .1))
     (tree-marked _ _ _ _ (field-read _ _ _ (read-field .ensures) (count .given .1)) (read-templates .ensures .1 .1))
 
-same-length-4 : tie.Need-same-length-4
-same-length-4 c = search needs
-
-same-length-5 : tie.Need-same-length-5
-same-length-5 c = search needs
-
-same-length-6 : tie.Need-same-length-6
-same-length-6 c = search needs
-
 pub read-tree-spec : {M : Type 1} → statement M
-read-tree-spec =
-    tie.close
-    (tie.spec
-    returns
-    read-field-requires
-    enum-known-count
-    enum-told
-    returns-2
-    returns-3
-    returns-4
-    cast-read-templates
-    read-templates-requires
-    enum-known-past
-    read-end-requires
-    enum-told-2
-    enum-known-place
-    enum-known-no
-    same-length
-    same-length-2
-    returns-5
-    same-length-3
-    same-length-4
-    returns-6
-    same-length-5
-    same-length-6
-    returns-7)
+read-tree-spec = tie.close (tie.spec returns (search needs) (search needs) (search needs) returns-2 returns-3 returns-4 (search needs)
+    read-templates-requires (search needs) read-end-requires (search needs) (search needs) (search needs) (search needs) (search needs) returns-5
+    (search needs) (search needs) returns-6 (search needs) (search needs) returns-7)

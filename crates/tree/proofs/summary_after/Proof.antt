@@ -6,18 +6,6 @@ use borrow.Author.Needs.{needs}
 use Rattle.tree.proofs.summary_after.Statement.{statement}
 use Rattle.tree.proofs.summary_after.Tie as tie
 
-lower-requires : tie.Need-lower-requires
-lower-requires c κs = search needs
-
-lower-requires-2 : tie.Need-lower-requires-2
-lower-requires-2 c κs = search needs
-
-lower-requires-3 : tie.Need-lower-requires-3
-lower-requires-3 c κs = search needs
-
-add-t7 : tie.Need-add-t7
-add-t7 c = search needs
-
 returns : tie.Need-returns
 unfolding summaryAfter unite
 returns c =
@@ -28,5 +16,4 @@ returns c =
     ) refl
 
 pub summary-after-spec : {M : Type 1} → statement M
-summary-after-spec =
-    tie.close (tie.spec lower-requires lower-requires-2 lower-requires-3 add-t7 returns)
+summary-after-spec = tie.close (tie.spec (search needs) (search needs) (search needs) (search needs) returns)

@@ -4,9 +4,6 @@ use native.Mathlib.Omega.{arith}
 use Rattle.tree.proofs.tier_of.Statement.{statement}
 use Rattle.tree.proofs.tier_of.Tie as tie
 
-count-of-requires : tie.Need-count-of-requires
-count-of-requires c κs = search needs
-
 returns : tie.Need-returns
 returns c = (omega arith, (λ e. absurd (omega (arith, e)), λ e. absurd (omega (arith, e)), λ e. absurd (omega (arith, e))))
 
@@ -48,4 +45,4 @@ returns-5 c =
     )
 
 pub tier-of-spec : {M : Type 1} → statement M
-tier-of-spec = tie.close (tie.spec count-of-requires returns returns-2 returns-3 returns-4 returns-5)
+tier-of-spec = tie.close (tie.spec (search needs) returns returns-2 returns-3 returns-4 returns-5)

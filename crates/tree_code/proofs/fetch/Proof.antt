@@ -18,18 +18,12 @@ Inv-loop file links here₀ left₀ here left = (settled file links 17 (here₀ 
 abbrev μ-loop : tie.MeasureT-loop
 μ-loop file links here₀ left₀ here left = left
 
-is-first-requires : tie.Need-is-first-requires Inv-loop μ-loop
-is-first-requires c κs = search needs
-
 returns : tie.Need-returns Inv-loop μ-loop
 unfolding Places
 returns c = (λ table t. nowhere-fetched _ _ table t _ (eqb-true _ 0 (sym (c .before .is-first .ensures) ∙ c .if1 .taken)), tt)
 
 loop-holds : tie.Need-loop-holds Inv-loop μ-loop
 loop-holds c = (refl, omega arith)
-
-within-requires : tie.Need-within-requires Inv-loop μ-loop
-within-requires c κs = search needs
 
 line-at-requires : tie.Need-line-at-requires Inv-loop μ-loop
 line-at-requires c κs =
@@ -74,12 +68,6 @@ returns-3 c =
       tt,
     )
 
-link-at-requires : tie.Need-link-at-requires Inv-loop μ-loop
-link-at-requires c κs = search needs
-
-sub-left : tie.Need-sub-left Inv-loop μ-loop
-sub-left c = search needs
-
 loop-less : tie.Need-loop-less Inv-loop μ-loop
 loop-less c = omega arith
 
@@ -105,21 +93,5 @@ returns-4 c =
     )
 
 pub fetch-spec : {M : Type 1} → statement M
-fetch-spec =
-    tie.close
-    (tie.spec
-    Inv-loop
-    μ-loop
-    is-first-requires
-    returns
-    loop-holds
-    within-requires
-    line-at-requires
-    fetch-line-requires
-    returns-2
-    returns-3
-    link-at-requires
-    sub-left
-    loop-less
-    loop-again
-    returns-4)
+fetch-spec = tie.close (tie.spec Inv-loop μ-loop (search needs) returns loop-holds (search needs) line-at-requires fetch-line-requires returns-2
+    returns-3 (search needs) (search needs) loop-less loop-again returns-4)

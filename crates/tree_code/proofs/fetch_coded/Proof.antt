@@ -11,26 +11,17 @@ use borrow.Author.Needs.{needs}
 use Rattle.tree_code.proofs.fetch_coded.Statement.{statement}
 use Rattle.tree_code.proofs.fetch_coded.Tie as tie
 
-operand-count-requires : tie.Need-operand-count-requires
-operand-count-requires c κs = search needs
-
 mul-bits : tie.Need-mul-bits
 mul-bits c = omega (arith, c .operand-count .ensures .1)
 
 add-bits : tie.Need-add-bits
 add-bits c = omega (arith, c .operand-count .ensures .1)
 
-within-requires : tie.Need-within-requires
-within-requires c κs = search needs
-
 past-requires : tie.Need-past-requires
 past-requires c κs =
     let p = c .before .before .before .before .before in
     let fits = lies (p .args .file .now) (p .args .at .0) (5 + 8 * c .before .before .operand-count .result) (c .before .within .ensures) (c .if1 .taken) in
     omega (arith, fits, p .pre .0)
-
-cast-first : tie.Need-cast-first
-cast-first c = search needs
 
 fetch-transfer-requires : tie.Need-fetch-transfer-requires
 fetch-transfer-requires c κs =
@@ -52,12 +43,6 @@ returns c =
       c .fetch-transfer .ensures .1,
     )
 
-cast-t15 : tie.Need-cast-t15
-cast-t15 c = search needs
-
-cast-t16 : tie.Need-cast-t16
-cast-t16 c = search needs
-
 returns-2 : tie.Need-returns-2
 unfolding fetchedAs number formOf Places
 returns-2 c =
@@ -78,18 +63,5 @@ returns-3 c =
     (λ table t. line-cut _ (p .args .at .0) _ (p .pre .2) _ table t _ _ (p .pre .4) (c .before .before .operand-count .ensures .0) cut, tt)
 
 pub fetch-coded-spec : {M : Type 1} → statement M
-fetch-coded-spec =
-    tie.close
-    (tie.spec
-    operand-count-requires
-    mul-bits
-    add-bits
-    within-requires
-    past-requires
-    cast-first
-    fetch-transfer-requires
-    returns
-    cast-t15
-    cast-t16
-    returns-2
-    returns-3)
+fetch-coded-spec = tie.close (tie.spec (search needs) mul-bits add-bits (search needs) past-requires (search needs) fetch-transfer-requires returns
+    (search needs) (search needs) returns-2 returns-3)

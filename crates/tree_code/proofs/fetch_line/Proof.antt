@@ -3,75 +3,6 @@ use borrow.Author.Needs.{needs}
 use Rattle.tree_code.proofs.fetch_line.Statement.{statement}
 use Rattle.tree_code.proofs.fetch_line.Tie as tie
 
-fetch-coded-requires : tie.Need-fetch-coded-requires
-fetch-coded-requires c κs = search needs
-
-fetch-coded-requires-2 : tie.Need-fetch-coded-requires-2
-fetch-coded-requires-2 c κs = search needs
-
-fetch-coded-requires-3 : tie.Need-fetch-coded-requires-3
-fetch-coded-requires-3 c κs = search needs
-
-fetch-coded-requires-4 : tie.Need-fetch-coded-requires-4
-fetch-coded-requires-4 c κs = search needs
-
-fetch-coded-requires-5 : tie.Need-fetch-coded-requires-5
-fetch-coded-requires-5 c κs = search needs
-
-fetch-coded-requires-6 : tie.Need-fetch-coded-requires-6
-fetch-coded-requires-6 c κs = search needs
-
-fetch-coded-requires-7 : tie.Need-fetch-coded-requires-7
-fetch-coded-requires-7 c κs = search needs
-
-fetch-coded-requires-8 : tie.Need-fetch-coded-requires-8
-fetch-coded-requires-8 c κs = search needs
-
-fetch-coded-requires-9 : tie.Need-fetch-coded-requires-9
-fetch-coded-requires-9 c κs = search needs
-
-fetch-coded-requires-10 : tie.Need-fetch-coded-requires-10
-fetch-coded-requires-10 c κs = search needs
-
-fetch-coded-requires-11 : tie.Need-fetch-coded-requires-11
-fetch-coded-requires-11 c κs = search needs
-
-fetch-coded-requires-12 : tie.Need-fetch-coded-requires-12
-fetch-coded-requires-12 c κs = search needs
-
-fetch-coded-requires-13 : tie.Need-fetch-coded-requires-13
-fetch-coded-requires-13 c κs = search needs
-
-fetch-coded-requires-14 : tie.Need-fetch-coded-requires-14
-fetch-coded-requires-14 c κs = search needs
-
-fetch-coded-requires-15 : tie.Need-fetch-coded-requires-15
-fetch-coded-requires-15 c κs = search needs
-
-fetch-coded-requires-16 : tie.Need-fetch-coded-requires-16
-fetch-coded-requires-16 c κs = search needs
-
-fetch-coded-requires-17 : tie.Need-fetch-coded-requires-17
-fetch-coded-requires-17 c κs = search needs
-
-fetch-coded-requires-18 : tie.Need-fetch-coded-requires-18
-fetch-coded-requires-18 c κs = search needs
-
-fetch-coded-requires-19 : tie.Need-fetch-coded-requires-19
-fetch-coded-requires-19 c κs = search needs
-
-fetch-coded-requires-20 : tie.Need-fetch-coded-requires-20
-fetch-coded-requires-20 c κs = search needs
-
-fetch-coded-requires-21 : tie.Need-fetch-coded-requires-21
-fetch-coded-requires-21 c κs = search needs
-
-fetch-coded-requires-22 : tie.Need-fetch-coded-requires-22
-fetch-coded-requires-22 c κs = search needs
-
-fetch-coded-requires-23 : tie.Need-fetch-coded-requires-23
-fetch-coded-requires-23 c κs = search needs
-
 returns : tie.Need-returns
 returns c = c .fetch-coded .ensures
 
@@ -142,52 +73,8 @@ returns-23 : tie.Need-returns-23
 returns-23 c = c .fetch-coded23 .ensures
 
 pub fetch-line-spec : {M : Type 1} → statement M
-fetch-line-spec =
-    tie.close
-    (tie.spec
-    fetch-coded-requires
-    fetch-coded-requires-2
-    fetch-coded-requires-3
-    fetch-coded-requires-4
-    fetch-coded-requires-5
-    fetch-coded-requires-6
-    fetch-coded-requires-7
-    fetch-coded-requires-8
-    fetch-coded-requires-9
-    fetch-coded-requires-10
-    fetch-coded-requires-11
-    fetch-coded-requires-12
-    fetch-coded-requires-13
-    fetch-coded-requires-14
-    fetch-coded-requires-15
-    fetch-coded-requires-16
-    fetch-coded-requires-17
-    fetch-coded-requires-18
-    fetch-coded-requires-19
-    fetch-coded-requires-20
-    fetch-coded-requires-21
-    fetch-coded-requires-22
-    fetch-coded-requires-23
-    returns
-    returns-2
-    returns-3
-    returns-4
-    returns-5
-    returns-6
-    returns-7
-    returns-8
-    returns-9
-    returns-10
-    returns-11
-    returns-12
-    returns-13
-    returns-14
-    returns-15
-    returns-16
-    returns-17
-    returns-18
-    returns-19
-    returns-20
-    returns-21
-    returns-22
-    returns-23)
+fetch-line-spec = tie.close (tie.spec (search needs) (search needs) (search needs) (search needs) (search needs) (search needs) (search needs)
+    (search needs) (search needs) (search needs) (search needs) (search needs) (search needs) (search needs) (search needs) (search needs)
+    (search needs) (search needs) (search needs) (search needs) (search needs) (search needs) (search needs) returns returns-2 returns-3 returns-4
+    returns-5 returns-6 returns-7 returns-8 returns-9 returns-10 returns-11 returns-12 returns-13 returns-14 returns-15 returns-16 returns-17
+    returns-18 returns-19 returns-20 returns-21 returns-22 returns-23)

@@ -7,12 +7,6 @@ use borrow.Author.Needs.{needs}
 use Rattle.tree_code.proofs.fetch_transfer.Statement.{statement}
 use Rattle.tree_code.proofs.fetch_transfer.Tie as tie
 
-link-at-requires : tie.Need-link-at-requires
-link-at-requires c κs = search needs
-
-link-at-requires-2 : tie.Need-link-at-requires-2
-link-at-requires-2 c κs = search needs
-
 returns : tie.Need-returns
 unfolding fetchedAs transferAs number formOf Places
 returns c = (λ slot. rw (c .match .keys1) refl, tt)
@@ -35,6 +29,4 @@ returns-5 c =
     let n = c .match .rest in (λ slot. rw (ne-eqb _ 1 (n .0 .0 .0 .1), ne-eqb _ 2 (n .0 .0 .1), ne-eqb _ 3 (n .0 .1), ne-eqb _ 4 (n .1)) refl, tt)
 
 pub fetch-transfer-spec : {M : Type 1} → statement M
-fetch-transfer-spec =
-    tie.close
-    (tie.spec link-at-requires link-at-requires-2 returns returns-2 returns-3 returns-4 returns-5)
+fetch-transfer-spec = tie.close (tie.spec (search needs) (search needs) returns returns-2 returns-3 returns-4 returns-5)

@@ -28,9 +28,6 @@ run-tier-below t = and 5 run-tier-kinds.ps (falls 5 run-tier-kinds.ps _<_ μ-run
 abbrev calls : ℕ → run-tier-lts.Claims
 calls t = (tier-of-reads.Asked, tier-of-reads.Learnt, run-tier-below t, run-tier.Post, run-small-reads.Asked, run-small-reads.Learnt, run-middle-reads.Asked, run-middle-reads.Learnt, run-many-reads.Asked, run-many-reads.Learnt, run-large-reads.Asked, run-large-reads.Learnt)
 
-run-tier-tier-of-requires : (t : ℕ) → run-tier-lts.Need-tier-of-requires (calls t) (run-tier-at t) run-tier.Post
-run-tier-tier-of-requires t c κs = search needs
-
 run-tier-run-tier-requires : (t : ℕ) → run-tier-lts.Need-run-tier-requires (calls t) (run-tier-at t) run-tier.Post
 run-tier-run-tier-requires t c κs =
     let p = c .before .before .before .before .before .before .before .before .before .before .before .pre in
@@ -58,111 +55,10 @@ run-tier-run-many-requires t c κs =
 run-tier-run-large-requires : (t : ℕ) → run-tier-lts.Need-run-large-requires (calls t) (run-tier-at t) run-tier.Post
 run-tier-run-large-requires t c κs = c .before .before .before .before .before .before .before .before .before .before .pre .1 .0
 
-run-tier-same-length : (t : ℕ) → run-tier-lts.Need-same-length (calls t) (run-tier-at t) run-tier.Post
-run-tier-same-length t c = search needs
-
-run-tier-same-length-2 : (t : ℕ) → run-tier-lts.Need-same-length-2 (calls t) (run-tier-at t) run-tier.Post
-run-tier-same-length-2 t c = search needs
-
-run-tier-same-length-3 : (t : ℕ) → run-tier-lts.Need-same-length-3 (calls t) (run-tier-at t) run-tier.Post
-run-tier-same-length-3 t c = search needs
-
-run-tier-same-length-4 : (t : ℕ) → run-tier-lts.Need-same-length-4 (calls t) (run-tier-at t) run-tier.Post
-run-tier-same-length-4 t c = search needs
-
-run-tier-returns : (t : ℕ) → run-tier-lts.Need-returns (calls t) (run-tier-at t) run-tier.Post
-run-tier-returns t c = search needs
-
-run-tier-same-length-5 : (t : ℕ) → run-tier-lts.Need-same-length-5 (calls t) (run-tier-at t) run-tier.Post
-run-tier-same-length-5 t c = search needs
-
-run-tier-same-length-6 : (t : ℕ) → run-tier-lts.Need-same-length-6 (calls t) (run-tier-at t) run-tier.Post
-run-tier-same-length-6 t c = search needs
-
-run-tier-same-length-7 : (t : ℕ) → run-tier-lts.Need-same-length-7 (calls t) (run-tier-at t) run-tier.Post
-run-tier-same-length-7 t c = search needs
-
-run-tier-same-length-8 : (t : ℕ) → run-tier-lts.Need-same-length-8 (calls t) (run-tier-at t) run-tier.Post
-run-tier-same-length-8 t c = search needs
-
-run-tier-returns-2 : (t : ℕ) → run-tier-lts.Need-returns-2 (calls t) (run-tier-at t) run-tier.Post
-run-tier-returns-2 t c = search needs
-
-run-tier-same-length-9 : (t : ℕ) → run-tier-lts.Need-same-length-9 (calls t) (run-tier-at t) run-tier.Post
-run-tier-same-length-9 t c = search needs
-
-run-tier-same-length-10 : (t : ℕ) → run-tier-lts.Need-same-length-10 (calls t) (run-tier-at t) run-tier.Post
-run-tier-same-length-10 t c = search needs
-
-run-tier-same-length-11 : (t : ℕ) → run-tier-lts.Need-same-length-11 (calls t) (run-tier-at t) run-tier.Post
-run-tier-same-length-11 t c = search needs
-
-run-tier-same-length-12 : (t : ℕ) → run-tier-lts.Need-same-length-12 (calls t) (run-tier-at t) run-tier.Post
-run-tier-same-length-12 t c = search needs
-
-run-tier-returns-3 : (t : ℕ) → run-tier-lts.Need-returns-3 (calls t) (run-tier-at t) run-tier.Post
-run-tier-returns-3 t c = search needs
-
-run-tier-same-length-13 : (t : ℕ) → run-tier-lts.Need-same-length-13 (calls t) (run-tier-at t) run-tier.Post
-run-tier-same-length-13 t c = search needs
-
-run-tier-same-length-14 : (t : ℕ) → run-tier-lts.Need-same-length-14 (calls t) (run-tier-at t) run-tier.Post
-run-tier-same-length-14 t c = search needs
-
-run-tier-same-length-15 : (t : ℕ) → run-tier-lts.Need-same-length-15 (calls t) (run-tier-at t) run-tier.Post
-run-tier-same-length-15 t c = search needs
-
-run-tier-same-length-16 : (t : ℕ) → run-tier-lts.Need-same-length-16 (calls t) (run-tier-at t) run-tier.Post
-run-tier-same-length-16 t c = search needs
-
-run-tier-returns-4 : (t : ℕ) → run-tier-lts.Need-returns-4 (calls t) (run-tier-at t) run-tier.Post
-run-tier-returns-4 t c = search needs
-
-run-tier-same-length-17 : (t : ℕ) → run-tier-lts.Need-same-length-17 (calls t) (run-tier-at t) run-tier.Post
-run-tier-same-length-17 t c = search needs
-
-run-tier-same-length-18 : (t : ℕ) → run-tier-lts.Need-same-length-18 (calls t) (run-tier-at t) run-tier.Post
-run-tier-same-length-18 t c = search needs
-
-run-tier-same-length-19 : (t : ℕ) → run-tier-lts.Need-same-length-19 (calls t) (run-tier-at t) run-tier.Post
-run-tier-same-length-19 t c = search needs
-
-run-tier-same-length-20 : (t : ℕ) → run-tier-lts.Need-same-length-20 (calls t) (run-tier-at t) run-tier.Post
-run-tier-same-length-20 t c = search needs
-
-run-tier-returns-5 : (t : ℕ) → run-tier-lts.Need-returns-5 (calls t) (run-tier-at t) run-tier.Post
-run-tier-returns-5 t c = search needs
-
 pub +run-tier-spec : {M : Type 1} → statement M
-+run-tier-spec = close μ-run-tier λ t. run-tier-lts.spec (calls t) (run-tier-at t) run-tier.Post
-    (run-tier-tier-of-requires t)
-    (run-tier-run-tier-requires t)
-    (run-tier-run-small-requires t)
-    (run-tier-run-middle-requires t)
-    (run-tier-run-many-requires t)
-    (run-tier-run-large-requires t)
-    (run-tier-same-length t)
-    (run-tier-same-length-2 t)
-    (run-tier-same-length-3 t)
-    (run-tier-same-length-4 t)
-    (run-tier-returns t)
-    (run-tier-same-length-5 t)
-    (run-tier-same-length-6 t)
-    (run-tier-same-length-7 t)
-    (run-tier-same-length-8 t)
-    (run-tier-returns-2 t)
-    (run-tier-same-length-9 t)
-    (run-tier-same-length-10 t)
-    (run-tier-same-length-11 t)
-    (run-tier-same-length-12 t)
-    (run-tier-returns-3 t)
-    (run-tier-same-length-13 t)
-    (run-tier-same-length-14 t)
-    (run-tier-same-length-15 t)
-    (run-tier-same-length-16 t)
-    (run-tier-returns-4 t)
-    (run-tier-same-length-17 t)
-    (run-tier-same-length-18 t)
-    (run-tier-same-length-19 t)
-    (run-tier-same-length-20 t)
-    (run-tier-returns-5 t)
++run-tier-spec = close μ-run-tier λ t. run-tier-lts.spec (calls t) (run-tier-at t) run-tier.Post (λ c κs. search needs) (run-tier-run-tier-requires t)
+    (run-tier-run-small-requires t) (run-tier-run-middle-requires t) (run-tier-run-many-requires t) (run-tier-run-large-requires t)
+    (λ c. search needs) (λ c. search needs) (λ c. search needs) (λ c. search needs) (λ c. search needs) (λ c. search needs) (λ c. search needs)
+    (λ c. search needs) (λ c. search needs) (λ c. search needs) (λ c. search needs) (λ c. search needs) (λ c. search needs) (λ c. search needs)
+    (λ c. search needs) (λ c. search needs) (λ c. search needs) (λ c. search needs) (λ c. search needs) (λ c. search needs) (λ c. search needs)
+    (λ c. search needs) (λ c. search needs) (λ c. search needs) (λ c. search needs)

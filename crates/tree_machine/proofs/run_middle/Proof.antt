@@ -7,42 +7,12 @@ use borrow.Author.Needs.{needs}
 use Rattle.tree_machine.proofs.run_middle.Statement.{statement}
 use Rattle.tree_machine.proofs.run_middle.Tie as tie
 
-slice-aggregate-run-marked : tie.Need-slice-aggregate-run-marked
-slice-aggregate-run-marked c = search needs
-
-slice-aggregate-run-marked-2 : tie.Need-slice-aggregate-run-marked-2
-slice-aggregate-run-marked-2 c = search needs
-
 run-marked-requires : tie.Need-run-marked-requires
 run-marked-requires c κs =
     let p = c .before .before .before .before .before .before .before .before .before .before .before .pre in
     let args = c .before .before .before .before .before .before .before .before .before .before .before .args in
     (p .0, record { size = 4096; room = p .1 .0; zero = refl }, λ (h : length (args .file .now) ≤ 65536). omega (arith, p .1 .1))
 
-same-length : tie.Need-same-length
-same-length c = search needs
-
-same-length-2 : tie.Need-same-length-2
-same-length-2 c = search needs
-
-same-length-3 : tie.Need-same-length-3
-same-length-3 c = search needs
-
-same-length-4 : tie.Need-same-length-4
-same-length-4 c = search needs
-
-returns : tie.Need-returns
-returns c = search needs
-
 pub run-middle-spec : {M : Type 1} → statement M
-run-middle-spec =
-    tie.close
-    (tie.spec
-    slice-aggregate-run-marked
-    slice-aggregate-run-marked-2
-    run-marked-requires
-    same-length
-    same-length-2
-    same-length-3
-    same-length-4
-    returns)
+run-middle-spec = tie.close (tie.spec (λ c. search needs) (λ c. search needs) run-marked-requires (λ c. search needs) (λ c. search needs)
+    (λ c. search needs) (λ c. search needs) (λ c. search needs))

@@ -4,17 +4,8 @@ use borrow.Author.Needs.{needs}
 use Rattle.trim.proofs.entry_size.Statement.{statement}
 use Rattle.trim.proofs.entry_size.Tie as tie
 
-bits-at-requires : tie.Need-bits-at-requires
-bits-at-requires c κs = search needs
-
 returns : tie.Need-returns
 returns c = λ size w. size-other w _ (c .before .bits-at .ensures .0) (c .if1 .taken)
-
-past-requires : tie.Need-past-requires
-past-requires c κs = search needs
-
-bits-at-requires-2 : tie.Need-bits-at-requires-2
-bits-at-requires-2 c κs = search needs
 
 returns-2 : tie.Need-returns-2
 returns-2 c =
@@ -38,13 +29,4 @@ returns-4 c =
     (c .if3 .left)
 
 pub entry-size-spec : {M : Type 1} → statement M
-entry-size-spec =
-    tie.close
-    (tie.spec
-    bits-at-requires
-    returns
-    past-requires
-    bits-at-requires-2
-    returns-2
-    returns-3
-    returns-4)
+entry-size-spec = tie.close (tie.spec (search needs) returns (search needs) (search needs) returns-2 returns-3 returns-4)

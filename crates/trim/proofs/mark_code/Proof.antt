@@ -23,27 +23,8 @@ bits-at-requires c κs =
     let h = pre .2 (c .before .before .if1 .left) (c .before .if2 .left) in
     (pre .0, (omega arith, omega (arith, c .past .ensures)))
 
-cast-row : tie.Need-cast-row
-cast-row c = search needs
-
-slice-write-row : tie.Need-slice-write-row
-slice-write-row c = search needs
-
-same-length : tie.Need-same-length
-same-length c = search needs
-
 returns-3 : tie.Need-returns-3
 returns-3 c = mark-read _ _ _ _ _ _ (c .bits-at .ensures .0) (c .before .past .ensures) (c .before .before .before .if1 .left) (c .before .before .if2 .left)
 
 pub mark-code-spec : {M : Type 1} → statement M
-mark-code-spec =
-    tie.close
-    (tie.spec
-    returns
-    returns-2
-    past-requires
-    bits-at-requires
-    cast-row
-    slice-write-row
-    same-length
-    returns-3)
+mark-code-spec = tie.close (tie.spec returns returns-2 past-requires bits-at-requires (search needs) (search needs) (search needs) returns-3)

@@ -31,9 +31,6 @@ shape-of-requires c κs = let p = c .before .before .before .before .before .pre
     let t = c .before .loop-test .taken in
     let k = marking-code l t in marking-small l t _ 0 (c .bits-at .ensures .0)
 
-operand-count-requires : tie.Need-operand-count-requires Inv-loop μ-loop
-operand-count-requires c κs = search needs
-
 mark-code-requires : tie.Need-mark-code-requires Inv-loop μ-loop
 mark-code-requires c κs =
     let p = c .before .before .before .before .before .before .before .before .pre in
@@ -157,30 +154,9 @@ loop-again c =
     let e = mark-code .ensures in
     (ap length e ∙ mark-length _ _ _ ∙ v .0, λ w. rw (c .past .ensures) (marking-on (v .1 w) t _ _ (bits-at .ensures .0) counted _ e))
 
-same-length : tie.Need-same-length Inv-loop μ-loop
-same-length c = search needs
-
 returns : tie.Need-returns Inv-loop μ-loop
 returns c = λ w. marking-none (c .before .loop .inv .1 w) (omega (arith, c .loop-test .left))
 
 pub mark-names-spec : {M : Type 1} → statement M
-mark-names-spec =
-    tie.close
-    (tie.spec
-    Inv-loop
-    μ-loop
-    loop-holds
-    bits-at-requires
-    shape-of-requires
-    operand-count-requires
-    mark-code-requires
-    mul-past
-    add-past
-    past-requires
-    mul-left
-    add-left
-    sub-left
-    loop-less
-    loop-again
-    same-length
-    returns)
+mark-names-spec = tie.close (tie.spec Inv-loop μ-loop loop-holds bits-at-requires shape-of-requires (search needs) mark-code-requires mul-past
+    add-past past-requires mul-left add-left sub-left loop-less loop-again (search needs) returns)

@@ -18,15 +18,6 @@ abbrev μ-loop : tie.MeasureT-loop
 loop-holds : tie.Need-loop-holds Inv-loop μ-loop
 loop-holds c = (omega arith, zeros-length 64 _ (c .before .before .before .pre .3), λ w. reaching-none w _ (c .before .before .before .pre .3))
 
-reach-from-requires : tie.Need-reach-from-requires Inv-loop μ-loop
-reach-from-requires c κs = search needs
-
-add-own : tie.Need-add-own Inv-loop μ-loop
-add-own c = search needs
-
-loop-less : tie.Need-loop-less Inv-loop μ-loop
-loop-less c = search needs
-
 loop-again : tie.Need-loop-again Inv-loop μ-loop
 loop-again c =
     let loop = c .before .before .before .before .before .loop in
@@ -39,22 +30,9 @@ loop-again c =
       λ w. let r = v .2 w in let m = rw (w .count-is) at l in reaching-on r m (v .1) _ _ (e .0 _ (reaching-first r m (v .1))) (e .1),
     )
 
-same-length : tie.Need-same-length Inv-loop μ-loop
-same-length c = search needs
-
 returns : tie.Need-returns Inv-loop μ-loop
 returns c = let v = c .before .loop .inv in ((λ w. record { each = λ t h. v .2 w .below t (omega (arith, c .loop-test .left)) }), v .1)
 
 pub mark-reached-spec : {M : Type 1} → statement M
-mark-reached-spec =
-    tie.close
-    (tie.spec
-    Inv-loop
-    μ-loop
-    loop-holds
-    reach-from-requires
-    add-own
-    loop-less
-    loop-again
-    same-length
-    returns)
+mark-reached-spec = tie.close (tie.spec Inv-loop μ-loop loop-holds (λ c κs. search needs) (λ c. search needs) (λ c. search needs) loop-again
+    (λ c. search needs) returns)

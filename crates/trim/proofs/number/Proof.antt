@@ -23,12 +23,6 @@ number-one-requires c κs =
     let l = c .before .loop-test .taken in
     (omega (arith, v .1 .same, p .0), numbering-fits (v .1) (omega (arith, p .0)) _ l (p .1))
 
-add-i : tie.Need-add-i Inv-loop μ-loop
-add-i c = search needs
-
-loop-less : tie.Need-loop-less Inv-loop μ-loop
-loop-less c = search needs
-
 loop-again : tie.Need-loop-again Inv-loop μ-loop
 loop-again c =
     let p = c .before .before .before .before .before .before .before .pre in
@@ -39,22 +33,8 @@ loop-again c =
     let e = c .before .before .number-one .ensures in
     (omega arith, numbering-on (v .1) (omega (arith, p .0)) _ _ (e .0) (e .1))
 
-same-length : tie.Need-same-length Inv-loop μ-loop
-same-length c = search needs
-
 returns : tie.Need-returns Inv-loop μ-loop
 returns c = numbering-all (c .before .loop .inv .1) (c .before .loop .inv .0) (omega (arith, c .loop-test .left))
 
 pub number-spec : {M : Type 1} → statement M
-number-spec =
-    tie.close
-    (tie.spec
-    Inv-loop
-    μ-loop
-    loop-holds
-    number-one-requires
-    add-i
-    loop-less
-    loop-again
-    same-length
-    returns)
+number-spec = tie.close (tie.spec Inv-loop μ-loop loop-holds number-one-requires (search needs) (search needs) loop-again (search needs) returns)

@@ -16,9 +16,6 @@ mark-names-requires c κs =
     let w = pre .2 in
     (omega (arith, pre .0), zeros-length 256 _ (pre .1), rw (c .before .since .ensures) (span-tokens w))
 
-add-number : tie.Need-add-number
-add-number c = search needs
-
 number-requires : tie.Need-number-requires
 number-requires c κs =
     let pre = c .before .before .before .before .before .before .before .before .before .before .before .pre in
@@ -27,9 +24,6 @@ number-requires c κs =
     let w = pre .2 in
     let m = rw (since .ensures) at (mark-names .ensures) in
     names-fit w _ _ (pre .1) (m (span-tokens w))
-
-same-length : tie.Need-same-length
-same-length c = search needs
 
 returns : tie.Need-returns
 returns c =
@@ -40,6 +34,4 @@ returns c =
     (m (span-tokens w)) (d .0) (d .1)
 
 pub number-names-spec : {M : Type 1} → statement M
-number-names-spec =
-    tie.close
-    (tie.spec since-requires mark-names-requires add-number number-requires same-length returns)
+number-names-spec = tie.close (tie.spec since-requires mark-names-requires (search needs) number-requires (search needs) returns)

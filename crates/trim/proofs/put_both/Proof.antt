@@ -43,12 +43,6 @@ put-bytes-requires-2 c κs =
     let if2 = c .before .before .before .before .before .before .before .if2 in
     omega (arith, length-take-le (args .bytes) (now (args .lines)) (pre .1), if2 .left)
 
-same-length : tie.Need-same-length
-same-length c = search needs
-
-same-length-2 : tie.Need-same-length-2
-same-length-2 c = search needs
-
 returns-3 : tie.Need-returns-3
 returns-3 c =
     let pre = c .before .before .before .before .before .before .before .before .before .before .before .before .before .before .before .before .pre in
@@ -60,15 +54,5 @@ returns-3 c =
     _ _ _ _ (put-bytes .ensures) (c .before .before .put-bytes2 .ensures)
 
 pub put-both-spec : {M : Type 1} → statement M
-put-both-spec =
-    tie.close
-    (tie.spec
-    returns
-    returns-2
-    slice-aggregate-put-bytes
-    put-bytes-requires
-    slice-aggregate-put-bytes-2
-    put-bytes-requires-2
-    same-length
-    same-length-2
-    returns-3)
+put-both-spec = tie.close (tie.spec returns returns-2 slice-aggregate-put-bytes put-bytes-requires slice-aggregate-put-bytes-2 put-bytes-requires-2
+    (search needs) (search needs) returns-3)

@@ -24,9 +24,6 @@ entry-size-requires c κs = let p = c .before .before .before .before .before .b
     let r = v .2 (p .1) in
     let l = rw (p .1 .count-is) at (c .loop-test .taken) in let i = entry-inside (entering-first r l) _ refl in (p .0 .0, omega (arith, i))
 
-shared-slice-read-put-marked : tie.Need-shared-slice-read-put-marked Inv-loop μ-loop
-shared-slice-read-put-marked c = search needs
-
 put-marked-requires : tie.Need-put-marked-requires Inv-loop μ-loop
 put-marked-requires c κs =
     let p = c .before .before .before .before .before .before .before .before .before .pre in
@@ -47,12 +44,6 @@ past-requires c κs = let p = c .before .before .before .before .before .before 
     let z = c .before .before .before .before .before .entry-size .ensures _ (entering-first r l) in
     let i = entry-inside (entering-first r l) _ refl in omega (arith, z, i, p .0 .0)
 
-add-n : tie.Need-add-n Inv-loop μ-loop
-add-n c = search needs
-
-loop-less : tie.Need-loop-less Inv-loop μ-loop
-loop-less c = search needs
-
 loop-again : tie.Need-loop-again Inv-loop μ-loop
 loop-again c =
     let p = c .before .before .before .before .before .before .before .before .before .before .before .before .before .pre in
@@ -72,25 +63,9 @@ loop-again c =
           (entering-on q m _ y _ _ (d .0) (d .1 (entering-size q m _ y))),
     )
 
-same-length : tie.Need-same-length Inv-loop μ-loop
-same-length c = search needs
-
 returns : tie.Need-returns Inv-loop μ-loop
 returns c = λ w. entering-all (c .before .loop .inv .2 w) (omega (arith, w .count-is, c .loop-test .left))
 
 pub put-entries-spec : {M : Type 1} → statement M
-put-entries-spec =
-    tie.close
-    (tie.spec
-    Inv-loop
-    μ-loop
-    loop-holds
-    entry-size-requires
-    shared-slice-read-put-marked
-    put-marked-requires
-    past-requires
-    add-n
-    loop-less
-    loop-again
-    same-length
-    returns)
+put-entries-spec = tie.close (tie.spec Inv-loop μ-loop loop-holds entry-size-requires (search needs) put-marked-requires past-requires (search needs)
+    (search needs) loop-again (search needs) returns)

@@ -26,9 +26,6 @@ bits-at-requires-2 c κs =
     let t = entry-template (pre .1) _ (c .before .before .bits-at .ensures .0) (c .before .if1 .taken) in
     (omega (arith, pre .0 .0), (omega arith, omega (arith, i, t .ten, c .past .ensures)))
 
-cast-new-number : tie.Need-cast-new-number
-cast-new-number c = search needs
-
 new-number-requires : tie.Need-new-number-requires
 new-number-requires c κs =
     let pre = c .before .before .before .before .before .before .before .before .pre in
@@ -46,9 +43,6 @@ put-numbered-requires c κs =
     let if1 = c .before .before .before .before .if1 in
     let t = entry-template (pre .1) _ (bits-at .ensures .0) (if1 .taken) in
     (omega (arith, pre .0 .2), omega arith, omega (arith, t .ten, pre .0 .3))
-
-same-length : tie.Need-same-length
-same-length c = search needs
 
 returns : tie.Need-returns
 returns c =
@@ -70,9 +64,6 @@ copy-bits-requires c κs =
     let i = entry-inside (pre .1) _ refl in
     (omega (arith, pre .0 .0), omega (arith, pre .0 .2), i .1, pre .0 .3)
 
-same-length-2 : tie.Need-same-length-2
-same-length-2 c = search needs
-
 returns-2 : tie.Need-returns-2
 returns-2 c =
     let bits-at = c .before .before .before .before .before .bits-at in
@@ -81,17 +72,5 @@ returns-2 c =
     (d .0, λ w. d .1 ∙ ap (putBits _ _) (entry-other w _ (bits-at .ensures .0) _ (if1 .left)))
 
 pub put-entry-spec : {M : Type 1} → statement M
-put-entry-spec =
-    tie.close
-    (tie.spec
-    bits-at-requires
-    past-requires
-    bits-at-requires-2
-    cast-new-number
-    new-number-requires
-    put-numbered-requires
-    same-length
-    returns
-    copy-bits-requires
-    same-length-2
-    returns-2)
+put-entry-spec = tie.close (tie.spec bits-at-requires past-requires bits-at-requires-2 (search needs) new-number-requires put-numbered-requires
+    (search needs) returns copy-bits-requires (search needs) returns-2)

@@ -5,21 +5,6 @@ use borrow.Author.Needs.{needs}
 use Rattle.trim.proofs.put_line.Statement.{statement}
 use Rattle.trim.proofs.put_line.Tie as tie
 
-put-number-requires : tie.Need-put-number-requires
-put-number-requires c κs = search needs
-
-put-number-requires-2 : tie.Need-put-number-requires-2
-put-number-requires-2 c κs = search needs
-
-slice-aggregate-put-bytes : tie.Need-slice-aggregate-put-bytes
-slice-aggregate-put-bytes c = search needs
-
-put-bytes-requires : tie.Need-put-bytes-requires
-put-bytes-requires c κs = search needs
-
-same-length : tie.Need-same-length
-same-length c = search needs
-
 returns : tie.Need-returns
 returns c =
     let pre = c .before .before .before .before .before .before .before .before .before .before .before .before .before .before .before .pre in
@@ -29,18 +14,6 @@ returns c =
     let if1 = c .before .before .before .before .before .if1 in
     let l = line-gone _ _ _ _ (put-number .ensures .0) (put-number2 .ensures .0) (if1 .taken) (c .before .before .put-bytes .ensures) in
     (l, put-short _ 12 l (line-short _ _ _ _ (pre .1) (pre .2) (omega (arith, fits .mark))))
-
-sub-put-number : tie.Need-sub-put-number
-sub-put-number c = search needs
-
-cast-put-number : tie.Need-cast-put-number
-cast-put-number c = search needs
-
-put-number-requires-3 : tie.Need-put-number-requires-3
-put-number-requires-3 c κs = search needs
-
-same-length-2 : tie.Need-same-length-2
-same-length-2 c = search needs
 
 returns-2 : tie.Need-returns-2
 returns-2 c =
@@ -53,17 +26,5 @@ returns-2 c =
     (l, put-short _ 12 l (line-short _ _ _ _ (pre .1) (pre .2) (omega (arith, fits .mark))))
 
 pub put-line-spec : {M : Type 1} → statement M
-put-line-spec =
-    tie.close
-    (tie.spec
-    put-number-requires
-    put-number-requires-2
-    slice-aggregate-put-bytes
-    put-bytes-requires
-    same-length
-    returns
-    sub-put-number
-    cast-put-number
-    put-number-requires-3
-    same-length-2
-    returns-2)
+put-line-spec = tie.close (tie.spec (search needs) (search needs) (search needs) (search needs) (search needs) returns (search needs) (search needs)
+    (search needs) (search needs) returns-2)

@@ -40,12 +40,6 @@ put-line-requires-2 c κs =
     let g = put-length (d .0) in
     (omega (arith, p .0, p .2, v .2, v .3, g, d .1, loop-test .taken), p .1, omega (arith, p .2, loop-test .taken), omega arith)
 
-add-n : tie.Need-add-n Inv-loop μ-loop
-add-n c = search needs
-
-loop-less : tie.Need-loop-less Inv-loop μ-loop
-loop-less c = search needs
-
 loop-again : tie.Need-loop-again Inv-loop μ-loop
 loop-again c =
     let p = c .before .before .before .before .before .before .before .before .before .before .before .before .before .pre in
@@ -58,9 +52,6 @@ loop-again c =
     let e = c .before .before .put-line2 .ensures in
     (omega arith, omega (arith, loop-test .taken), omega (arith, v .2, e .1), put-length (e .0) ∙ v .3, lining-on (v .4) (loop-test .taken) (e .0))
 
-same-length : tie.Need-same-length Inv-loop μ-loop
-same-length c = search needs
-
 returns : tie.Need-returns Inv-loop μ-loop
 returns c = let p = c .before .before .before .before .before .before .before .before .pre in
     let v = c .before .loop .inv in
@@ -68,17 +59,5 @@ returns c = let p = c .before .before .before .before .before .before .before .b
     let g = put-length (d .0) in (put-then (d .0) (lining-all (v .4) (omega (arith, c .loop-test .left))), omega (arith, p .2, v .1, v .2, d .1))
 
 pub put-lines-spec : {M : Type 1} → statement M
-put-lines-spec =
-    tie.close
-    (tie.spec
-    Inv-loop
-    μ-loop
-    put-line-requires
-    loop-holds
-    shared-slice-read-put-line
-    put-line-requires-2
-    add-n
-    loop-less
-    loop-again
-    same-length
-    returns)
+put-lines-spec = tie.close (tie.spec Inv-loop μ-loop put-line-requires loop-holds shared-slice-read-put-line put-line-requires-2 (search needs)
+    (search needs) loop-again (search needs) returns)

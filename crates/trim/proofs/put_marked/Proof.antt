@@ -8,12 +8,6 @@ use Rattle.trim.proofs.put_marked.Tie as tie
 returns : tie.Need-returns
 returns c = (omega arith, λ w. marked-gone _ _ _ _ _ (c .if1 .taken))
 
-put-entry-requires : tie.Need-put-entry-requires
-put-entry-requires c κs = search needs
-
-same-length : tie.Need-same-length
-same-length c = search needs
-
 returns-2 : tie.Need-returns-2
 returns-2 c =
     let pre = c .before .before .before .before .before .before .before .before .pre in
@@ -22,4 +16,4 @@ returns-2 c =
     (omega (arith, d .0), λ w. marked-put _ _ _ _ _ _ _ _ (if1 .left) (pre .0 .3) (w .size-is) (d .1 w) (d .0))
 
 pub put-marked-spec : {M : Type 1} → statement M
-put-marked-spec = tie.close (tie.spec returns put-entry-requires same-length returns-2)
+put-marked-spec = tie.close (tie.spec returns (λ c κs. search needs) (λ c. search needs) returns-2)

@@ -58,9 +58,6 @@ rewrite-requires c κs =
       rw (since .ensures) (span-tokens w),
     )
 
-same-length : tie.Need-same-length
-same-length c = search needs
-
 returns : tie.Need-returns
 returns c =
     let pre = c .before .before .before .before .before .before .before .before .before .before .before .before .before .before .before .before .before
@@ -75,13 +72,4 @@ returns c =
     (m (span-tokens w)) (k .0)
 
 pub put-template-spec : {M : Type 1} → statement M
-put-template-spec =
-    tie.close
-    (tie.spec
-    put-field-requires
-    past-requires
-    put-entries-requires
-    since-requires
-    rewrite-requires
-    same-length
-    returns)
+put-template-spec = tie.close (tie.spec put-field-requires past-requires put-entries-requires since-requires rewrite-requires (search needs) returns)

@@ -34,9 +34,6 @@ trim-templates-requires c κs =
     let d = number .ensures in
     ((file-short w, p .0 .0, d .1 .same ∙ m .1, f .1), (p .1 .1, p .1 .2, w))
 
-to-byte-requires : tie.Need-to-byte-requires
-to-byte-requires c κs = search needs
-
 past-requires : tie.Need-past-requires
 past-requires c κs =
     let p = c .before .before .before .before .before .before .before .before .before .before .before .before .before .before .before .before .before
@@ -52,9 +49,6 @@ past-requires c κs =
     let e = trim-templates .ensures w (stays (w .templates)) (stays-numbers w _ _ 0 (m .0 w) (d .1)) (file-leads w _ [] 0 (m .0 w))
     (stays-count w _ [] _ (m .0 w) (d .0)) in
     omega (arith, e .3)
-
-byte-requires : tie.Need-byte-requires
-byte-requires c κs = search needs
 
 put-both-requires : tie.Need-put-both-requires
 put-both-requires c κs =
@@ -86,18 +80,6 @@ same-length c =
     .before .before .before .before .before .before .number in
     number .kept .0 ∙ mark-reached .kept .1 .1 .1 .0
 
-same-length-2 : tie.Need-same-length-2
-same-length-2 c = search needs
-
-same-length-3 : tie.Need-same-length-3
-same-length-3 c = search needs
-
-same-length-4 : tie.Need-same-length-4
-same-length-4 c = search needs
-
-same-length-5 : tie.Need-same-length-5
-same-length-5 c = search needs
-
 returns : tie.Need-returns
 returns c =
     let p = c .before .before .before .before .before .before .before .before .before .before .before .before .before .before .before .before .before
@@ -123,19 +105,5 @@ returns c =
     (b .0) (b .1 .0) (b .1 .1)
 
 pub trim-into-spec : {M : Type 1} → statement M
-trim-into-spec =
-    tie.close
-    (tie.spec
-    mark-reached-requires
-    number-requires
-    trim-templates-requires
-    to-byte-requires
-    past-requires
-    byte-requires
-    put-both-requires
-    same-length
-    same-length-2
-    same-length-3
-    same-length-4
-    same-length-5
-    returns)
+trim-into-spec = tie.close (tie.spec mark-reached-requires number-requires trim-templates-requires (search needs) past-requires (search needs)
+    put-both-requires same-length (search needs) (search needs) (search needs) (search needs) returns)

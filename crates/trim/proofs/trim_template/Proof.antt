@@ -13,18 +13,6 @@ use Rattle.trim.proofs.trim_template.Tie as tie
 bits-at-requires : tie.Need-bits-at-requires
 bits-at-requires c κs = let p = c .before .before .before .before .before .pre in (omega (arith, p .0 .0), (omega arith, head-inside (p .1 .1)))
 
-cast-entries : tie.Need-cast-entries
-cast-entries c = search needs
-
-list-of-requires : tie.Need-list-of-requires
-list-of-requires c κs = search needs
-
-shared-slice-read-mark : tie.Need-shared-slice-read-mark
-shared-slice-read-mark c = search needs
-
-slice-aggregate-put-lines : tie.Need-slice-aggregate-put-lines
-slice-aggregate-put-lines c = search needs
-
 put-lines-requires : tie.Need-put-lines-requires
 put-lines-requires c κs =
     let p = c .before .before .before .before .before .before .before .before .before .before .before .before .pre in
@@ -35,9 +23,6 @@ put-lines-requires c κs =
     let ls = list-of .ensures _ w in
     let f = count-few (with-list w _ _ ls cn) in
     (omega (arith, p .1 .0 .1, p .1 .0 .3, p .0 .3), p .0 .3, f, refl)
-
-same-length : tie.Need-same-length
-same-length c = search needs
 
 returns : tie.Need-returns
 returns c =
@@ -57,17 +42,11 @@ returns c =
       ),
     )
 
-slice-aggregate-number-names : tie.Need-slice-aggregate-number-names
-slice-aggregate-number-names c = search needs
-
 number-names-requires : tie.Need-number-names-requires
 number-names-requires c κs = let p = c .before .before .before .before .before .before .before .before .before .before .before .pre in
     let w = p .1 .1 in
     let cn = c .before .before .before .before .before .bits-at .ensures .0 ∙ count-in w in
     let ls = c .before .before .before .before .list-of .ensures _ w in (p .0 .0, refl, with-list w _ _ ls cn)
-
-slice-aggregate-put-template : tie.Need-slice-aggregate-put-template
-slice-aggregate-put-template c = search needs
 
 put-template-requires : tie.Need-put-template-requires
 put-template-requires c κs =
@@ -79,9 +58,6 @@ put-template-requires c κs =
     let cn = bits-at .ensures .0 ∙ count-in w in
     let ls = list-of .ensures _ w in
     ((p .0 .0, p .0 .2, number-names .kept .1 .1 .1 .1 .1 .1 .0, p .1 .0 .0, p .1 .0 .2), with-list w _ _ ls cn)
-
-slice-aggregate-put-lines-2 : tie.Need-slice-aggregate-put-lines-2
-slice-aggregate-put-lines-2 c = search needs
 
 put-lines-requires-2 : tie.Need-put-lines-requires-2
 put-lines-requires-2 c κs =
@@ -95,12 +71,6 @@ put-lines-requires-2 c κs =
     let ls = list-of .ensures _ w in
     let f = count-few (with-list w _ _ ls cn) in
     (omega (arith, p .1 .0 .1, p .1 .0 .3, p .0 .3), p .0 .3, f, number-names .kept .1 .1 .1 .1 .1 .1 .0)
-
-same-length-2 : tie.Need-same-length-2
-same-length-2 c = search needs
-
-same-length-3 : tie.Need-same-length-3
-same-length-3 c = search needs
 
 returns-2 : tie.Need-returns-2
 returns-2 c =
@@ -128,23 +98,6 @@ returns-2 c =
     )
 
 pub trim-template-spec : {M : Type 1} → statement M
-trim-template-spec =
-    tie.close
-    (tie.spec
-    bits-at-requires
-    cast-entries
-    list-of-requires
-    shared-slice-read-mark
-    slice-aggregate-put-lines
-    put-lines-requires
-    same-length
-    returns
-    slice-aggregate-number-names
-    number-names-requires
-    slice-aggregate-put-template
-    put-template-requires
-    slice-aggregate-put-lines-2
-    put-lines-requires-2
-    same-length-2
-    same-length-3
-    returns-2)
+trim-template-spec = tie.close (tie.spec bits-at-requires (search needs) (search needs) (search needs) (search needs) put-lines-requires
+    (search needs) returns (search needs) number-names-requires (search needs) put-template-requires (search needs) put-lines-requires-2
+    (search needs) (search needs) returns-2)

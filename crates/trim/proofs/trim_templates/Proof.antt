@@ -44,12 +44,6 @@ trim-template-requires c κs = let p = c .before .before .before .before .before
     let t = c .before .before .loop-test .taken in
     let q = v .5 w in ((p .0 .0, p .0 .1, p .0 .2, omega (arith, p .0 .3)), ((v .1, v .2, v .3, v .4), passing-first q t))
 
-add-own : tie.Need-add-own Inv-loop μ-loop
-add-own c = search needs
-
-loop-less : tie.Need-loop-less Inv-loop μ-loop
-loop-less c = search needs
-
 loop-again : tie.Need-loop-again Inv-loop μ-loop
 loop-again c =
     let p = c .before .before .before .before .before .before .before .before .before .before .before .before .before .before .before .before .before
@@ -72,12 +66,6 @@ loop-again c =
           (e .1 .0 z) (e .1 .1 z keep (first-numbers keep _ _ _ _ _ _ _ k t are) (first-leads keep _ _ _ _ _ _ _ k t))),
     )
 
-same-length : tie.Need-same-length Inv-loop μ-loop
-same-length c = search needs
-
-same-length-2 : tie.Need-same-length-2 Inv-loop μ-loop
-same-length-2 c = search needs
-
 returns : tie.Need-returns Inv-loop μ-loop
 returns c =
     let pre = c .before .before .before .before .before .before .before .before .before .before .before .pre in
@@ -91,17 +79,5 @@ returns c =
     )
 
 pub trim-templates-spec : {M : Type 1} → statement M
-trim-templates-spec =
-    tie.close
-    (tie.spec
-    Inv-loop
-    μ-loop
-    put-field-requires
-    loop-holds
-    trim-template-requires
-    add-own
-    loop-less
-    loop-again
-    same-length
-    same-length-2
-    returns)
+trim-templates-spec = tie.close (tie.spec Inv-loop μ-loop put-field-requires loop-holds trim-template-requires (search needs) (search needs)
+    loop-again (search needs) (search needs) returns)

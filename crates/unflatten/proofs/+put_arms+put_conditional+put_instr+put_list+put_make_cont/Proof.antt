@@ -120,12 +120,6 @@ put-arms-enum-told :
     put-arms-lts.Need-enum-told (put-list-below t, put-list.Post) (put-arms-at t) put-arms.Post
 put-arms-enum-told t c = search needs
 
-put-arms-enum-known-mid : (t : ℕ) → put-arms-lts.Need-enum-known-mid (
-  put-list-below t,
-  put-list.Post,
-) (put-arms-at t) put-arms.Post
-put-arms-enum-known-mid t c = search needs
-
 put-arms-put-list-requires-2 : (t : ℕ) → put-arms-lts.Need-put-list-requires-2 (
   put-list-below t,
   put-list.Post,
@@ -221,36 +215,6 @@ put-conditional-put-arms-requires t c κs =
       ),
     )
 
-put-conditional-enum-told : (t : ℕ) → put-conditional-lts.Need-enum-told (
-  put-field-reads.Asked,
-  put-field-reads.Learnt,
-  put-arms-below t,
-  put-arms.Post,
-  both-reads.Asked,
-  both-reads.Learnt,
-) (put-conditional-at t) put-conditional.Post
-put-conditional-enum-told t c = search needs
-
-put-conditional-enum-known-past : (t : ℕ) → put-conditional-lts.Need-enum-known-past (
-  put-field-reads.Asked,
-  put-field-reads.Learnt,
-  put-arms-below t,
-  put-arms.Post,
-  both-reads.Asked,
-  both-reads.Learnt,
-) (put-conditional-at t) put-conditional.Post
-put-conditional-enum-known-past t c = search needs
-
-put-conditional-both-requires : (t : ℕ) → put-conditional-lts.Need-both-requires (
-  put-field-reads.Asked,
-  put-field-reads.Learnt,
-  put-arms-below t,
-  put-arms.Post,
-  both-reads.Asked,
-  both-reads.Learnt,
-) (put-conditional-at t) put-conditional.Post
-put-conditional-both-requires t c κs = search needs
-
 put-conditional-same-length : (t : ℕ) → put-conditional-lts.Need-same-length (
   put-field-reads.Asked,
   put-field-reads.Learnt,
@@ -326,30 +290,6 @@ put-instr-first-of-requires : (t : ℕ) → put-instr-lts.Need-first-of-requires
 ) (put-instr-at t) put-instr.Post
 put-instr-first-of-requires t c κs = let h = c .before .before .before .pre .1 in (h .0, h .3, h .4)
 
-put-instr-enum-told : (t : ℕ) → put-instr-lts.Need-enum-told (
-  first-of-reads.Asked,
-  first-of-reads.Learnt,
-  put-plain-reads.Asked,
-  put-plain-reads.Learnt,
-  put-conditional-below t,
-  put-conditional.Post,
-  put-make-cont-below t,
-  put-make-cont.Post,
-) (put-instr-at t) put-instr.Post
-put-instr-enum-told t c = search needs
-
-put-instr-enum-known-n : (t : ℕ) → put-instr-lts.Need-enum-known-n (
-  first-of-reads.Asked,
-  first-of-reads.Learnt,
-  put-plain-reads.Asked,
-  put-plain-reads.Learnt,
-  put-conditional-below t,
-  put-conditional.Post,
-  put-make-cont-below t,
-  put-make-cont.Post,
-) (put-instr-at t) put-instr.Post
-put-instr-enum-known-n t c = search needs
-
 put-instr-put-plain-requires : (t : ℕ) → put-instr-lts.Need-put-plain-requires (
   first-of-reads.Asked,
   first-of-reads.Learnt,
@@ -366,18 +306,6 @@ put-instr-put-plain-requires t c κs =
     let h = pre .1 in
     (h .0, h .1, h .2, h .4, h .5, h .6, head-as (first-of .ensures) (c .before .before .n .given .1))
 
-put-instr-enum-known-arms : (t : ℕ) → put-instr-lts.Need-enum-known-arms (
-  first-of-reads.Asked,
-  first-of-reads.Learnt,
-  put-plain-reads.Asked,
-  put-plain-reads.Learnt,
-  put-conditional-below t,
-  put-conditional.Post,
-  put-make-cont-below t,
-  put-make-cont.Post,
-) (put-instr-at t) put-instr.Post
-put-instr-enum-known-arms t c = search needs
-
 put-instr-put-conditional-requires : (t : ℕ) → put-instr-lts.Need-put-conditional-requires (
   first-of-reads.Asked,
   first-of-reads.Learnt,
@@ -393,18 +321,6 @@ put-instr-put-conditional-requires t c κs =
     let first-of = c .before .before .before .before .first-of in
     let h = pre .1 in
     (omega (arith, pre .0), (h .0, h .1, h .2, h .4, h .5, h .6, head-as (first-of .ensures) (c .before .before .arms .given .1)))
-
-put-instr-enum-known-cut : (t : ℕ) → put-instr-lts.Need-enum-known-cut (
-  first-of-reads.Asked,
-  first-of-reads.Learnt,
-  put-plain-reads.Asked,
-  put-plain-reads.Learnt,
-  put-conditional-below t,
-  put-conditional.Post,
-  put-make-cont-below t,
-  put-make-cont.Post,
-) (put-instr-at t) put-instr.Post
-put-instr-enum-known-cut t c = search needs
 
 put-instr-put-make-cont-requires : (t : ℕ) → put-instr-lts.Need-put-make-cont-requires (
   first-of-reads.Asked,
@@ -585,14 +501,6 @@ put-list-put-instr-requires t c κs =
     let g = c .before .before .loop .inv in
     (omega (arith, pre .0), (h .0, h .1, h .2, omega (arith, g .ordered, c .before .if1 .left), g .inside, omega (arith, h .5, g .long), g .room))
 
-put-list-enum-told : (t : ℕ) → put-list-lts.Need-enum-told (
-  put-field-reads.Asked,
-  put-field-reads.Learnt,
-  put-instr-below t,
-  put-instr.Post,
-) (put-list-at t) put-list.Post put-list-Inv-loop put-list-μ-loop
-put-list-enum-told t c = search needs
-
 put-list-same-length-3 : (t : ℕ) → put-list-lts.Need-same-length-3 (
   put-field-reads.Asked,
   put-field-reads.Learnt,
@@ -614,14 +522,6 @@ put-list-returns-3 t c =
     let loop = c .before .before .before .before .before .before .before .loop in
     let put-instr′ = c .before .before .before .before .put-instr in
     going-none _ _ _ _ _ _ _ _ _ _ _ _ _ (loop .inv) (stepped-none (put-instr′ .ensures) (c .enum-told .given .1))
-
-put-list-enum-known-left : (t : ℕ) → put-list-lts.Need-enum-known-left (
-  put-field-reads.Asked,
-  put-field-reads.Learnt,
-  put-instr-below t,
-  put-instr.Post,
-) (put-list-at t) put-list.Post put-list-Inv-loop put-list-μ-loop
-put-list-enum-known-left t c = search needs
 
 put-list-loop-less : (t : ℕ) → put-list-lts.Need-loop-less (
   put-field-reads.Asked,
@@ -735,22 +635,6 @@ put-make-cont-put-list-requires t c κs =
     let i = put-field2 .ensures in
     (omega (arith, pre .0, w .2), (h .0, h .1, h .2, w .1, h .3, omega (arith, h .4, k, m), omega (arith, h .5, w .0, w .1, k, m, f .0, i .0)))
 
-put-make-cont-enum-told : (t : ℕ) → put-make-cont-lts.Need-enum-told (
-  put-field-reads.Asked,
-  put-field-reads.Learnt,
-  put-list-below t,
-  put-list.Post,
-) (put-make-cont-at t) put-make-cont.Post
-put-make-cont-enum-told t c = search needs
-
-put-make-cont-enum-known-past : (t : ℕ) → put-make-cont-lts.Need-enum-known-past (
-  put-field-reads.Asked,
-  put-field-reads.Learnt,
-  put-list-below t,
-  put-list.Post,
-) (put-make-cont-at t) put-make-cont.Post
-put-make-cont-enum-known-past t c = search needs
-
 put-make-cont-add-t27 : (t : ℕ) → put-make-cont-lts.Need-add-t27 (
   put-field-reads.Asked,
   put-field-reads.Learnt,
@@ -828,47 +712,20 @@ put-make-cont-returns-2 t c =
     (f .1) (f .0) (i .1) (i .0) (put-list′ .ensures) (c .before .past .given .1)
 
 pub +put-arms+put-conditional+put-instr+put-list+put-make-cont-spec : {M : Type 1} → statement M
-+put-arms+put-conditional+put-instr+put-list+put-make-cont-spec =
-    close
-    μ-put-arms
-    μ-put-conditional
-    μ-put-instr
-    μ-put-list
-    μ-put-make-cont
-    (λ t. put-arms-lts.spec
-    (put-list-below t, put-list.Post)
-    (put-arms-at t)
-    put-arms.Post
-    (put-arms-add-put-list t)
-    (put-arms-put-list-requires t)
-    (put-arms-enum-told t)
-    (put-arms-enum-known-mid t)
-    (put-arms-put-list-requires-2 t)
-    (put-arms-same-length t)
-    (put-arms-returns t)
-    (put-arms-same-length-2 t)
-    (put-arms-returns-2 t))
-    (λ t. put-conditional-lts.spec (
++put-arms+put-conditional+put-instr+put-list+put-make-cont-spec = close μ-put-arms μ-put-conditional μ-put-instr μ-put-list μ-put-make-cont (λ t.
+    put-arms-lts.spec (put-list-below t, put-list.Post) (put-arms-at t) put-arms.Post (put-arms-add-put-list t) (put-arms-put-list-requires t)
+    (put-arms-enum-told t) (search needs) (put-arms-put-list-requires-2 t) (put-arms-same-length t) (put-arms-returns t) (put-arms-same-length-2 t)
+    (put-arms-returns-2 t)) (λ t. put-conditional-lts.spec (
       put-field-reads.Asked,
       put-field-reads.Learnt,
       put-arms-below t,
       put-arms.Post,
       both-reads.Asked,
       both-reads.Learnt,
-    )
-    (put-conditional-at t)
-    put-conditional.Post
-    (put-conditional-put-field-requires t)
-    (put-conditional-sub-put-arms t)
-    (put-conditional-put-arms-requires t)
-    (put-conditional-enum-told t)
-    (put-conditional-enum-known-past t)
-    (put-conditional-both-requires t)
-    (put-conditional-same-length t)
-    (put-conditional-returns t)
-    (put-conditional-same-length-2 t)
-    (put-conditional-returns-2 t))
-    (λ t. put-instr-lts.spec (
+    ) (put-conditional-at t) put-conditional.Post (put-conditional-put-field-requires t)
+    (put-conditional-sub-put-arms t) (put-conditional-put-arms-requires t) (search needs) (search needs) (search needs)
+    (put-conditional-same-length t) (put-conditional-returns t) (put-conditional-same-length-2 t) (put-conditional-returns-2 t)) (λ t.
+    put-instr-lts.spec (
       first-of-reads.Asked,
       first-of-reads.Learnt,
       put-plain-reads.Asked,
@@ -877,62 +734,23 @@ pub +put-arms+put-conditional+put-instr+put-list+put-make-cont-spec : {M : Type 
       put-conditional.Post,
       put-make-cont-below t,
       put-make-cont.Post,
-    )
-    (put-instr-at t)
-    put-instr.Post
-    (put-instr-first-of-requires t)
-    (put-instr-enum-told t)
-    (put-instr-enum-known-n t)
-    (put-instr-put-plain-requires t)
-    (put-instr-enum-known-arms t)
-    (put-instr-put-conditional-requires t)
-    (put-instr-enum-known-cut t)
-    (put-instr-put-make-cont-requires t)
-    (put-instr-returns t)
-    (put-instr-same-length t)
-    (put-instr-returns-2 t)
-    (put-instr-same-length-2 t)
-    (put-instr-returns-3 t)
-    (put-instr-same-length-3 t)
-    (put-instr-returns-4 t))
-    (λ t. put-list-lts.spec (
+    ) (put-instr-at t) put-instr.Post (put-instr-first-of-requires t) (search needs)
+    (search needs) (put-instr-put-plain-requires t) (search needs) (put-instr-put-conditional-requires t) (search needs)
+    (put-instr-put-make-cont-requires t) (put-instr-returns t) (put-instr-same-length t) (put-instr-returns-2 t) (put-instr-same-length-2 t)
+    (put-instr-returns-3 t) (put-instr-same-length-3 t) (put-instr-returns-4 t)) (λ t. put-list-lts.spec (
       put-field-reads.Asked,
       put-field-reads.Learnt,
       put-instr-below t,
       put-instr.Post,
-    )
-    (put-list-at t)
-    put-list.Post
-    put-list-Inv-loop
-    put-list-μ-loop
-    (put-list-loop-holds t)
-    (put-list-same-length t)
-    (put-list-returns t)
-    (put-list-put-field-requires t)
-    (put-list-same-length-2 t)
-    (put-list-returns-2 t)
-    (put-list-put-instr-requires t)
-    (put-list-enum-told t)
-    (put-list-same-length-3 t)
-    (put-list-returns-3 t)
-    (put-list-enum-known-left t)
-    (put-list-loop-less t)
-    (put-list-loop-again t))
-    λ t. put-make-cont-lts.spec
-    (put-field-reads.Asked, put-field-reads.Learnt, put-list-below t, put-list.Post)
-    (put-make-cont-at t)
-    put-make-cont.Post
-    (put-make-cont-put-field-requires t)
-    (put-make-cont-add-put-field t)
-    (put-make-cont-shared-slice-read-put-field t)
-    (put-make-cont-cast-put-field t)
-    (put-make-cont-put-field-requires-2 t)
-    (put-make-cont-sub-put-list t)
-    (put-make-cont-put-list-requires t)
-    (put-make-cont-enum-told t)
-    (put-make-cont-enum-known-past t)
-    (put-make-cont-add-t27 t)
-    (put-make-cont-same-length t)
-    (put-make-cont-returns t)
-    (put-make-cont-same-length-2 t)
-    (put-make-cont-returns-2 t)
+    ) (put-list-at t) put-list.Post put-list-Inv-loop put-list-μ-loop
+    (put-list-loop-holds t) (put-list-same-length t) (put-list-returns t) (put-list-put-field-requires t) (put-list-same-length-2 t)
+    (put-list-returns-2 t) (put-list-put-instr-requires t) (search needs) (put-list-same-length-3 t) (put-list-returns-3 t) (search needs)
+    (put-list-loop-less t) (put-list-loop-again t)) λ t. put-make-cont-lts.spec (
+      put-field-reads.Asked,
+      put-field-reads.Learnt,
+      put-list-below t,
+      put-list.Post,
+    ) (put-make-cont-at t) put-make-cont.Post (put-make-cont-put-field-requires t) (put-make-cont-add-put-field t)
+    (put-make-cont-shared-slice-read-put-field t) (put-make-cont-cast-put-field t) (put-make-cont-put-field-requires-2 t)
+    (put-make-cont-sub-put-list t) (put-make-cont-put-list-requires t) (search needs) (search needs) (put-make-cont-add-t27 t)
+    (put-make-cont-same-length t) (put-make-cont-returns t) (put-make-cont-same-length-2 t) (put-make-cont-returns-2 t)

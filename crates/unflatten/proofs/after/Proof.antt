@@ -12,14 +12,8 @@ use Rattle.unflatten.proofs.after.Reads as reads
 use Rattle.unflatten.proofs.after.Lts as lts
 use Rattle.unflatten.proofs.shape.Reads as shape-reads
 
-shape-requires : tie.Need-shape-requires
-shape-requires c κs = search needs
-
 sub-result : tie.Need-sub-result
 sub-result c = omega (arith, shape-some (c .before .before .args .code) (omega arith), c .shape .ensures)
-
-cast-result : tie.Need-cast-result
-cast-result c = search needs
 
 returns : tie.Need-returns
 unfolding after operands shapeOf
@@ -41,14 +35,4 @@ returns-5 : tie.Need-returns-5
 returns-5 c = rw (c .shape .ensures) (sym (after-other _ (λ z. omega arith) (λ z. omega arith) (λ z. omega arith)))
 
 pub after-spec : {M : Type 1} → statement M
-after-spec =
-    tie.close
-    (tie.spec
-    shape-requires
-    sub-result
-    cast-result
-    returns
-    returns-2
-    returns-3
-    returns-4
-    returns-5)
+after-spec = tie.close (tie.spec (search needs) sub-result (search needs) returns returns-2 returns-3 returns-4 returns-5)

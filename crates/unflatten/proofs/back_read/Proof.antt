@@ -24,12 +24,6 @@ bits-at-requires c κs =
     let p = file (a .s .now) (h .0) in
     (p .short, (omega arith, p .some))
 
-put-field-requires : tie.Need-put-field-requires
-put-field-requires c κs = search needs
-
-cast-put-templates : tie.Need-cast-put-templates
-cast-put-templates c = search needs
-
 put-templates-requires : tie.Need-put-templates-requires
 put-templates-requires c κs =
     let h = c .before .before .before .before .before .before .before .before .before .before .before .pre in
@@ -43,12 +37,6 @@ put-templates-requires c κs =
     (bytes-all (a .s .now) (λ i. omega (arith, shared-slice-known .given i))) (h .1) (h .2) (f .1) (f .0) in
     let p = file (a .s .now) (h .0) in
     (p .short, ap length (h .1) ∙ length-replicate {A = ℕ} 16384 0, omega (arith, b .0, p .few), omega (arith, h .2, put-field .kept .0), w)
-
-enum-known-own : tie.Need-enum-known-own
-enum-known-own c = search needs
-
-enum-known-end : tie.Need-enum-known-end
-enum-known-end c = search needs
 
 past-requires : tie.Need-past-requires
 past-requires c κs =
@@ -67,9 +55,6 @@ past-requires c κs =
     (bytes-all (a .s .now) (λ i. omega (arith, shared-slice-known .given i))) (h .1) (h .2) (f .1) (f .0) in
     let g = back-given (a .s .now) (h .0) (put-templates .ensures w) (length (a .out .now)) (a .out .now) (c .before .before .end .given .1) in
     omega (arith, g .room, h .2, put-field .kept .0)
-
-byte-requires : tie.Need-byte-requires
-byte-requires c κs = search needs
 
 give-requires : tie.Need-give-requires
 give-requires c κs =
@@ -92,12 +77,6 @@ give-requires c κs =
     let g = back-given (a .s .now) (h .0) (put-templates .ensures w) (length (a .out .now)) (a .out .now) (end .given .1) in
     omega (arith, g .room, h .2, put-field .kept .0, put-templates .kept .1 .1 .1 .0, c .before .byte .ensures, c .before .before .past .ensures)
 
-same-length : tie.Need-same-length
-same-length c = search needs
-
-same-length-2 : tie.Need-same-length-2
-same-length-2 c = search needs
-
 returns : tie.Need-returns
 returns c =
     let h = c .before .before .before .before .before .before .before .before .before .before .before .before .before .before .before .before .before
@@ -114,15 +93,6 @@ returns c =
     let w = templates-in (a .s .now) (h .0) _ _ (a .table .now) (a .tree .now) _ (b .0)
     (bytes-all (a .s .now) (λ i. omega (arith, shared-slice-known .given i))) (h .1) (h .2) (f .1) (f .0) in
     back-stuck (a .s .now) (h .0) (put-templates .ensures w) (length (a .out .now)) (a .out .now) (c .before .own .given .1)
-
-same-length-3 : tie.Need-same-length-3
-same-length-3 c = search needs
-
-same-length-4 : tie.Need-same-length-4
-same-length-4 c = search needs
-
-same-length-5 : tie.Need-same-length-5
-same-length-5 c = search needs
 
 returns-2 : tie.Need-returns-2
 returns-2 c =
@@ -150,22 +120,5 @@ returns-2 c =
     (give .ensures .0 ∙ ap answered (sym e), give .ensures .1 ∙ ap (written (a .out .now)) (sym e))
 
 pub back-read-spec : {M : Type 1} → statement M
-back-read-spec =
-    tie.close
-    (tie.spec
-    bits-at-requires
-    put-field-requires
-    cast-put-templates
-    put-templates-requires
-    enum-known-own
-    enum-known-end
-    past-requires
-    byte-requires
-    give-requires
-    same-length
-    same-length-2
-    returns
-    same-length-3
-    same-length-4
-    same-length-5
-    returns-2)
+back-read-spec = tie.close (tie.spec bits-at-requires (search needs) (search needs) put-templates-requires (search needs) (search needs) past-requires
+    (search needs) give-requires (search needs) (search needs) returns (search needs) (search needs) (search needs) returns-2)

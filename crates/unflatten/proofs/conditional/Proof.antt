@@ -15,38 +15,14 @@ use Rattle.unflatten.proofs.open_arms.Reads as open-arms-reads
 returns : tie.Need-returns
 returns c = let h = c .before .before .pre in head-last-3 _ _ _ _ _ (h .1) (h .2) (h .3) (c .if1 .taken)
 
-sub-if2 : tie.Need-sub-if2
-sub-if2 c = search needs
-
 returns-2 : tie.Need-returns-2
 returns-2 c = let h = c .before .before .before .pre in cond-short _ _ _ _ _ (h .1) (h .2) (h .3) (c .if2 .taken)
-
-add-offset-at : tie.Need-add-offset-at
-add-offset-at c = search needs
-
-offset-at-requires : tie.Need-offset-at-requires
-offset-at-requires c κs = search needs
-
-add-if3 : tie.Need-add-if3
-add-if3 c = search needs
-
-sub-if3 : tie.Need-sub-if3
-sub-if3 c = search needs
 
 returns-3 : tie.Need-returns-3
 returns-3 c =
     let h = c .before .before .before .before .before .pre in
     let if1 = c .before .before .before .if1 in
     levelled _ _ _ _ _ _ (if1 .left) (cond-far _ _ _ _ _ _ (h .2) (omega arith) (h .3) (c .before .offset-at .ensures) (omega (arith, c .if3 .taken)))
-
-add-turn : tie.Need-add-turn
-add-turn c = search needs
-
-add-turn-2 : tie.Need-add-turn-2
-add-turn-2 c = search needs
-
-add-ends-in-jump : tie.Need-add-ends-in-jump
-add-ends-in-jump c = search needs
 
 ends-in-jump-requires : tie.Need-ends-in-jump-requires
 ends-in-jump-requires c κs = let h = c .before .before .before .before .before .pre in (h .0, omega arith, omega (arith, h .2, c .if3 .left))
@@ -84,22 +60,5 @@ returns-6 c =
     (sym (c .before .before .ends-in-jump .ensures) ∙ c .before .if4 .left))
 
 pub conditional-spec : {M : Type 1} → statement M
-conditional-spec =
-    tie.close
-    (tie.spec
-    returns
-    sub-if2
-    returns-2
-    add-offset-at
-    offset-at-requires
-    add-if3
-    sub-if3
-    returns-3
-    add-turn
-    add-turn-2
-    add-ends-in-jump
-    ends-in-jump-requires
-    open-arms-requires
-    returns-4
-    returns-5
-    returns-6)
+conditional-spec = tie.close (tie.spec returns (search needs) returns-2 (search needs) (search needs) (search needs) (search needs) returns-3
+    (search needs) (search needs) (search needs) ends-in-jump-requires open-arms-requires returns-4 returns-5 returns-6)

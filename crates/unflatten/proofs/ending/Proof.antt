@@ -7,12 +7,6 @@ use Rattle.unflatten.proofs.ending.Tie as tie
 use Rattle.unflatten.proofs.ending.Reads as reads
 use Rattle.unflatten.proofs.ending.Lts as lts
 
-sub-if1 : tie.Need-sub-if1
-sub-if1 c = search needs
-
-add-if1 : tie.Need-add-if1
-add-if1 c = search needs
-
 returns : tie.Need-returns
 returns c = let h = c .before .pre in head-not-ending _ _ _ _ _ (h .1) (h .2) _ (h .4) (h .3) (c .if1 .taken)
 
@@ -23,4 +17,4 @@ returns-3 : tie.Need-returns-3
 returns-3 c = let h = c .before .before .pre in head-loose _ _ _ _ _ (h .1) (h .2) _ (h .4) (h .3) (c .before .if1 .left) (c .if2 .left)
 
 pub ending-spec : {M : Type 1} → statement M
-ending-spec = tie.close (tie.spec sub-if1 add-if1 returns returns-2 returns-3)
+ending-spec = tie.close (tie.spec (search needs) (search needs) returns returns-2 returns-3)

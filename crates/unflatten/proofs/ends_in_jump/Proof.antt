@@ -21,15 +21,6 @@ abbrev μ-loop : tie.MeasureT-loop
 loop-holds : tie.Need-loop-holds Inv-loop μ-loop
 loop-holds c = let h = c .before .pre in (scan-begun _ _ _ (λ z. absurd (omega arith)), omega arith)
 
-shared-slice-read-last : tie.Need-shared-slice-read-last Inv-loop μ-loop
-shared-slice-read-last c = search needs
-
-add-p : tie.Need-add-p Inv-loop μ-loop
-add-p c = search needs
-
-after-requires : tie.Need-after-requires Inv-loop μ-loop
-after-requires c κs = search needs
-
 add-p-2 : tie.Need-add-p-2 Inv-loop μ-loop
 add-p-2 c = omega (arith, after-low _ _ (c .after .ensures))
 
@@ -50,17 +41,5 @@ returns-2 : tie.Need-returns-2 Inv-loop μ-loop
 returns-2 c = sym (scan-end _ _ _ _ _ (c .before .loop-test .left) (c .if1 .left) (c .before .before .loop .inv .0))
 
 pub ends-in-jump-spec : {M : Type 1} → statement M
-ends-in-jump-spec =
-    tie.close
-    (tie.spec
-    Inv-loop
-    μ-loop
-    loop-holds
-    shared-slice-read-last
-    add-p
-    after-requires
-    add-p-2
-    loop-less
-    loop-again
-    returns
+ends-in-jump-spec = tie.close (tie.spec Inv-loop μ-loop loop-holds (search needs) (search needs) (search needs) add-p-2 loop-less loop-again returns
     returns-2)

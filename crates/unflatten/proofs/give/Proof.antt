@@ -28,18 +28,6 @@ returns-2 c = let a = c .before .before .args in give-short (a .tree .now) (a .o
 loop-holds : tie.Need-loop-holds Inv-loop μ-loop
 loop-holds c = let a = c .before .before .args in (omega arith, refl, paste-zero (a .out .now) 0 (a .tree .now))
 
-shared-slice-read-out : tie.Need-shared-slice-read-out Inv-loop μ-loop
-shared-slice-read-out c = search needs
-
-slice-write-out : tie.Need-slice-write-out Inv-loop μ-loop
-slice-write-out c = search needs
-
-add-i : tie.Need-add-i Inv-loop μ-loop
-add-i c = search needs
-
-loop-less : tie.Need-loop-less Inv-loop μ-loop
-loop-less c = search needs
-
 loop-again : tie.Need-loop-again Inv-loop μ-loop
 loop-again c =
     let pre = c .before .before .before .before .before .pre in
@@ -61,18 +49,5 @@ returns-3 c =
     give-all (a .tree .now) (a .out .now) (a .n) (pre) (if1 .left) (c .before .before .if2 .left) (i .2 ∙ ap (paste (a .out .now) 0 (a .tree .now)) e)
 
 pub give-spec : {M : Type 1} → statement M
-give-spec =
-    tie.close
-    (tie.spec
-    Inv-loop
-    μ-loop
-    returns
-    returns-2
-    loop-holds
-    shared-slice-read-out
-    slice-write-out
-    add-i
-    loop-less
-    loop-again
-    same-length
-    returns-3)
+give-spec = tie.close (tie.spec Inv-loop μ-loop returns returns-2 loop-holds (search needs) (search needs) (search needs) (search needs) loop-again
+    same-length returns-3)

@@ -11,35 +11,14 @@ use Rattle.unflatten.proofs.offset_at.Reads as offset-at-reads
 returns : tie.Need-returns
 returns c = let h = c .before .before .pre in head-last-4 _ _ _ _ _ (h .1) (h .2) (h .3) (c .if1 .taken)
 
-sub-if2 : tie.Need-sub-if2
-sub-if2 c = search needs
-
 returns-2 : tie.Need-returns-2
 returns-2 c = let h = c .before .before .before .pre in cont-short _ _ _ _ _ (h .1) (h .2) (h .3) (c .if2 .taken)
-
-add-offset-at : tie.Need-add-offset-at
-add-offset-at c = search needs
-
-offset-at-requires : tie.Need-offset-at-requires
-offset-at-requires c κs = search needs
-
-add-if3 : tie.Need-add-if3
-add-if3 c = search needs
-
-sub-if3 : tie.Need-sub-if3
-sub-if3 c = search needs
 
 returns-3 : tie.Need-returns-3
 returns-3 c =
     let h = c .before .before .before .before .before .pre in
     let if1 = c .before .before .before .if1 in
     levelled _ _ _ _ _ _ (if1 .left) (cont-far _ _ _ _ _ _ (h .2) (omega arith) (h .3) (c .before .offset-at .ensures) (c .if3 .taken))
-
-add-t8 : tie.Need-add-t8
-add-t8 c = search needs
-
-add-t9 : tie.Need-add-t9
-add-t9 c = search needs
 
 returns-4 : tie.Need-returns-4
 returns-4 c =
@@ -48,17 +27,5 @@ returns-4 c =
     levelled _ _ _ _ _ _ (if1 .left) (cont-head _ _ _ _ _ _ (h .2) (omega arith) (h .3) (c .before .offset-at .ensures) (c .if3 .left))
 
 pub make-cont-spec : {M : Type 1} → statement M
-make-cont-spec =
-    tie.close
-    (tie.spec
-    returns
-    sub-if2
-    returns-2
-    add-offset-at
-    offset-at-requires
-    add-if3
-    sub-if3
-    returns-3
-    add-t8
-    add-t9
-    returns-4)
+make-cont-spec = tie.close (tie.spec returns (search needs) returns-2 (search needs) (search needs) (search needs) (search needs) returns-3
+    (search needs) (search needs) returns-4)

@@ -9,12 +9,6 @@ use Rattle.unflatten.proofs.neutral.Reads as reads
 use Rattle.unflatten.proofs.neutral.Lts as lts
 use Rattle.unflatten.proofs.shape.Reads as shape-reads
 
-shared-slice-read-shape : tie.Need-shared-slice-read-shape
-shared-slice-read-shape c = search needs
-
-shape-requires : tie.Need-shape-requires
-shape-requires c κs = search needs
-
 returns : tie.Need-returns
 returns c =
     let h = c .before .before .before .before .pre in
@@ -22,15 +16,6 @@ returns c =
 
 sub-n : tie.Need-sub-n
 sub-n c = let h = c .before .before .before .before .pre in let s = shape-low _ _ (c .before .shape .ensures) (omega (arith, h .3)) in omega arith
-
-cast-n : tie.Need-cast-n
-cast-n c = search needs
-
-sub-if2 : tie.Need-sub-if2
-sub-if2 c = search needs
-
-add-if2 : tie.Need-add-if2
-add-if2 c = search needs
 
 returns-2 : tie.Need-returns-2
 returns-2 c =
@@ -45,15 +30,4 @@ returns-3 c =
     head-neutral _ _ _ _ _ (h .1) (h .2) _ refl (h .3) _ (omega (arith, c .before .if1 .left, shape .ensures)) (omega (arith, shape .ensures)) (c .if2 .left)
 
 pub neutral-spec : {M : Type 1} → statement M
-neutral-spec =
-    tie.close
-    (tie.spec
-    shared-slice-read-shape
-    shape-requires
-    returns
-    sub-n
-    cast-n
-    sub-if2
-    add-if2
-    returns-2
-    returns-3)
+neutral-spec = tie.close (tie.spec (search needs) (search needs) returns sub-n (search needs) (search needs) (search needs) returns-2 returns-3)

@@ -7,20 +7,11 @@ use Rattle.unflatten.proofs.offset_at.Tie as tie
 use Rattle.unflatten.proofs.offset_at.Reads as reads
 use Rattle.unflatten.proofs.offset_at.Lts as lts
 
-shared-slice-read-result : tie.Need-shared-slice-read-result
-shared-slice-read-result c = search needs
-
 cast-result : tie.Need-cast-result
 cast-result c = omega (arith, c .shared-slice-known .given (c .before .args .at))
 
 mul-result : tie.Need-mul-result
 mul-result c = omega (arith, c .shared-slice-known .given (c .before .args .at))
-
-add-result : tie.Need-add-result
-add-result c = search needs
-
-shared-slice-read-result-2 : tie.Need-shared-slice-read-result-2
-shared-slice-read-result-2 c = search needs
 
 cast-result-2 : tie.Need-cast-result-2
 cast-result-2 c = omega (arith, c .shared-slice-known2 .given (c .before .before .args .at + 1))
@@ -30,18 +21,5 @@ add-result-2 c =
     let args = c .before .before .args in
     omega (arith, c .before .shared-slice-known .given (args .at), c .shared-slice-known2 .given (args .at + 1))
 
-returns : tie.Need-returns
-returns c = search needs
-
 pub offset-at-spec : {M : Type 1} → statement M
-offset-at-spec =
-    tie.close
-    (tie.spec
-    shared-slice-read-result
-    cast-result
-    mul-result
-    add-result
-    shared-slice-read-result-2
-    cast-result-2
-    add-result-2
-    returns)
+offset-at-spec = tie.close (tie.spec (search needs) cast-result mul-result (search needs) (search needs) cast-result-2 add-result-2 (search needs))

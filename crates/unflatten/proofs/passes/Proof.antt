@@ -10,28 +10,13 @@ use Rattle.unflatten.proofs.passes.Reads as reads
 use Rattle.unflatten.proofs.passes.Lts as lts
 use Rattle.unflatten.proofs.slot_named.Reads as slot-named-reads
 
-shared-slice-read-code : tie.Need-shared-slice-read-code
-shared-slice-read-code c = search needs
-
 returns : tie.Need-returns
 returns c = let a = c .before .before .before .before .args in passes-low (slotNamed (a .table .now) (a .own)) (a .s .now) (a .p) (a .n) (c .if1 .taken)
-
-slot-named-requires : tie.Need-slot-named-requires
-slot-named-requires c κs = search needs
 
 returns-2 : tie.Need-returns-2
 returns-2 c =
     let a = c .before .before .before .before .before .before .args in
     c .slot-named .ensures ∙ passes-none (slotNamed (a .table .now) (a .own)) (a .s .now) (a .p) (a .n) (c .before .before .if1 .left) (c .before .if2 .taken)
-
-add-slot-named : tie.Need-add-slot-named
-add-slot-named c = search needs
-
-shared-slice-read-slot-named : tie.Need-shared-slice-read-slot-named
-shared-slice-read-slot-named c = search needs
-
-slot-named-requires-2 : tie.Need-slot-named-requires-2
-slot-named-requires-2 c κs = search needs
 
 returns-3 : tie.Need-returns-3
 returns-3 c =
@@ -41,14 +26,4 @@ returns-3 c =
     c .slot-named2 .ensures ∙ passes-first (slotNamed (a .table .now) (a .own)) (a .s .now) (a .p) (a .n) (if1 .left) (c .before .before .if2 .left) (h .3)
 
 pub passes-spec : {M : Type 1} → statement M
-passes-spec =
-    tie.close
-    (tie.spec
-    shared-slice-read-code
-    returns
-    slot-named-requires
-    returns-2
-    add-slot-named
-    shared-slice-read-slot-named
-    slot-named-requires-2
-    returns-3)
+passes-spec = tie.close (tie.spec (search needs) returns (search needs) returns-2 (search needs) (search needs) (search needs) returns-3)

@@ -13,23 +13,11 @@ use Rattle.unflatten.proofs.put_list.Reads as put-list-reads
 mul-to : tie.Need-mul-to
 mul-to c = let h = c .before .before .before .pre in omega (arith, h .0, h .4 .inside)
 
-read-three-requires : tie.Need-read-three-requires
-read-three-requires c κs = search needs
-
-enum-known-n : tie.Need-enum-known-n
-enum-known-n c = search needs
-
-enum-told : tie.Need-enum-told
-enum-told c = search needs
-
 returns : tie.Need-returns
 returns c = λ n q e. absurd (told-cut _ _ _ e (c .before .before .read-three .ensures) (c .enum-told .given .1))
 
 add-from : tie.Need-add-from
 add-from c = let h = c .before .before .before .before .before .before .before .pre in omega (arith, h .0, h .4 .inside)
-
-cast-to : tie.Need-cast-to
-cast-to c = search needs
 
 add-to : tie.Need-add-to
 add-to c =
@@ -44,12 +32,6 @@ put-list-requires c κs =
     let read-three = c .before .before .before .before .read-three in
     let z = told-read _ _ _ (h .4 .read) (read-three .ensures) (c .before .before .n .given .1) in
     (h .0, h .1, h .2, omega arith, omega (arith, h .4 .inside, z), h .3, omega (arith, h .4 .room, z))
-
-enum-told-2 : tie.Need-enum-told-2
-enum-told-2 c = search needs
-
-enum-known-past : tie.Need-enum-known-past
-enum-known-past c = search needs
 
 same-length : tie.Need-same-length
 same-length c = c .before .before .before .before .put-list .kept .1 .1 .1 .1 .1 .1 .1 .0
@@ -72,21 +54,5 @@ returns-3 c =
     λ n q e. grows-on _ _ _ n _ _ _ (told-read _ _ _ e (read-three .ensures) (n′ .given .1)) (put-list .ensures) (c .before .past .given .1)
 
 pub put-code-spec : {M : Type 1} → statement M
-put-code-spec =
-    tie.close
-    (tie.spec
-    mul-to
-    read-three-requires
-    enum-known-n
-    enum-told
-    returns
-    add-from
-    cast-to
-    add-to
-    put-list-requires
-    enum-told-2
-    enum-known-past
-    same-length
-    returns-2
-    same-length-2
-    returns-3)
+put-code-spec = tie.close (tie.spec mul-to (search needs) (search needs) (search needs) returns add-from (search needs) add-to put-list-requires
+    (search needs) (search needs) same-length returns-2 same-length-2 returns-3)

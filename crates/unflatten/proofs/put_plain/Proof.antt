@@ -13,42 +13,6 @@ use Rattle.bit_writer.proofs.put_field.Reads as put-field-reads
 use Rattle.unflatten.proofs.both.Reads as both-reads
 use Rattle.unflatten.proofs.passes.Reads as passes-reads
 
-passes-requires : tie.Need-passes-requires
-passes-requires c κs = search needs
-
-shared-slice-read-code : tie.Need-shared-slice-read-code
-shared-slice-read-code c = search needs
-
-cast-put-field : tie.Need-cast-put-field
-cast-put-field c = search needs
-
-put-field-requires : tie.Need-put-field-requires
-put-field-requires c κs = search needs
-
-add-t21 : tie.Need-add-t21
-add-t21 c = search needs
-
-mul-t22 : tie.Need-mul-t22
-mul-t22 c = search needs
-
-mul-copy-bits : tie.Need-mul-copy-bits
-mul-copy-bits c = search needs
-
-copy-bits-requires : tie.Need-copy-bits-requires
-copy-bits-requires c κs = search needs
-
-add-t21-2 : tie.Need-add-t21-2
-add-t21-2 c = search needs
-
-add-t24 : tie.Need-add-t24
-add-t24 c = search needs
-
-both-requires : tie.Need-both-requires
-both-requires c κs = search needs
-
-same-length : tie.Need-same-length
-same-length c = search needs
-
 returns : tie.Need-returns
 returns c =
     let h = c .before .before .before .before .before .before .before .before .before .before .before .before .before .before .before .pre in
@@ -70,20 +34,5 @@ returns-2 c =
     (h .6) (sym (c .before .passes .ensures) ∙ c .if1 .left)
 
 pub put-plain-spec : {M : Type 1} → statement M
-put-plain-spec =
-    tie.close
-    (tie.spec
-    passes-requires
-    shared-slice-read-code
-    cast-put-field
-    put-field-requires
-    add-t21
-    mul-t22
-    mul-copy-bits
-    copy-bits-requires
-    add-t21-2
-    add-t24
-    both-requires
-    same-length
-    returns
-    returns-2)
+put-plain-spec = tie.close (tie.spec (search needs) (search needs) (search needs) (search needs) (search needs) (search needs) (search needs)
+    (search needs) (search needs) (search needs) (search needs) (search needs) returns returns-2)

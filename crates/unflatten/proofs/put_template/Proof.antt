@@ -30,9 +30,6 @@ bits-at-requires c κs =
     let p = parts (a .s .now) (a .table .now) (a .out .now) (a .own) (a .count) (a .byte) (a .at .0) (h .1) (h .2) (h .3) (h .5) in
     (h .0, (omega arith, omega (arith, p .inside, p .end-is)))
 
-cast-read-entries : tie.Need-cast-read-entries
-cast-read-entries c = search needs
-
 past-requires : tie.Need-past-requires
 past-requires c κs =
     let h = c .before .before .before .before .before .pre in
@@ -44,9 +41,6 @@ read-entries-requires : tie.Need-read-entries-requires
 read-entries-requires c κs =
     let h = c .before .before .before .before .before .before .pre in
     (h .0, (omega (arith, h .1, h .2), (h .3, c .before .before .bits-at .ensures .1)))
-
-enum-known-past : tie.Need-enum-known-past
-enum-known-past c = search needs
 
 since-requires : tie.Need-since-requires
 since-requires c κs =
@@ -89,9 +83,6 @@ past-requires-2 c κs =
     (past .ensures) (read-entries .ensures .0) (past2 .given .1) in
     omega (arith, e, h .0, p .inside)
 
-byte-requires : tie.Need-byte-requires
-byte-requires c κs = search needs
-
 put-code-requires : tie.Need-put-code-requires
 put-code-requires c κs =
     let h = c .before .before .before .before .before .before .before .before .before .before .before .before .before .before .before .before .before
@@ -116,15 +107,6 @@ put-code-requires c κs =
           (copy-bits .ensures .0 ∙ ap (λ x. a .at .0 + x) (since .ensures)),
     )
 
-enum-told : tie.Need-enum-told
-enum-told c = search needs
-
-same-length : tie.Need-same-length
-same-length c = search needs
-
-same-length-2 : tie.Need-same-length-2
-same-length-2 c = search needs
-
 returns : tie.Need-returns
 returns c =
     let h = c .before .before .before .before .before .before .before .before .before .before .before .before .before .before .before .before .before
@@ -148,9 +130,6 @@ returns c =
       slots-same (a .s .now) (a .own) (a .count) (a .byte) _ _ (a .table .now) _ (bits-at .ensures .0) (past .ensures) (read-entries .ensures .1),
     )
 
-same-length-3 : tie.Need-same-length-3
-same-length-3 c = search needs
-
 returns-2 : tie.Need-returns-2
 returns-2 c =
     let h = c .before .before .before .before .before .before .before .before .before .before .before .pre in
@@ -164,23 +143,6 @@ returns-2 c =
     )
 
 pub put-template-spec : {M : Type 1} → statement M
-put-template-spec =
-    tie.close
-    (tie.spec
-    mul-read-entries
-    bits-at-requires
-    cast-read-entries
-    past-requires
-    read-entries-requires
-    enum-known-past
-    since-requires
-    copy-bits-requires
-    past-requires-2
-    byte-requires
-    put-code-requires
-    enum-told
-    same-length
-    same-length-2
-    returns
-    same-length-3
-    returns-2)
+put-template-spec = tie.close (tie.spec mul-read-entries bits-at-requires (search needs) past-requires read-entries-requires (search needs)
+    since-requires copy-bits-requires past-requires-2 (search needs) put-code-requires (search needs) (search needs) (search needs) returns
+    (search needs) returns-2)

@@ -34,9 +34,6 @@ put-template-requires c κs =
       this-one _ _ _ _ _ _ _ _ _ _ _ _ g (loop-test .taken) (h .2),
     )
 
-enum-told : tie.Need-enum-told Inv-loop μ-loop
-enum-told c = search needs
-
 same-length : tie.Need-same-length Inv-loop μ-loop
 same-length c =
     let loop = c .before .before .before .before .before .before .before .before .before .before .loop in
@@ -58,9 +55,6 @@ returns c =
     let g = loop .inv in
     let t = loop-test .taken in
     growing-stuck _ _ _ _ _ _ _ _ _ _ _ _ g t (h .2) (put-template .ensures .0 (this-one _ _ _ _ _ _ _ _ _ _ _ _ g t (h .2))) (c .enum-told .given .1)
-
-enum-known-next : tie.Need-enum-known-next Inv-loop μ-loop
-enum-known-next c = search needs
 
 add-own : tie.Need-add-own Inv-loop μ-loop
 add-own c =
@@ -94,21 +88,5 @@ returns-2 : tie.Need-returns-2 Inv-loop μ-loop
 returns-2 c = growing-end _ _ _ _ _ _ _ _ _ _ _ _ (c .before .loop .inv) (c .loop-test .left) refl
 
 pub put-templates-spec : {M : Type 1} → statement M
-put-templates-spec =
-    tie.close
-    (tie.spec
-    Inv-loop
-    μ-loop
-    loop-holds
-    put-template-requires
-    enum-told
-    same-length
-    same-length-2
-    returns
-    enum-known-next
-    add-own
-    loop-less
-    loop-again
-    same-length-3
-    same-length-4
-    returns-2)
+put-templates-spec = tie.close (tie.spec Inv-loop μ-loop loop-holds put-template-requires (search needs) same-length same-length-2 returns
+    (search needs) add-own loop-less loop-again same-length-3 same-length-4 returns-2)

@@ -18,21 +18,6 @@ returns-2 : tie.Need-returns-2
 unfolding slotNamed
 returns-2 c = let a = c .before .before .before .args in rw (le-leb (a .code) 9 (c .before .if1 .left), c .if2 .taken) refl
 
-mul-slot : tie.Need-mul-slot
-mul-slot c = search needs
-
-add-slot : tie.Need-add-slot
-add-slot c = search needs
-
-mul-slot-fits : tie.Need-mul-slot-fits
-mul-slot-fits c = search needs
-
-shared-slice-read-slot-fits : tie.Need-shared-slice-read-slot-fits
-shared-slice-read-slot-fits c = search needs
-
-slot-fits-requires : tie.Need-slot-fits-requires
-slot-fits-requires c κs = search needs
-
 returns-3 : tie.Need-returns-3
 unfolding slotNamed
 returns-3 c =
@@ -41,14 +26,4 @@ returns-3 c =
     c .slot-fits .ensures ∙ rw (le-leb (a .code) 9 (if1 .left), ne-eqb (a .n) 0 (c .before .before .if2 .left)) refl
 
 pub slot-named-spec : {M : Type 1} → statement M
-slot-named-spec =
-    tie.close
-    (tie.spec
-    returns
-    returns-2
-    mul-slot
-    add-slot
-    mul-slot-fits
-    shared-slice-read-slot-fits
-    slot-fits-requires
-    returns-3)
+slot-named-spec = tie.close (tie.spec returns returns-2 (search needs) (search needs) (search needs) (search needs) (search needs) returns-3)

@@ -7,9 +7,6 @@ use borrow.Author.Needs.{needs}
 use Rattle.cells.proofs.BitPlace.within.Statement.{statement}
 use Rattle.cells.proofs.BitPlace.within.Tie as tie
 
-mul-end : tie.Need-mul-end
-mul-end c = search needs
-
 returns : tie.Need-returns
 returns c = let a = c .before .args in sym (lt-leb (a .self .0 + a .n) (8 * a .bytes) (omega arith))
 
@@ -20,4 +17,4 @@ returns-3 : tie.Need-returns-3
 returns-3 c = let a = c .before .before .args in sym (le-leb (a .self .0 + a .n) (8 * a .bytes) (omega arith))
 
 pub within-spec : {M : Type 1} → statement M
-within-spec = tie.close (tie.spec mul-end returns returns-2 returns-3)
+within-spec = tie.close (tie.spec (search needs) returns returns-2 returns-3)
