@@ -39,7 +39,7 @@ fn two_at(s: &[u8], i: usize) -> u32
 }
 
 // The four bytes at i, one test where all are there.
-fn four_at(s: &[u8], i: usize) -> u32
+pub fn four_at(s: &[u8], i: usize) -> u32
     requires { ⌜ i ≤ 262144 ⌝ }
     ensures { λ r. ⌜ r ≡ fieldAt (now (s .entry)) (8 * i) 32 ⌝ }
 {

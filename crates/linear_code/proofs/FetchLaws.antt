@@ -7,10 +7,13 @@ use native.Mathlib.Nat.{add-zero, sub-zero, zero-sub, suc-sub-suc}
 use lib.ListN.{length, getD, take, drop, length-take, length-drop, drop-of-length-le, List·getD-eq-default}
 use lib.Seq.{take-nil, drop-cons, drop-drop, getD-take, getD-drop}
 use borrow.Author.Tests.{lt-ltb, le-ltb, le-leb, lt-leb, ne-eqb}
+use mathlib.Core.Bool.{true, false}
+use Rattle.cells.specs.laws.Laws.{clash}
 use Rattle.runs.specs.Runs.{part}
 use Rattle.files.specs.Codes.{operandBytes}
 use Rattle.machines.specs.Fetched.{Fetched, returns, calls, branches, saves, jumps, bad, plainly, offsetIn, transfer}
 use Rattle.machines.specs.Slots.{slotAt, slotResolve}
+use Rattle.linear_code.specs.Neutral.{isTransfer}
 use Rattle.linear_code.specs.Bytes.{wholeBytes, codeBytes, decodeBytes, codeFrom, fetchBytes, codeStart, codeLength, Within, AllWithin}
 
 -- ---- the `left` bytes at i of a file
@@ -66,6 +69,21 @@ module _ (slot : ℕ → ℕ) (op next : ℕ) (w : List ℕ) where
       → plainly (slotResolve slot op a b) next ≡ wholeBytes slot op w next
   unfolding wholeBytes transfer
   whole-other a b h₁ h₂ h₃ h₄ h₅ i j = rw (ne-eqb op 1 h₁, ne-eqb op 2 h₂, ne-eqb op 3 h₃, ne-eqb op 4 h₄, ne-eqb op 5 h₅, i, j)
+
+-- a neutral code is none of the others
+not-transfer : (op k : ℕ) → isTransfer k ≡ true → isTransfer op ≡ false → op ≡ k → ⊥
+not-transfer op k t f e = let z : isTransfer op ≡ true = rw e t in clash (cc)
+
+pub is-neutral : (op : ℕ) → (op ≡ 1 → ⊥) → (op ≡ 2 → ⊥) → (op ≡ 3 → ⊥) → (op ≡ 4 → ⊥) → (op ≡ 5 → ⊥) → isTransfer op ≡ false
+unfolding isTransfer
+is-neutral op h₁ h₂ h₃ h₄ h₅ = rw (ne-eqb op 1 h₁, ne-eqb op 2 h₂, ne-eqb op 3 h₃, ne-eqb op 4 h₄, ne-eqb op 5 h₅)
+
+pub whole-neutral : (slot : ℕ → ℕ) (op next : ℕ) (w : List ℕ) (a b : ℕ) → isTransfer op ≡ false → a ≡ getD w 0 0 → b ≡ getD w 1 0
+    → plainly (slotResolve slot op a b) next ≡ wholeBytes slot op w next
+unfolding isTransfer
+whole-neutral slot op next w a b h =
+    whole-other slot op next w a b (not-transfer op 1 refl h) (not-transfer op 2 refl h) (not-transfer op 3 refl h) (not-transfer op 4 refl h)
+    (not-transfer op 5 refl h)
 
 -- a code at q, and the `left` bytes at i after it
 module _ (s : List ℕ) (i left : ℕ) (fits : i + left ≤ length s) (slot : ℕ → ℕ) (q op n : ℕ) (c : n ≡ operandBytes op) where

@@ -3,15 +3,20 @@ use cells::BytePlace;
 use machines::CodePlace;
 use machines::Instruction;
 ghost use mathlib.Core.Path.{_≡_};
-ghost use mathlib.Core.Bool.{true};
-ghost use mathlib.Core.List.{List, []};
+ghost use mathlib.Core.Bool.{false};
 ghost use Prim.Native.Nat.{ℕ, _+_, _*_, _≤_, _<_};
 ghost use lib.ListN.{length, getD};
 ghost use Rattle.runs.specs.Runs.{part};
 ghost use Rattle.files.specs.Codes.{operandBytes};
-ghost use Rattle.machines.specs.Slots.{slotAt};
 ghost use Rattle.machines.specs.Instruction.{linearForm, fetchedAs, Places};
-ghost use Rattle.linear_code.specs.Bytes.{wholeBytes, codeBytes, fetchBytes, codeStart, codeLength, Within, AllWithin};
+ghost use Rattle.linear_code.specs.Bytes.{wholeBytes, codeBytes};
+ghost use Rattle.linear_code.specs.Neutral.{isTransfer, neutralAs};
+
+// A neutral code's operands, of which it may have fewer, and the place past it; or it is cut.
+pub enum NeutralAt {
+    Whole(u8, u8, BytePlace),
+    Cut,
+}
 
 // Byte k of the `left` bytes at i, 0 past them.
 fn operand(file: &[u8], i: usize, left: usize, k: usize) -> u8
@@ -102,7 +107,7 @@ fn fetch_whole(file: &[u8], i: usize, left: usize, op: u8, next: BytePlace) -> I
 }
 
 // An instruction: its code, which stands at a place, and the `left` bytes at i after it. One that is cut is bad.
-fn fetch_op(file: &[u8], i: usize, left: usize, op: u8, at: BytePlace) -> Instruction
+pub fn fetch_op(file: &[u8], i: usize, left: usize, op: u8, at: BytePlace) -> Instruction
     requires { ⌜ (i + left ≤ length (now file)) × (at .0 ≤ 262144) ⌝ }
     ensures { λ r. ⌜ ((slot : ℕ → ℕ) → fetchedAs slot r ≡ codeBytes slot (at .0) op (part (now (file .entry)) i left)) × Places linearForm r ⌝ }
 {
@@ -113,67 +118,16 @@ fn fetch_op(file: &[u8], i: usize, left: usize, op: u8, at: BytePlace) -> Instru
     fetch_whole(file, i, left, op, at.past(1 + count))
 }
 
-// The same, each code for itself: the compiler then knows its length and its rule, and a step is one jump to what its code does.
-fn fetch_known(file: &[u8], i: usize, left: usize, op: u8, at: BytePlace) -> Instruction
-    requires { ⌜ (i + left ≤ length (now file)) × (at .0 ≤ 262144) ⌝ }
-    ensures { λ r. ⌜ ((slot : ℕ → ℕ) → fetchedAs slot r ≡ codeBytes slot (at .0) op (part (now (file .entry)) i left)) × Places linearForm r ⌝ }
+// A neutral code, which stands at a place, and the `left` bytes at i after it.
+pub fn neutral_at(file: &[u8], i: usize, left: usize, op: u8, at: BytePlace) -> NeutralAt
+    requires { ⌜ (i + left ≤ length (now file)) × (at .0 ≤ 262144) × (isTransfer op ≡ false) ⌝ }
+    ensures { λ r. ⌜ ((slot : ℕ → ℕ) → neutralAs slot op r ≡ codeBytes slot (at .0) op (part (now (file .entry)) i left)) ⌝ }
 {
-    match op {
-        1 => fetch_op(file, i, left, 1, at),
-        2 => fetch_op(file, i, left, 2, at),
-        3 => fetch_op(file, i, left, 3, at),
-        4 => fetch_op(file, i, left, 4, at),
-        5 => fetch_op(file, i, left, 5, at),
-        6 => fetch_op(file, i, left, 6, at),
-        7 => fetch_op(file, i, left, 7, at),
-        8 => fetch_op(file, i, left, 8, at),
-        9 => fetch_op(file, i, left, 9, at),
-        10 => fetch_op(file, i, left, 10, at),
-        11 => fetch_op(file, i, left, 11, at),
-        12 => fetch_op(file, i, left, 12, at),
-        13 => fetch_op(file, i, left, 13, at),
-        15 => fetch_op(file, i, left, 15, at),
-        16 => fetch_op(file, i, left, 16, at),
-        18 => fetch_op(file, i, left, 18, at),
-        19 => fetch_op(file, i, left, 19, at),
-        20 => fetch_op(file, i, left, 20, at),
-        21 => fetch_op(file, i, left, 21, at),
-        22 => fetch_op(file, i, left, 22, at),
-        23 => fetch_op(file, i, left, 23, at),
-        24 => fetch_op(file, i, left, 24, at),
-        25 => fetch_op(file, i, left, 25, at),
-        _ => fetch_op(file, i, left, op, at),
+    let count = operand_count(op);
+    if count <= left {
+        let a = operand(file, i, left, 0);
+        let b = operand(file, i, left, 1);
+        return NeutralAt::Whole(a, b, at.past(1 + count));
     }
-}
-
-// What stands at a place of the `len` bytes of code at `start`.
-fn fetch_code(file: &[u8], start: usize, len: usize, at: BytePlace) -> Instruction
-    requires { ⌜ Within (now file) start len × (length (now file) ≤ 262144) ⌝ }
-    ensures { λ r. ⌜ ((table : List ℕ) (t : ℕ) → fetchedAs (slotAt table t) r ≡ fetchBytes (now (file .entry)) table t start len (at .0))
-        × Places linearForm r ⌝ }
-{
-    let left = at.left(len);
-    if left == 0 {
-        if start != 0 {
-            return Instruction::Bad;
-        }
-        if at.is_first() {
-            return Instruction::Return;
-        }
-        return Instruction::Bad;
-    }
-    let i = at.index(start);
-    fetch_known(file, i + 1, left - 1, file[i], at)
-}
-
-// What stands at a place of a template.
-pub fn fetch(file: &[u8], table: &[u64], template: u8, at: BytePlace) -> Instruction
-    requires { ⌜ AllWithin (now file) (now table) ⌝ }
-    ensures { λ r. ⌜ (fetchedAs (slotAt (now (table .entry)) template) r ≡ fetchBytes (now (file .entry)) (now (table .entry)) template
-        (codeStart (now (table .entry)) template) (codeLength (now (table .entry)) template) (at .0)) × Places linearForm r ⌝ }
-{
-    let slot = machines::slot_at(table, template, 0);
-    let start = (slot % 0x1_0000_0000) as usize;
-    let len = (slot / 0x1_0000_0000) as usize;
-    fetch_code(file, start, len, at)
+    NeutralAt::Cut
 }

@@ -1,7 +1,5 @@
 // The machine of linear code (document 01, 'Rules').
-use cells::BytePlace;
 use linear::LinearFile;
-use machines::CodePlace;
 use machines::Run;
 use machines::Start;
 use owners::Owner;
@@ -15,7 +13,7 @@ ghost use Rattle.machines.specs.Steps.{ranFrom};
 ghost use Rattle.linear_code.specs.Bytes.{bytesProgram, AllWithin};
 ghost use Rattle.linear_machine.specs.Again.{TableOf};
 
-// The run of a file that is read, where the table is its table. Linear code has no links.
+// The run of a file that is read, where the table is its table.
 fn run_read(
     file: &[u8],
     table: &[u64],
@@ -30,20 +28,7 @@ fn run_read(
     ensures { λ x. ⌜ ran x (lent (globals .exit) (stack .exit) (store .exit) (frames .exit))
         ≡ ranFrom owner (bytesProgram (now (file .entry)) (now (table .entry))) budget 0 (startState (now (globals .entry)) 0) ⌝ }
 {
-    let no_links = [0u32; 1];
-    let first = CodePlace::Linear(BytePlace(0));
-    steps::run_code(
-        file,
-        &no_links,
-        table,
-        first,
-        budget,
-        owner,
-        globals,
-        stack,
-        store,
-        frames,
-    )
+    linear_steps::run_code(file, table, budget, owner, globals, stack, store, frames)
 }
 
 // The run of a file, with a table of zeros for it to fill, which has a row for each of its templates.

@@ -1,12 +1,15 @@
 -- The facts of a list in one pass: what each instruction adds, from the first to the last.
-use Prim.Native.Nat.{ℕ, zero, suc, _+_}
+use Prim.Native.Nat.{ℕ, zero, suc, _+_, _≤_}
+use mathlib.Core.Path.{_≡_}
 use mathlib.Core.Bool.{Bool, true, false, cond, _&&_, _||_}
 use mathlib.Core.List.{List, [], _∷_}
 use lib.ListN.{length, getD}
 use lib.Dec.{leb, ltb, eqb}
 use Rattle.fields.specs.Field.{fieldAt}
+use Rattle.cells.specs.declared.BitPlace.{BitPlace}
+use Rattle.files.specs.Codes.{shapeOf}
 use Rattle.files.specs.Code.{Code, done, neutral, return, call, unless-false, make-cont, Instr, neutral-i, return-i, call-i, unless-i, cont-i}
-use Rattle.files.specs.Reading.{Got, got, refused, Head, stop, item, bad, bottom, below, shaped, listAt}
+use Rattle.files.specs.Reading.{Got, got, refused, Head, stop, item, bad, bottom, below, shaped, headAt, deepOf, listAt}
 use Rattle.files.specs.Flat.{fitsOffset, armsFit}
 use Rattle.lists.specs.declared.Facts.{Facts}
 use Rattle.lists.specs.declared.Listed.{Listed}
@@ -139,6 +142,35 @@ simpleAt s v q k = shaped s bottom 0 v q k
 
 abbrev pub deepAt : List ℕ → ℕ → ℕ → ℕ → Head
 deepAt s levels q k = shaped s (below (listAt s levels)) 0 0 q k
+
+-- ---- a run of neutral instructions without lists that name no template
+-- k is 0, or the shape of such a code v
+unfoldable pub runShape : ℕ → ℕ → Type 0
+runShape v k = 1 ≤ k → (shapeOf v ≡ k) × (k ≤ 3) × (6 ≤ v) × (v ≡ 7 → ⊥)
+
+-- what such an instruction adds
+unfoldable pub Plain : Added → Type 0
+Plain o = (o .kind ≡ Neutral) × (o .fits ≡ true) × (o .closes ≡ 0) × (1 ≤ o .size)
+
+-- from p up to q there are only such instructions; they have n flat bytes, and their indices suit them if b
+pub data Neutrals (table : List ℕ) (own : ℕ) (s : List ℕ) (p : ℕ) : ℕ → ℕ → Bool → Type 0 where
+  none : Neutrals table own s p p 0 true
+  more : (q n : ℕ) (b : Bool) → Neutrals table own s p q n b → (v k : ℕ) → 1 ≤ k → k ≤ 3
+      → ((l : ℕ) → headAt s (deepOf s l) q ≡ simpleAt s v (q + 5) k) → (u : BitPlace) (o : Added) → More u o ≡ itemed table own (simpleAt s v (q + 5) k)
+      → Plain o → (q′ n′ : ℕ) (b′ : Bool) → q′ ≡ u .0 → n′ ≡ n + o .size → b′ ≡ (b && o .named) → Neutrals table own s p q′ n′ b′
+
+-- what is known of a list after such a run
+unfoldable pub runAfter : State → ℕ → Bool → State
+runAfter st n b =
+    record {
+      classes = record { empty = cond (eqb n 0) (st .classes .empty) (st .classes .opened); opened = st .classes .opened; closed = st .classes .closed };
+      size = st .size + n;
+      seen = st .seen;
+      tail = cond (st .seen) (st .tail + n) (st .tail);
+      named = st .named && b;
+      fits = st .fits;
+      closes = st .closes;
+    }
 
 -- n operands from p on
 unfoldable pub operandsAt : List ℕ → ℕ → ℕ → List ℕ

@@ -5,6 +5,7 @@ pub mod PassLaws
 pub mod ReadLaws
 pub mod MarksLaws
 pub mod MarkSteps
+pub mod RunLaws
 pub mod Known
 pub mod SlotLaws
 pub mod Rows

@@ -3,7 +3,7 @@ use cells::BitPlace;
 use fields::Field;
 ghost use mathlib.Core.Path.{_≡_};
 ghost use mathlib.Core.Bool.{cond, _&&_, _||_};
-ghost use Prim.Native.Nat.{_+_, _*_, _/_, _≤_, _<_};
+ghost use Prim.Native.Nat.{_+_, _*_, _-_, _/_, _%_, _^_, _≤_, _<_};
 ghost use lib.ListN.{length};
 ghost use lib.Dec.{eqb};
 ghost use Rattle.fields.specs.Field.{fieldAt};
@@ -14,7 +14,7 @@ ghost use Rattle.lists.specs.Sets.{unite};
 ghost use Rattle.lists.specs.Facts.{slotFits, slotNamed, slotCloses, listed};
 ghost use Rattle.lists.specs.Marks.{sizeMark, markBy, markAt, mark, headMarked, listMarked};
 ghost use Rattle.lists.specs.Pass.{classesAfter, isSave, stateAfter, begun, finish, simpleAdded, conditionalKind, conditionalSize, conditionalAdded};
-ghost use Rattle.lists.specs.Pass.{saveKind, saveAdded, simpleAt, deepAt, itemed};
+ghost use Rattle.lists.specs.Pass.{saveKind, saveAdded, simpleAt, deepAt, itemed, runShape, runAfter, Neutrals};
 
 // What is to be known of a list: its class (0 empty, 1 open, 2 closed, 3 neither), how many bytes its flat code has, whether codes 6 to 9
 // name entries that suit them, whether its offsets fit, and which templates its closures name: bit t, from the lowest, for template t.
@@ -86,6 +86,13 @@ struct State {
     pub closes: u64,
 }
 
+// A run of neutral instructions: the place past it, how many flat bytes it has, whether its indices suit its codes.
+struct Run {
+    pub past: BitPlace,
+    pub size: usize,
+    pub named: bool,
+}
+
 // How a code is followed in a tree, by code (document 01, 'Codes'): 0 the end of the list; 1, 2, 3 no, one or two operand bytes; 4 two
 // lists; 5 an operand byte and a list; 6 no instruction. A match, since the compiler makes an array anew at each use.
 pub fn shape_of(code: u32) -> u8
@@ -153,23 +160,17 @@ fn either(x: bool, y: bool) -> bool
     if x { true } else { y }
 }
 
-// A slot of the table suits one of the codes 6 to 9.
+// A slot of the table suits one of the codes 6 to 9: four bits for each tag, tag 0 lowest, for the codes 8, 9, 6, 7. No jump, since any code may come.
 fn slot_fits(code: u32, slot: u64) -> bool
-    ensures { λ r. ⌜ r ≡ slotFits code slot ⌝ }
+    ensures { λ r. ⌜ ((6 ≤ code) × (code ≤ 9) → r ≡ slotFits code slot) ⌝ }
 {
     let tag = slot / 0x1000000000000000;
-    if code == 6 {
-        return both(1 <= tag, tag <= 6);
-    }
-    if code == 7 {
-        return tag == 12;
-    }
-    tag == 11
+    (0x8300004444440u64 >> (4 * tag + (code % 4) as u64)) % 2 == 1
 }
 
 // The first operand of a neutral code suits it, if it is an index.
 fn slot_named(table: &[u64], own: usize, code: u32, n: u32) -> bool
-    requires { ⌜ (256 * own + 256 ≤ length (now table)) × (own < 64) × (n < 256) ⌝ }
+    requires { ⌜ (256 * own + 256 ≤ length (now table)) × (own < 64) × (n < 256) × (6 ≤ code) ⌝ }
     ensures { λ r. ⌜ r ≡ slotNamed (now (table .entry)) own code n ⌝ }
 {
     let slot = table[256 * own + n as usize];
@@ -185,7 +186,7 @@ fn unite(x: u64, y: u64) -> u64
 
 // The set of the template that a neutral code names: a closure's, where its entry suits it.
 fn slot_closes(table: &[u64], own: usize, code: u32, n: u32) -> u64
-    requires { ⌜ (256 * own + 256 ≤ length (now table)) × (own < 64) × (n < 256) ⌝ }
+    requires { ⌜ (256 * own + 256 ≤ length (now table)) × (own < 64) × (n < 256) × (6 ≤ code) ⌝ }
     ensures { λ r. ⌜ r ≡ slotCloses (now (table .entry)) own code n ⌝ }
 {
     let slot = table[256 * own + n as usize];
@@ -407,6 +408,93 @@ fn finished(st: State) -> Facts
     }
 }
 
+// ---- a run of neutral instructions
+
+// One more than the operand bytes of the neutral code that begins a line of 21 bits, if it has no list and names no template; else 0. Two bits for each
+// code, code 0 lowest.
+fn run_shape(line: u32) -> usize
+    requires { ⌜ line < 0x200000 ⌝ }
+    ensures { λ r. ⌜ runShape (line / 0x10000) r ⌝ }
+{
+    ((0x5555249fa2000u64 >> (line / 0x8000 / 2 * 2)) % 4) as usize
+}
+
+// The 21 bits that lie `skip` bits from the first of 64.
+fn line_in(high: u32, low: u32, skip: usize) -> u32
+    requires { ⌜ skip ≤ 43 ⌝ }
+    ensures { λ r. ⌜ (r ≡ (high * 0x100000000 + low) / 2 ^ (43 - skip) % 2 ^ 21) × (r < 0x200000) ⌝ }
+{
+    (((high as u64 * 0x100000000 + low as u64) << skip) >> 43) as u32
+}
+
+// What is known of a list after a run.
+fn run_after(st: State, run: Run) -> State
+    requires { ⌜ (st .size + run .size ≤ 1048576) × (st .tail ≤ st .size) ⌝ }
+    ensures { λ r. ⌜ r ≡ runAfter st (run .size) (run .named) ⌝ }
+{
+    let c = st.classes;
+    let classes = Classes {
+        empty: if run.size == 0 { c.empty } else { c.opened },
+        opened: c.opened,
+        closed: c.closed,
+    };
+    State {
+        classes,
+        size: st.size + run.size,
+        seen: st.seen,
+        tail: tail_after(st, run.size),
+        named: both(st.named, run.named),
+        fits: st.fits,
+        closes: st.closes,
+    }
+}
+
+// The neutral instructions at a place, up to one with lists, one that ends or names a template, or the last bytes of the file. The eight bytes that
+// the next line lies in are loaded before it is known where in them it begins: no turn waits for its load.
+fn read_run(s: &[u8], table: &[u64], own: usize, at: BitPlace) -> Run
+    requires { ⌜ (length (now s) ≤ 65536) × (256 * own + 256 ≤ length (now table)) × (own < 64) ⌝ }
+    ensures { λ r. ⌜ Neutrals (now (table .entry)) own (now (s .entry)) (at .0) (r .past .0) (r .size) (r .named) ⌝ }
+{
+    let mut here = at;
+    let mut size: usize = 0;
+    let mut named = true;
+    if s.len() <= at.byte() + 7 {
+        return Run {
+            past: at,
+            size,
+            named,
+        };
+    }
+    let mut skip = at.bit();
+    let mut high = fields::four_at(s, at.byte());
+    let mut low = fields::four_at(s, at.byte() + 4);
+    while here.byte() + 7 < s.len() {
+        let line = line_in(high, low, skip);
+        let shape = run_shape(line);
+        if shape == 0 {
+            return Run {
+                past: here,
+                size,
+                named,
+            };
+        }
+        high = fields::four_at(s, here.byte());
+        low = fields::four_at(s, here.byte() + 4);
+        skip = here.bit() + (8 * shape - 3);
+        named = both(
+            named,
+            slot_named(table, own, line / 0x10000, line / 0x100 % 0x100),
+        );
+        size = size + shape;
+        here = here.past(8 * shape - 3);
+    }
+    Run {
+        past: here,
+        size,
+        named,
+    }
+}
+
 // ---- marks
 
 // Twice a size, and 1 more for a closed list.
@@ -568,15 +656,17 @@ pub fn read_list(
     let mut here = at;
     let mut st = begin();
     loop {
-        match read_instr(s, table, own, here, levels, keep, marks) {
+        let run = read_run(s, table, own, here);
+        let so_far = run_after(st, run);
+        match read_instr(s, table, own, run.past, levels, keep, marks) {
             Item::End(next) => {
-                let facts = finished(st);
+                let facts = finished(so_far);
                 set_mark(marks, at, mark_of(keep, facts, next));
                 return Listed::Done(next, facts);
             }
             Item::More(next, more) => {
                 here = next;
-                st = state_after(st, more);
+                st = state_after(so_far, more);
             }
             Item::Bad(no, place) => {
                 return Listed::Refused(no, place);

@@ -20,7 +20,7 @@ use Rattle.machines.specs.Instruction.{number, Form, formOf, Of}
 use Rattle.machines.specs.declared.CodePlace.{CodePlace}
 use Rattle.machines.specs.declared.End.the-variants as end
 use Rattle.machines.specs.declared.Run.{Run}
-use Rattle.steps.specs.Step.{codeProgram, CodeReady, control, stateOf, endsWith, meant, Unchanged, GoesOn, Taken, StepReady}
+use Rattle.steps.specs.Step.{CodeReady, control, stateOf, endsWith, meant, Unchanged, GoesOn, Taken, StepReady}
 use Rattle.steps.specs.declared.Control.{Control}
 use Rattle.steps.specs.declared.OneStep.{OneStep}
 use Rattle.steps.specs.declared.OneStep.the-variants.{Next, Halted, Wrong}
@@ -28,12 +28,6 @@ use Rattle.steps.specs.declared.OneStep.the-variants.{Next, Halted, Wron
 -- the whole budget is left
 pub at-first : (own : Owner) (P : Program) (b : ℕ) (s : State) → ranFrom own P b (b - b) s ≡ ranFrom own P b 0 s
 at-first own P b s = rw (sub-self b)
-
--- a step in the form of code that its run is in
-pub in-form : (own : Owner) (form : Form) (s L table : List ℕ) (m m′ : Memory) (r : Regs) (c : Control) (x : OneStep) → Of form (c .place)
-    → Taken (formOf (c .place)) x m m′ (step own (codeProgram (formOf (c .place)) s L table) (stateOf r c m))
-    → Taken form x m m′ (step own (codeProgram form s L table) (stateOf r c m))
-in-form own form s L table m m′ r c x o t = rw o at t
 
 -- ---- a turn of a program whose places are of a form
 module _ {goal : Ran} (own : Owner) (form : Form) (P : Program) (left b : ℕ) (m m′ : Memory) (r : Regs) (c : Control) (x : OneStep) (some : 0 < left) (most : left ≤ b)

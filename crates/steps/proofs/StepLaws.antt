@@ -28,10 +28,10 @@ use Rattle.frames.specs.declared.Kept.{Kept}
 use Rattle.frames.specs.declared.Kept.the-variants as saved
 use Rattle.frames.specs.declared.Returned.{Returned}
 use Rattle.frames.specs.declared.Returned.the-variants as back
-use Rattle.machines.specs.Fetched.{plain, returns, calls, branches, saves, jumps, bad, plainly}
-use Rattle.machines.specs.Machine.{Program, Step, go, stop, bind, returned, act, step}
+use Rattle.machines.specs.Fetched.{Fetched, plain, returns, calls, branches, saves, jumps, bad, plainly}
+use Rattle.machines.specs.Machine.{Program, State, Step, go, stop, bind, returned, act}
 use Rattle.machines.specs.Runs.{Memory, memory}
-use Rattle.machines.specs.Slots.{slotAt, resolvedAs}
+use Rattle.machines.specs.Slots.{resolvedAs}
 use Rattle.machines.specs.Instruction.{number, Form, treeForm, linearForm, formOf, fetchedAs, Of, Places}
 use Rattle.machines.specs.declared.CodePlace.{CodePlace}
 use Rattle.machines.specs.declared.CodePlace.the-variants.{Tree, Linear}
@@ -39,7 +39,7 @@ use Rattle.machines.specs.declared.Instruction.{Instruction}
 use Rattle.machines.specs.declared.Instruction.the-variants as instruction
 use Rattle.machines.specs.declared.Resolved.{Resolved}
 use Rattle.machines.specs.declared.Resolved.the-variants.{Fit as Resolves, Unfit}
-use Rattle.steps.specs.Step.{codeProgram, startAt, control, stateOf, meant, Unchanged, GoesOn, Taken}
+use Rattle.steps.specs.Step.{control, stateOf, meant, Unchanged, GoesOn, Taken}
 use Rattle.steps.specs.declared.Control.{Control}
 use Rattle.steps.specs.declared.OneStep.{OneStep}
 use Rattle.steps.specs.declared.OneStep.the-variants.{Next, Halted, Wrong}
@@ -200,20 +200,10 @@ pub bad-stops : (form : Form) (own : Owner) (P : Program) (m : Memory) (r : Regs
 unfolding act
 bad-stops form own P m r c = stops form 16 m m _ refl refl
 
--- ---- where a template's code begins
-pub starts : (form : Form) (s L table : List ℕ) (t : ℕ) → startAt form table t ≡ codeProgram form s L table .start t
-unfolding startAt codeProgram
-starts treeForm s L table t = refl
-starts linearForm s L table t = refl
-
--- ---- a step, by what was fetched
-module _ (own : Owner) (s L table : List ℕ) (r : Regs) (c : Control) (x z : Instruction)
-    (e : fetchedAs (slotAt table (c .template)) x ≡ codeProgram (formOf (c .place)) s L table .fetch (c .template) (number (c .place))) (h : x ≡ z) where
-  pub step-is : (m m′ : Memory) (y : OneStep)
-      → Taken (formOf (c .place)) y m m′ (act own (codeProgram (formOf (c .place)) s L table) (fetchedAs (slotAt table (c .template)) z) (stateOf r c m))
-      → Taken (formOf (c .place)) y m m′ (step own (codeProgram (formOf (c .place)) s L table) (stateOf r c m))
-  unfolding step
-  step-is m m′ y t = rw (← e, h) t
+-- ---- a step, by what was fetched: x, which is z
+pub acts-as : {m m′ : Memory} {y : OneStep} {form : Form} (own : Owner) (P : Program) (slot : ℕ → ℕ) (F : Fetched) (x z : Instruction) (s : State)
+    → fetchedAs slot x ≡ F → x ≡ z → Taken form y m m′ (act own P (fetchedAs slot z) s) → Taken form y m m′ (act own P F s)
+acts-as own P slot F x z s e h t = rw (← e, h) t
 
 -- a step in the form of code that its instruction's places are in
 pub stays : {x : OneStep} {m m′ : Memory} {y : Step} (a b : Form) → a ≡ b → Taken a x m m′ y → Taken b x m m′ y

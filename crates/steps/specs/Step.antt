@@ -6,23 +6,17 @@ use lib.ListN.{length}
 use Rattle.rules.specs.State.{mem}
 use Rattle.rules.specs.Fit.{Fit}
 use Rattle.rules.specs.declared.Regs.{Regs}
-use Rattle.machines.specs.Machine.{Program, State, at, Step, go, halt, stop}
+use Rattle.machines.specs.Machine.{State, at, Step, go, halt, stop}
 use Rattle.machines.specs.Runs.{Memory}
 use Rattle.machines.specs.Slots.{slotAt}
 use Rattle.machines.specs.Instruction.{number, Form, treeForm, linearForm, formOf, Of}
 use Rattle.machines.specs.declared.CodePlace.{CodePlace}
 use Rattle.machines.specs.declared.End.{End}
 use Rattle.machines.specs.declared.Run.{Run}
-use Rattle.linear_code.specs.Bytes.{bytesProgram, AllWithin}
-use Rattle.tree_code.specs.Fetch.{linkedProgram}
+use Rattle.linear_code.specs.Bytes.{AllWithin}
 use Rattle.steps.specs.declared.Control.{Control}
 use Rattle.steps.specs.declared.OneStep.{OneStep}
 use Rattle.steps.specs.declared.OneStep.the-variants.{Next, Halted, Wrong}
-
--- ---- the program that a file is, of linear code or of a tree: by its table, and a tree by its links
-unfoldable pub codeProgram : Form → List ℕ → List ℕ → List ℕ → Program
-codeProgram treeForm s L table = linkedProgram s L table
-codeProgram linearForm s L table = bytesProgram s table
 
 -- where a template's code begins
 unfoldable pub startAt : Form → List ℕ → ℕ → ℕ

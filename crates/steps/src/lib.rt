@@ -26,7 +26,7 @@ ghost use Rattle.machines.specs.Runs.{Memory, memory, lent, ran, startState};
 ghost use Rattle.machines.specs.Slots.{slotAt, slotResolve};
 ghost use Rattle.machines.specs.Steps.{ranFrom};
 ghost use Rattle.machines.specs.Instruction.{number, formOf, fetchedAs, Of, Places};
-ghost use Rattle.steps.specs.Step.{codeProgram, CodeReady, startAt, control, stateOf, endsWith, Taken, StepReady};
+ghost use Rattle.steps.specs.Step.{startAt, control, stateOf, endsWith, Taken};
 
 // Where a run is: the template, the place in its code; and how many frame cells are in use.
 pub struct Control {
@@ -74,17 +74,6 @@ fn start_place(table: &[u64], template: u8, like: CodePlace) -> CodePlace
     }
 }
 
-fn fetch(file: &[u8], links: &[u32], table: &[u64], template: u8, at: CodePlace) -> Instruction
-    requires { ⌜ CodeReady (formOf at) (now file) (now table) ⌝ }
-    ensures { λ x. ⌜ (fetchedAs (slotAt (now (table .entry)) template) x ≡ codeProgram (formOf at) (now (file .entry)) (now (links .entry))
-        (now (table .entry)) .fetch template (number at)) × Places (formOf at) x ⌝ }
-{
-    match at {
-        CodePlace::Tree(p) => tree_code::fetch(file, links, p),
-        CodePlace::Linear(p) => linear_code::fetch(file, table, template, p),
-    }
-}
-
 // ---- each kind of instruction
 
 fn act_plain(
@@ -119,7 +108,7 @@ fn act_plain(
 }
 
 // A neutral code with operands a and b, of which it may have fewer.
-fn act_neutral(
+pub fn act_neutral(
     owner: Owner,
     table: &[u64],
     op: u8,
@@ -180,7 +169,7 @@ pub fn act_branch(first: CodePlace, second: CodePlace, r: Regs, c: Control) -> O
 }
 
 // On at a place, and nothing else changes.
-fn act_jump(to: CodePlace, r: Regs, c: Control) -> OneStep
+pub fn act_jump(to: CodePlace, r: Regs, c: Control) -> OneStep
     ensures { λ x. ⌜ x ≡ OneStep.Next r (control (c .template) to (c .fr)) ⌝ }
 {
     OneStep::Next(
@@ -247,38 +236,6 @@ pub fn act_return(stack: &mut [u64], frames: &mut [u64], r: Regs, c: Control) ->
     }
 }
 
-fn take_step(
-    owner: Owner,
-    file: &[u8],
-    links: &[u32],
-    table: &[u64],
-    globals: &mut [u64],
-    stack: &mut [u64],
-    store: &mut [u64],
-    frames: &mut [u64],
-    r: Regs,
-    c: Control,
-) -> OneStep
-    requires { ⌜ StepReady (now file) (now table) (lent globals stack store frames) r c ⌝ }
-    ensures { λ x. ⌜ Taken (formOf (c .place)) x (lent (globals .entry) (stack .entry) (store .entry) (frames .entry))
-        (lent (globals .exit) (stack .exit) (store .exit) (frames .exit))
-        (step owner (codeProgram (formOf (c .place)) (now (file .entry)) (now (links .entry)) (now (table .entry)))
-        (stateOf r c (lent (globals .entry) (stack .entry) (store .entry) (frames .entry)))) ⌝ }
-{
-    let place = c.place;
-    match fetch(file, links, table, c.template, place) {
-        Instruction::Neutral(op, a, b, next) => {
-            act_neutral(owner, table, op, a, b, next, globals, stack, store, r, c)
-        }
-        Instruction::Return => act_return(stack, frames, r, c),
-        Instruction::Call(n) => act_call(table, n, r, c),
-        Instruction::Branch(first, second) => act_branch(first, second, r, c),
-        Instruction::Save(n, saved, rest) => act_save(n, saved, rest, stack, frames, r, c),
-        Instruction::Jump(to) => act_jump(to, r, c),
-        Instruction::Bad => OneStep::Wrong(16),
-    }
-}
-
 // ---- a run
 
 // The end of a run that has `left` of its budget left.
@@ -293,110 +250,4 @@ pub fn ended(end: End, budget: u64, left: u64, r: Regs, c: Control) -> Run
         store: r.st,
         frames: c.fr,
     }
-}
-
-// At most `budget` steps, from the registers and the place that are given. The registers are kept one by one: as a struct their padding would be copied at
-// each step.
-fn run_from(
-    file: &[u8],
-    links: &[u32],
-    table: &[u64],
-    globals: &mut [u64],
-    stack: &mut [u64],
-    store: &mut [u64],
-    frames: &mut [u64],
-    budget: u64,
-    owner: Owner,
-    first: Regs,
-    from: Control,
-) -> Run
-    requires { ⌜ StepReady (now file) (now table) (lent globals stack store frames) first from ⌝ }
-    ensures { λ x. ⌜ ran x (lent (globals .exit) (stack .exit) (store .exit) (frames .exit))
-        ≡ ranFrom owner (codeProgram (formOf (from .place)) (now (file .entry)) (now (links .entry)) (now (table .entry))) budget 0
-        (stateOf first from (lent (globals .entry) (stack .entry) (store .entry) (frames .entry))) ⌝ }
-{
-    let mut v = first.v;
-    let mut env = first.env;
-    let mut sp = first.sp;
-    let mut st = first.st;
-    let mut c = from;
-    let mut left = budget;
-    while 0 < left {
-        let rest = left - 1;
-        let r = Regs { v, env, sp, st };
-        match take_step(
-            owner,
-            file,
-            links,
-            table,
-            globals,
-            stack,
-            store,
-            frames,
-            r,
-            c,
-        ) {
-            OneStep::Next(q, k) => {
-                v = q.v;
-                env = q.env;
-                sp = q.sp;
-                st = q.st;
-                c = k;
-            }
-            OneStep::Halted => {
-                return ended(End::Halted(cells::value_of(r.v)), budget, rest, r, c);
-            }
-            OneStep::Wrong(n) => {
-                return ended(End::Wrong(n), budget, left, r, c);
-            }
-        }
-        left = rest;
-    }
-    ended(End::OutOfBudget, budget, left, Regs { v, env, sp, st }, c)
-}
-
-// At most `budget` steps from the start, where template 0's code begins at `first`.
-pub fn run_code(
-    file: &[u8],
-    links: &[u32],
-    table: &[u64],
-    first: CodePlace,
-    budget: u64,
-    owner: Owner,
-    globals: &mut [u64],
-    stack: &mut [u64],
-    store: &mut [u64],
-    frames: &mut [u64],
-) -> Run
-    requires { ⌜ CodeReady (formOf first) (now file) (now table) × (length (now globals) ≡ 256) × (length (now stack) ≡ 256) × (length (now store) ≡ 2048)
-        × (length (now frames) ≡ 2048) ⌝ }
-    ensures { λ x. ⌜ ran x (lent (globals .exit) (stack .exit) (store .exit) (frames .exit))
-        ≡ ranFrom owner (codeProgram (formOf first) (now (file .entry)) (now (links .entry)) (now (table .entry))) budget 0
-        (startState (now (globals .entry)) (number first)) ⌝ }
-{
-    machines::clear_all(stack, store, frames);
-    let registers = Regs {
-        v: cells::UNSPECIFIED,
-        env: 0,
-        sp: 0,
-        st: 0,
-    };
-    let from = Control {
-        template: 0,
-        place: first,
-        fr: 0,
-    };
-    run_from(
-        file,
-        links,
-        table,
-        globals,
-        stack,
-        store,
-        frames,
-        budget,
-        owner,
-        registers,
-        from,
-    )
 }

@@ -1,7 +1,6 @@
 // The machine of tree code (document 01, 'Rules').
 use cells::BitPlace;
 use lists::Keep;
-use machines::CodePlace;
 use machines::Run;
 use machines::Start;
 use owners::Owner;
@@ -36,8 +35,8 @@ fn run_linked(
         ≡ onTree owner budget (lent (globals .entry) (stack .entry) (store .entry) (frames .entry)) (treeAccepted (now (file .entry))) ⌝ }
 {
     links::link_tree(file, table, count, links);
-    let first = CodePlace::Tree(BitPlace::from_slot(machines::slot_at(table, 0, 0)));
-    steps::run_code(
+    let first = BitPlace::from_slot(machines::slot_at(table, 0, 0));
+    tree_steps::run_code(
         file,
         links,
         table,

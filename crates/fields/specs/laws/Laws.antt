@@ -155,18 +155,14 @@ module _ (s : List ℕ) (bytes : (k : ℕ) → getD s k 0 < 256) where
       let n : i + 2 + 1 ≡ i + 3 = omega arith in
       joined s (8 * i) 16 16 a b (h ∙ two-field i) (k ∙ rw e (rw n at (two-field (i + 2))))
 
--- a field of 21 bits lies in the four bytes of its first bit's byte and those after it
-line-of : (s : List ℕ) (p : ℕ) → fieldAt s (8 * (p / 8)) 32 / 2 ^ (11 - p % 8) % 2 ^ 21 ≡ fieldAt s p 21
-line-of s p =
-    let k = 11 - p % 8 in
-    let all : 32 ≡ p % 8 + (21 + k) = omega arith in
-    let at : 8 * (p / 8) + p % 8 ≡ p = omega arith in
-    let first : fieldAt s (8 * (p / 8)) 32 ≡ fieldAt s (8 * (p / 8)) (p % 8) * 2 ^ (21 + k) + fieldAt s p (21 + k) =
-    ap (fieldAt s (8 * (p / 8))) all ∙ field-split s (8 * (p / 8)) (p % 8) (21 + k)
-    ∙ ap (λ (q : ℕ). fieldAt s (8 * (p / 8)) (p % 8) * 2 ^ (21 + k) + fieldAt s q (21 + k)) at
+-- 21 bits of a field, r bits from its first
+pub line-in : (s : List ℕ) (q r p n k : ℕ) → n ≡ r + (21 + k) → q + r ≡ p → fieldAt s q n / 2 ^ k % 2 ^ 21 ≡ fieldAt s p 21
+line-in s q r p n k all at =
+    let first : fieldAt s q n ≡ fieldAt s q r * 2 ^ (21 + k) + fieldAt s p (21 + k) =
+    ap (fieldAt s q) all ∙ field-split s q r (21 + k) ∙ ap (λ (x : ℕ). fieldAt s q r * 2 ^ (21 + k) + fieldAt s x (21 + k)) at
     in
-    cut-out (fieldAt s (8 * (p / 8)) (p % 8)) k _ (field-small s p 21) (field-small s (p + 21) k)
-    (first ∙ ap (λ (x : ℕ). fieldAt s (8 * (p / 8)) (p % 8) * 2 ^ (21 + k) + x) (field-split s p 21 k))
+    cut-out (fieldAt s q r) k _ (field-small s p 21) (field-small s (p + 21) k)
+    (first ∙ ap (λ (x : ℕ). fieldAt s q r * 2 ^ (21 + k) + x) (field-split s p 21 k))
   where
     cut-out : (a k n : ℕ) {f g : ℕ} → f < 2 ^ 21 → g < 2 ^ k → n ≡ a * 2 ^ (21 + k) + (f * 2 ^ k + g) → n / 2 ^ k % 2 ^ 21 ≡ f
     cut-out a k n {f} {g} small less e =
@@ -179,7 +175,8 @@ line-of s p =
 -- the four bytes x of byte b, shifted by bit r
 pub line-at : (s : List ℕ) (p x b r : ℕ) → x ≡ fieldAt s (8 * b) 32 → b ≡ p / 8 → r ≡ p % 8
     → (x / 2 ^ (11 - r) % 2 ^ 21 ≡ fieldAt s p 21) × (x / 2 ^ (11 - r) % 2 ^ 21 < 2 ^ 21)
-line-at s p x b r h k m = rw (h, k, m, line-of s p) (refl, field-small s p 21)
+line-at s p x b r h k m =
+    rw (h, k, m, line-in s (8 * (p / 8)) (p % 8) p 32 (11 - p % 8) (omega arith) (omega arith)) (refl, field-small s p 21)
 
 -- the parts of a line of 21 bits: a code and what may be two operands
 module _ (s : List ℕ) (p line : ℕ) (is : line ≡ fieldAt s p 21) where

@@ -21,6 +21,8 @@ use Rattle.lists.proofs.begin.Reads as begin-reads
 use Rattle.lists.proofs.conditional_added.Reads as conditional-added-reads
 use Rattle.lists.proofs.finished.Reads as finished-reads
 use Rattle.lists.proofs.mark_of.Reads as mark-of-reads
+use Rattle.lists.proofs.read_run.Reads as read-run-reads
+use Rattle.lists.proofs.run_after.Reads as run-after-reads
 use Rattle.lists.proofs.set_mark.Reads as set-mark-reads
 use Rattle.lists.proofs.read_simple.Reads as read-simple-reads
 use Rattle.lists.proofs.save_added.Reads as save-added-reads
@@ -39,7 +41,7 @@ use lib.ListN.{length}
 use Rattle.files.specs.Reading.{shaped, headAt, deepOf, listAt}
 use Rattle.files.specs.laws.Heads.{code-cut, code-read, no-code, first-arm-refused, second-arm-refused, conditional-read, count-cut, saved-refused, make-cont-read}
 use Rattle.lists.specs.Facts.{listed}
-use Rattle.lists.specs.Pass.{addedBy, begun, listedFrom, itemed, simpleAt, deepAt}
+use Rattle.lists.specs.Pass.{addedBy, begun, listedFrom, itemed, simpleAt, deepAt, runAfter}
 use Rattle.fields.specs.laws.Laws.{value-of, cut}
 use Rattle.fields.specs.Field.{fieldRead}
 use Rattle.fields.specs.declared.Field.the-variants.{Read}
@@ -48,6 +50,7 @@ use Rattle.lists.specs.declared.Listed.the-variants.{Done}
 use Rattle.lists.specs.Marks.{listMarked, headMarked}
 use Rattle.lists.specs.laws.MarkSteps.{simple-marked, code-marked, arms-marked, saved-marked, Marking, marking-begun, marking-more, marking-end, list-marked, listed-near}
 use Rattle.lists.specs.laws.PassLaws.{listed-begun}
+use Rattle.lists.specs.laws.RunLaws.{run-listed, run-marking, run-bits, run-sizes}
 use Rattle.lists.specs.laws.ReadLaws.{line-read, read-below, simple-anywhere, deep-anywhere, deep-last, listed-done, listed-refused, listed-size, turn-end, turn-more, turn-bad, turn-bits, tail-size}
 
 abbrev μ-read-conditional : Measures 3 read-conditional-kinds.ps ℕ
@@ -116,7 +119,7 @@ abbrev read-instr-calls : ℕ → read-instr-lts.Claims
 read-instr-calls t = (within-reads.Asked, within-reads.Learnt, line-at-reads.Asked, line-at-reads.Learnt, past-reads.Asked, past-reads.Learnt, shape-by-words-reads.Asked, shape-by-words-reads.Learnt, read-simple-reads.Asked, read-simple-reads.Learnt, read-conditional-below t, read-conditional.Post, read-make-cont-below t, read-make-cont.Post)
 
 abbrev read-list-calls : ℕ → read-list-lts.Claims
-read-list-calls t = (begin-reads.Asked, begin-reads.Learnt, read-instr-below t, read-instr.Post, finished-reads.Asked, finished-reads.Learnt, mark-of-reads.Asked, mark-of-reads.Learnt, set-mark-reads.Asked, set-mark-reads.Learnt, state-after-reads.Asked, state-after-reads.Learnt)
+read-list-calls t = (begin-reads.Asked, begin-reads.Learnt, read-run-reads.Asked, read-run-reads.Learnt, run-after-reads.Asked, run-after-reads.Learnt, read-instr-below t, read-instr.Post, finished-reads.Asked, finished-reads.Learnt, mark-of-reads.Asked, mark-of-reads.Learnt, set-mark-reads.Asked, set-mark-reads.Learnt, state-after-reads.Asked, state-after-reads.Learnt)
 
 abbrev read-make-cont-calls : ℕ → read-make-cont-lts.Claims
 read-make-cont-calls t = (read-field-reads.Asked, read-field-reads.Learnt, read-list-below t, read-list.Post, save-added-reads.Asked, save-added-reads.Learnt)
@@ -262,82 +265,100 @@ unfolding itemed headMarked
 read-instr-returns-7 t c = rw (at-code t (c .before .before .before) ∙ no-code _ _ _ _ _ _ (omega arith)) (refl, tt)
 
 abbrev read-list-Inv-loop : read-list-lts.InvT-loop
-read-list-Inv-loop s table own at levels keep marks₀ here₀ st₀ marks here st = (listed table own (listAt s levels (at .0)) ≡ listedFrom table own st (listAt s levels (here .0))) × (5 * st .size ≤ 2 * here .0) × (st .tail ≤ st .size) × Marking keep s levels marks₀ (at .0) marks (here .0) × (length marks ≡ length marks₀)
+read-list-Inv-loop s table own at levels keep marks₀ here₀ st₀ marks here st = (listed table own (listAt s levels (at .0)) ≡ listedFrom table own st (listAt s levels (here .0))) × (5 * st .size ≤ 2 * here .0) × (st .tail ≤ st .size) × Marking keep s levels marks₀ (at .0) marks (here .0) × (length marks ≡ length marks₀) × (5 * st .size ≤ 16 * length s)
 
 abbrev read-list-μ-loop : read-list-lts.MeasureT-loop
 read-list-μ-loop s table own at levels keep marks₀ here₀ st₀ marks here st = 8 * length s - here .0
 
+-- past a run of neutral instructions
+read-list-so-far : (t : ℕ) (k : read-list-lts.After-run-after (read-list-calls t) (read-list-at t) read-list.Post read-list-Inv-loop read-list-μ-loop) →
+    let a = k .before .before .before .before .before .before .before .args in
+    listed (a .table .now) (a .own) (listAt (a .s .now) (a .levels) (a .at .0))
+    ≡ listedFrom (a .table .now) (a .own) (k .run-after .result) (listAt (a .s .now) (a .levels) (k .before .read-run .result .past .0))
+read-list-so-far t k =
+    k .before .before .loop .inv .0 ∙ run-listed _ _ _ _ (k .before .read-run .ensures) _ _ ∙ rw (k .run-after .ensures) refl
+
+read-list-sizes : (t : ℕ) (k : read-list-lts.After-run-after (read-list-calls t) (read-list-at t) read-list.Post read-list-Inv-loop read-list-μ-loop) →
+    let st = k .run-after .result in
+    let s = k .before .before .before .before .before .before .before .args .s .now in
+    (5 * st .size ≤ 2 * k .before .read-run .result .past .0) × (5 * st .size ≤ 16 * length s) × (st .tail ≤ st .size)
+read-list-sizes t k =
+    let inv = k .before .before .loop .inv in
+    rw (k .run-after .ensures) (run-sizes _ _ _ _ _ _ _ (k .before .read-run .ensures) _ (inv .1) (inv .5) (inv .2))
+
 read-list-loop-holds : (t : ℕ) → read-list-lts.Need-loop-holds (read-list-calls t) (read-list-at t) read-list.Post read-list-Inv-loop read-list-μ-loop
 unfolding begun
-read-list-loop-holds t c = rw (c .begin .ensures) (listed-begun _ _ _, omega arith, omega arith, marking-begun _ _ _ _ _, refl)
+read-list-loop-holds t c =
+    rw (c .begin .ensures) (listed-begun _ _ _, omega arith, omega arith, marking-begun _ _ _ _ _, refl, omega arith)
 
-read-list-mark-of-requires : (t : ℕ) → read-list-lts.Need-mark-of-requires (read-list-calls t) (read-list-at t) read-list.Post read-list-Inv-loop
-    read-list-μ-loop
+read-list-run-after-requires : (t : ℕ) → read-list-lts.Need-run-after-requires (read-list-calls t) (read-list-at t) read-list.Post read-list-Inv-loop read-list-μ-loop
+unfolding runAfter
+read-list-run-after-requires t c κs =
+    let inv = c .before .loop .inv in
+    let w = run-sizes _ _ _ _ _ _ _ (c .read-run .ensures) (c .before .loop .st) (inv .1) (inv .5) (inv .2) in
+    (omega (arith, w .1, c .before .before .before .before .before .before .pre .1 .0), inv .2)
+
+read-list-mark-of-requires : (t : ℕ) → read-list-lts.Need-mark-of-requires (read-list-calls t) (read-list-at t) read-list.Post read-list-Inv-loop read-list-μ-loop
 read-list-mark-of-requires t c κs =
-    let pre = c .before .before .before .before .before .before .before .before .before .before .before .before .before .before .pre in
-    let loop = c .before .before .before .before .before .before .before .before .before .loop in
-    let read-instr′ = c .before .before .before .before .before .before .before .read-instr in
-    let next = c .before .before .before .next in
-    let e = loop .inv .0 ∙ turn-end _ _ _ _ _ _ _ (sym (read-instr′ .ensures .0) ∙ next .given .1) ∙ ap (Done (next .given .0 .0))
+    let e = read-list-so-far t (c .before .before .before .before .before .before .before .before .before) ∙ turn-end _ _ _ _ _ _ _ (sym (c .before .before .before .before .before .before .before .read-instr .ensures .0) ∙ c .before .before .before .next .given .1) ∙ ap (Done (c .before .before .before .next .given .0 .0))
     (sym (c .before .finished .ensures)) in
-    listed-near _ _ _ _ _ _ _ (pre .1 .0) e
+    listed-near _ _ _ _ _ _ _ (c .before .before .before .before .before .before .before .before .before .before .before .before .before .before .before .before .pre .1 .0) e
 
 read-list-same-length : (t : ℕ) → read-list-lts.Need-same-length (read-list-calls t) (read-list-at t) read-list.Post read-list-Inv-loop read-list-μ-loop
 read-list-same-length t c =
-    let loop = c .before .before .before .before .before .before .before .before .before .before .before .before .before .loop in
-    let read-instr′ = c .before .before .before .before .before .before .before .before .before .before .before .read-instr in
-    c .before .before .set-mark .kept .0 ∙ read-instr′ .kept .1 .1 .1 .1 .1 .1 .0 ∙ loop .inv .4
+    c .before .before .set-mark .kept .0 ∙ c .before .before .before .before .before .before .before .before .before .before .before .read-instr .kept .1 .1 .1 .1 .1 .1 .0 ∙ c .before .before .before .before .before .before .before .before .before .before .before .before .before .before .before .loop .inv .4
 
 read-list-returns : (t : ℕ) → read-list-lts.Need-returns (read-list-calls t) (read-list-at t) read-list.Post read-list-Inv-loop read-list-μ-loop
 read-list-returns t c =
-    let loop = c .before .before .before .before .before .before .before .before .before .before .before .before .before .loop in
     let read-instr′ = c .before .before .before .before .before .before .before .before .before .before .before .read-instr in
     let next = c .before .before .before .before .before .before .before .next in
-    let finished = c .before .before .before .before .before .finished in
-    let mark-of = c .before .before .before .mark-of in
-    let e = loop .inv .0 ∙ turn-end _ _ _ _ _ _ _ (sym (read-instr′ .ensures .0) ∙ next .given .1) ∙ ap (Done (next .given .0 .0)) (sym (finished .ensures)) in (
+    let loop = c .before .before .before .before .before .before .before .before .before .before .before .before .before .before .before .loop in
+    let e = read-list-so-far t (c .before .before .before .before .before .before .before .before .before .before .before .before .before) ∙ turn-end _ _ _ _ _ _ _ (sym (read-instr′ .ensures .0) ∙ next .given .1) ∙ ap (Done (next .given .0 .0))
+    (sym (c .before .before .before .before .before .finished .ensures)) in (
       sym e,
       list-marked _ _ _ _ _ _ _ _ _ _ _ _
-          (marking-end _ _ _ _ _ _ _ (loop .inv .3) _ _ (sym (read-instr′ .ensures .0) ∙ next .given .1) (read-instr′ .ensures .1)) e (mark-of .ensures)
-          (c .before .before .set-mark .ensures),
+          (marking-end _ _ _ _ _ _ _ (run-marking _ _ _ _ (c .before .before .before .before .before .before .before .before .before .before .before .before .before .before .read-run .ensures) _ _ _ _ _ (loop .inv .3)) _ _
+          (sym (read-instr′ .ensures .0) ∙ next .given .1) (read-instr′ .ensures .1)) e (c .before .before .before .mark-of .ensures) (c .before .before .set-mark .ensures),
     )
 
 read-list-state-after-requires : (t : ℕ) → read-list-lts.Need-state-after-requires (read-list-calls t) (read-list-at t) read-list.Post read-list-Inv-loop read-list-μ-loop
-read-list-state-after-requires t c κs = let w = turn-bits _ _ _ _ _ _ _ (sym (c .before .before .before .before .before .read-instr .ensures .0) ∙ c .before .next2 .given .1) in (omega arith, c .before .before .before .before .before .before .before .loop .inv .2)
+read-list-state-after-requires t c κs =
+    let w = turn-bits _ _ _ _ _ _ _ (sym (c .before .before .before .before .before .read-instr .ensures .0) ∙ c .before .next2 .given .1) in
+    let z = read-list-sizes t (c .before .before .before .before .before .before .before) in
+    (omega (arith, w, z .0, c .before .before .before .before .before .before .before .before .before .before .before .before .before .before .pre .1 .0), z .2)
 
 read-list-loop-less : (t : ℕ) → read-list-lts.Need-loop-less (read-list-calls t) (read-list-at t) read-list.Post read-list-Inv-loop read-list-μ-loop
 read-list-loop-less t c =
-    let read-instr′ = c .before .before .before .before .before .before .read-instr in
-    let w = turn-bits _ _ _ _ _ _ _ (sym (read-instr′ .ensures .0) ∙ c .before .before .next2 .given .1) in
-    omega arith
+    let w = turn-bits _ _ _ _ _ _ _ (sym (c .before .before .before .before .before .before .read-instr .ensures .0) ∙ c .before .before .next2 .given .1) in
+    let b = run-bits _ _ _ _ (c .before .before .before .before .before .before .before .before .before .read-run .ensures) in
+    omega (arith, w, b .0)
 
 read-list-loop-again : (t : ℕ) → read-list-lts.Need-loop-again (read-list-calls t) (read-list-at t) read-list.Post read-list-Inv-loop read-list-μ-loop
 read-list-loop-again t c =
-    let loop = c .before .before .before .before .before .before .before .before .loop in
+    let loop = c .before .before .before .before .before .before .before .before .before .before .loop in
     let read-instr′ = c .before .before .before .before .before .before .read-instr in
     let next2 = c .before .before .next2 in
-    let w = turn-bits _ _ _ _ _ _ _ (sym (read-instr′ .ensures .0) ∙ next2 .given .1) in
-    let z = tail-size (loop .st) (next2 .given .0 .1 .0) (loop .inv .2) in
+    let is = sym (read-instr′ .ensures .0) ∙ next2 .given .1 in
+    let w = turn-bits _ _ _ _ _ _ _ is in
+    let y = read-list-sizes t (c .before .before .before .before .before .before .before .before) in
+    let z = tail-size (c .before .before .before .before .before .before .before .before .run-after .result) (next2 .given .0 .1 .0) (y .2) in
     rw (c .state-after .ensures) (
-      loop .inv .0 ∙ turn-more _ _ _ _ _ _ _ _ (sym (read-instr′ .ensures .0) ∙ next2 .given .1),
-      omega arith,
+      read-list-so-far t (c .before .before .before .before .before .before .before .before) ∙ turn-more _ _ _ _ _ _ _ _ is,
+      omega (arith, w, y .0, z .1),
       z .0,
-      marking-more _ _ _ _ _ _ _ (loop .inv .3) _ _ _ (sym (read-instr′ .ensures .0) ∙ next2 .given .1) (read-instr′ .ensures .1),
+      marking-more _ _ _ _ _ _ _ (run-marking _ _ _ _ (c .before .before .before .before .before .before .before .before .before .read-run .ensures) _ _ _ _ _ (loop .inv .3)) _ _ _ is (read-instr′ .ensures .1),
       read-instr′ .kept .1 .1 .1 .1 .1 .1 .0 ∙ loop .inv .4,
+      omega (arith, w, y .0, z .1),
     )
 
 read-list-same-length-2 : (t : ℕ) → read-list-lts.Need-same-length-2 (read-list-calls t) (read-list-at t) read-list.Post read-list-Inv-loop read-list-μ-loop
 read-list-same-length-2 t c =
-    let loop = c .before .before .before .before .before .before .before .loop in
-    let read-instr′ = c .before .before .before .before .before .read-instr in
-    read-instr′ .kept .1 .1 .1 .1 .1 .1 .0 ∙ loop .inv .4
+    c .before .before .before .before .before .read-instr .kept .1 .1 .1 .1 .1 .1 .0 ∙ c .before .before .before .before .before .before .before .before .before .loop .inv .4
 
 read-list-returns-2 : (t : ℕ) → read-list-lts.Need-returns-2 (read-list-calls t) (read-list-at t) read-list.Post read-list-Inv-loop read-list-μ-loop
 unfolding listMarked
 read-list-returns-2 t c =
-    let loop = c .before .before .before .before .before .before .before .loop in
-    let read-instr′ = c .before .before .before .before .before .read-instr in
-    let e = loop .inv .0 ∙ turn-bad _ _ _ _ _ _ _ _ (sym (read-instr′ .ensures .0) ∙ c .before .no .given .1) in
+    let e = read-list-so-far t (c .before .before .before .before .before .before .before) ∙ turn-bad _ _ _ _ _ _ _ _ (sym (c .before .before .before .before .before .read-instr .ensures .0) ∙ c .before .no .given .1) in
     (sym e, rw (listed-refused _ _ _ _ _ e) tt)
 
 read-make-cont-returns : (t : ℕ) → read-make-cont-lts.Need-returns (read-make-cont-calls t) (read-make-cont-at t) read-make-cont.Post
@@ -387,7 +408,8 @@ pub +read-conditional+read-instr+read-list+read-make-cont-spec : {M : Type 1} �
     (read-instr-read-simple-requires t) (read-instr-returns-2 t) (search needs) (search needs) (search needs) (search needs) (read-instr-returns-3 t)
     (read-instr-returns-4 t) (read-instr-same-length t) (read-instr-returns-5 t) (read-instr-same-length-2 t) (read-instr-returns-6 t)
     (read-instr-returns-7 t)) (λ t. read-list-lts.spec (read-list-calls t) (read-list-at t) read-list.Post read-list-Inv-loop read-list-μ-loop
-    (search needs) (read-list-loop-holds t) (search needs) (search needs) (search needs) (read-list-mark-of-requires t) (search needs)
+    (search needs) (read-list-loop-holds t) (search needs) (read-list-run-after-requires t) (search needs) (search needs) (search needs)
+    (read-list-mark-of-requires t) (search needs)
     (read-list-same-length t) (read-list-returns t) (search needs) (read-list-state-after-requires t) (read-list-loop-less t) (read-list-loop-again t)
     (search needs) (read-list-same-length-2 t) (read-list-returns-2 t)) λ t. read-make-cont-lts.spec (read-make-cont-calls t) (read-make-cont-at t)
     read-make-cont.Post (search needs) (search needs) (search needs) (read-make-cont-returns t) (search needs) (search needs)

@@ -57,14 +57,14 @@ line-read s p line is h q e =
 
 -- A slot is looked at whether its code names one or not.
 module _ (table : List ℕ) (own op n : ℕ) where
-  pub named-any : (ltb 9 op || not (eqb n 0) && slotFits op (getD table (256 * own + n) 0)) ≡ slotNamed table own op n
+  pub named-any : (f : Bool) → 6 ≤ op → ((6 ≤ op) × (op ≤ 9) → f ≡ slotFits op (getD table (256 * own + n) 0))
+      → (ltb 9 op || not (eqb n 0) && f) ≡ slotNamed table own op n
   unfolding slotNamed
-  named-any = go (leb op 9) (eqb n 0) refl refl
+  named-any f g is = go (leb op 9) (eqb n 0) refl refl
     where
-      go : (x y : Bool) → leb op 9 ≡ x → eqb n 0 ≡ y
-          → (ltb 9 op || not (eqb n 0) && slotFits op (getD table (256 * own + n) 0)) ≡ slotNamed table own op n
+      go : (x y : Bool) → leb op 9 ≡ x → eqb n 0 ≡ y → (ltb 9 op || not (eqb n 0) && f) ≡ slotNamed table own op n
       go true true h k = rw (le-ltb 9 op (leb-true op 9 h), h, k) refl
-      go true false h k = rw (le-ltb 9 op (leb-true op 9 h), h, k) refl
+      go true false h k = rw (le-ltb 9 op (leb-true op 9 h), h, k) (is (g, leb-true op 9 h))
       go false y h k = rw (lt-ltb 9 op (leb-false op 9 h), h) refl
 
   pub closes-any : {x : Bool} → (eqb op 7 && slotNamed table own op n) ≡ x → cond x (2 ^ (getD table (256 * own + n) 0 % 64)) 0 ≡ slotCloses table own op n

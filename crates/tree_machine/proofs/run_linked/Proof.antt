@@ -1,22 +1,18 @@
 -- `tree_machine::run_linked` meets its contract. Assumes nothing.
 use mathlib.Core.Path.{_∙_}
 use Rattle.links.specs.laws.TreeSteps.{ready-short}
-use Rattle.machines.specs.Instruction.{number, formOf}
-use Rattle.steps.specs.Step.{codeProgram, CodeReady}
 use Rattle.tree_machine.specs.laws.FileLaws.{linked-ran}
 use borrow.Author.Needs.{needs}
 use Rattle.tree_machine.proofs.run_linked.Statement.{statement}
 use Rattle.tree_machine.proofs.run_linked.Tie as tie
 
 run-code-requires : tie.Need-run-code-requires
-unfolding formOf CodeReady
 run-code-requires c κs =
     let p = c .before .before .before .before .before .before .before .before .before .before .before .before .before .before .before .before .before
     .before .pre in
     (ready-short (p .1), search needs, search needs, search needs, search needs)
 
 returns : tie.Need-returns
-unfolding formOf number codeProgram
 returns c =
     let p = c .before .before .before .before .before .before .before .before .before .before .before .before .before .before .before .before .before
     .before .before .before .before .before .before .before .before .before .before .pre in

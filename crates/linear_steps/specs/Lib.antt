@@ -1,0 +1,2 @@
+-- The specs of the crate linear_steps.
+pub mod Code

@@ -1,0 +1,2 @@
+-- The specs of the crate tree_steps.
+pub mod Ready
