@@ -1,11 +1,10 @@
 -- Code of a tree file as codes and operand bytes one after the other, whatever lists they stand in; and with new indices.
-use Prim.Native.Nat.{ℕ, zero, suc, _+_, _<_}
+use Prim.Native.Nat.{ℕ, _+_, _<_}
 use mathlib.Core.Path.{_≡_}
 use mathlib.Core.Bool.{cond, _||_}
 use mathlib.Core.List.{List, [], _∷_, _++_}
 use lib.ListN.{length, getD}
 use lib.Dec.{eqb, ltb}
-use Rattle.fields.specs.Field.{fieldAt}
 use Rattle.files.specs.Codes.{shapeOf}
 use Rattle.files.specs.Code.{Code, done, neutral, return, call, unless-false, make-cont}
 use Rattle.files.specs.Valid.{Bytes}
@@ -70,11 +69,6 @@ pub record TokensAt (s : List ℕ) (p n : ℕ) : Type 0 where
   pub good : TokensOk all
   pub here : Stands s p (tokensBits all)
   pub size : length (tokensBits all) ≡ n
-
--- the n operand bytes from p on
-unfoldable pub operandsAt : List ℕ → ℕ → ℕ → List ℕ
-operandsAt s p zero = []
-operandsAt s p (suc n) = fieldAt s p 8 ∷ operandsAt s (p + 8) n
 
 -- ---- new indices
 -- the new index that a table has

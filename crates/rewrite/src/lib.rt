@@ -8,7 +8,8 @@ ghost use lib.ListN.{length};
 ghost use Rattle.files.specs.Linear.{bitsOf};
 ghost use Rattle.bit_writer.specs.Put.{putBits};
 ghost use Rattle.tree_file.specs.File.{operandsBits};
-ghost use Rattle.rewrite.specs.Tokens.{operandCount, indexIn, newOperand, newOperands, operandsAt, tokensBits, renewed, TokensAt};
+ghost use Rattle.lists.specs.Pass.{operandsAt};
+ghost use Rattle.rewrite.specs.Tokens.{operandCount, indexIn, newOperand, newOperands, tokensBits, renewed, TokensAt};
 
 // How many operand bytes follow a code of this shape.
 pub fn operand_count(shape: u8) -> usize

@@ -15,13 +15,13 @@ abbrev pub kept : Bool → ℕ → Option ℕ
 kept b n = cond b (some n) none
 
 -- a new number, or `gone`
-unfoldable pub told : Option ℕ → List ℕ
-told none = 103 ∷ 111 ∷ 110 ∷ 101 ∷ []
-told (some n) = decimal n
+unfoldable pub newWord : Option ℕ → List ℕ
+newWord none = 103 ∷ 111 ∷ 110 ∷ 101 ∷ []
+newWord (some n) = decimal n
 
 unfoldable pub newLine : ℕ → ℕ → Option ℕ → List ℕ
-unfolding told
-newLine t e new = line (decimal t ∷ decimal e ∷ told new ∷ [])
+unfolding newWord
+newLine t e new = line (decimal t ∷ decimal e ∷ newWord new ∷ [])
 
 -- entries of template t, of numbers e on
 unfoldable pub entryLines : ℕ → (ℕ → Option ℕ) → ℕ → List Entry → List ℕ

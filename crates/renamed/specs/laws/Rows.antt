@@ -18,7 +18,7 @@ use Rattle.renamed.specs.laws.Ends.{EndAlike-renamed}
 use Rattle.rewrite.specs.Reindex.{reindexed, reindex}
 use Rattle.trim.specs.Kept.{sift, rank}
 use Rattle.trim.specs.Trim.{names, newIndex, renumber, trimTemplate, trim, namedFrom, there, stays, trimmed}
-use Rattle.trim.specs.Lines.{told, newLine, entryLines, templateLines, linesFrom, trimList}
+use Rattle.trim.specs.Lines.{newWord, newLine, entryLines, templateLines, linesFrom, trimList}
 use Rattle.text.specs.Text.{digitsBy, digitsWithin, decimal, line}
 use Rattle.trim.specs.Reached.{marked, reached}
 use Rattle.files.specs.Orphans.{isTemplate, closes}
@@ -80,7 +80,7 @@ sheetList =
     ∷ 48 ∷ 32 ∷ 103 ∷ 111 ∷ 110 ∷ 101 ∷ 10 ∷ 49 ∷ 32 ∷ 49 ∷ 32 ∷ 103 ∷ 111 ∷ 110 ∷ 101 ∷ 10 ∷ 50 ∷ 32 ∷ 48 ∷ 32 ∷ 49 ∷ 10 ∷ []
 
 list-row : trimList templates ≡ sheetList
-unfolding trimList linesFrom templateLines entryLines newLine told stays there namedFrom closes isTemplate entryOf names newIndex rank decimal line digitsWithin
+unfolding trimList linesFrom templateLines entryLines newLine newWord stays there namedFrom closes isTemplate entryOf names newIndex rank decimal line digitsWithin
     digitsBy
 list-row = refl
 

@@ -17,7 +17,8 @@ use Rattle.bit_writer.specs.Put.{putBits}
 use Rattle.readback.specs.laws.Lists.{none-are, bits-are, append-are}
 use Rattle.bit_writer.specs.laws.Laws.{put-next}
 use Rattle.tree_file.specs.File.{operandsBits}
-use Rattle.rewrite.specs.Tokens.{Token, token, tokenBits, tokensBits, operandCount, TokenOk, TokensOk, TokensAt, operandsAt}
+use Rattle.lists.specs.Pass.{operandsAt}
+use Rattle.rewrite.specs.Tokens.{Token, token, tokenBits, tokensBits, operandCount, TokenOk, TokensOk, TokensAt}
 use Rattle.rewrite.specs.Tokens.{newOperand, newOperands, renewedOne, renewed}
 use Rattle.rewrite.specs.laws.TokensLaws.{token-length, token-are, new-length}
 

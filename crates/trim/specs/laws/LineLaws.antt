@@ -15,21 +15,21 @@ use Rattle.text.specs.Put.{Put}
 use Rattle.text.specs.Text.{decimal, line}
 use Rattle.text.specs.laws.Laws.{put-then, put-line}
 use Rattle.text.specs.laws.Lengths.{decimal-length}
-use Rattle.trim.specs.Lines.{kept, told, newLine, entryLines}
+use Rattle.trim.specs.Lines.{kept, newWord, newLine, entryLines}
 use Rattle.trim.specs.Standing.{markLine, rowLines}
 
 -- ---- one line
 module _ {a b c d : List ℕ} {at l m n : ℕ} (t e mark less : ℕ) (p : Put a at b l (decimal t ++ (32 ∷ []))) (q : Put b l c m (decimal e ++ (32 ∷ []))) where
   pub line-gone : mark < 1 → Put c m d n (103 ∷ 111 ∷ 110 ∷ 101 ∷ 10 ∷ []) → Put a at d n (markLine t e mark less)
-  unfolding markLine newLine told
+  unfolding markLine newLine newWord
   line-gone h r = rw (le-ltb 0 mark (omega arith)) (put-line (decimal t) (decimal e) (103 ∷ 111 ∷ 110 ∷ 101 ∷ []) p q r)
 
   pub line-new : 1 ≤ mark → Put c m d n (decimal (mark - less) ++ (10 ∷ [])) → Put a at d n (markLine t e mark less)
-  unfolding markLine newLine told
+  unfolding markLine newLine newWord
   line-new h r = rw (lt-ltb 0 mark (omega arith)) (put-line (decimal t) (decimal e) (decimal (mark - less)) p q r)
 
 pub line-short : (t e mark less : ℕ) → t < 64 → e < 256 → mark < 256 → length (markLine t e mark less) ≤ 12
-unfolding markLine newLine told line
+unfolding markLine newLine newWord line
 line-short t e mark less h k l =
     let a = decimal-length 1 t (omega arith) in
     let b = decimal-length 2 e (omega arith) in
@@ -37,7 +37,7 @@ line-short t e mark less h k l =
     go (ltb 0 mark) a b c
   where
     go : (x : Bool) → length (decimal t) ≤ 2 → length (decimal e) ≤ 3 → length (decimal (mark - less)) ≤ 3
-        → length (line (decimal t ∷ decimal e ∷ told (kept x (mark - less)) ∷ [])) ≤ 12
+        → length (line (decimal t ∷ decimal e ∷ newWord (kept x (mark - less)) ∷ [])) ≤ 12
     go true a b c = simp length-append (omega arith)
     go false a b c = simp length-append (omega arith)
 

@@ -21,7 +21,8 @@ use Rattle.files.specs.Valid.{Bytes, Valid}
 use Rattle.files.specs.laws.TableLaws.{zeros-at, entry-above}
 use Rattle.readback.specs.Bits.{Stands}
 use Rattle.readback.specs.laws.Bits.{stands-left, stands-right}
-use Rattle.rewrite.specs.Tokens.{Token, end, tokens, tokenBits, tokensBits, operandCount, TokenOk, TokensOk, TokensAt, operandsAt}
+use Rattle.lists.specs.Pass.{operandsAt}
+use Rattle.rewrite.specs.Tokens.{Token, end, tokens, tokenBits, tokensBits, operandCount, TokenOk, TokensOk, TokensAt}
 use Rattle.rewrite.specs.laws.TokensLaws.{token-length, one-operand, tokens-ok, listAt, list-all}
 use Rattle.rewrite.specs.laws.Steps.{code-read, operands-are-read}
 use Rattle.tree_file.specs.laws.Back.{neutral-shape}
