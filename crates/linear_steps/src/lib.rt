@@ -1,5 +1,5 @@
-// A step of the linear machine, and a run of steps (document 01, 'Rules'). A code that has an arm of its own is a constant where its rule is called: the compiler
-// then puts the rule in line there, and a step is one jump to what its code does.
+// A step of the linear machine, and a run of steps (document 01, 'Rules'). A code that has an arm of its own is a constant where its rule is called: the
+// compiler then puts the rule in line there, and a step is one jump to what its code does.
 use cells::BytePlace;
 use linear_code::NeutralAt;
 use machines::CodePlace;
@@ -127,7 +127,75 @@ fn take_transfer(
     }
 }
 
-// Each code has an arm of its own. g, k, t, f: globals, stack, store, frames.
+// Each code has an arm of its own, in three functions, since a proof grows with the square of the arms. g, k, t, f: globals, stack, store, frames.
+fn take_primitive(
+    owner: Owner,
+    s: &[u8],
+    table: &[u64],
+    here: Here,
+    op: u8,
+    g: &mut [u64],
+    k: &mut [u64],
+    t: &mut [u64],
+    r: Regs,
+    c: Control,
+) -> OneStep
+    requires { ⌜ (here .i + here .left ≤ length (now s)) × (here .at .0 ≤ 262144) × (isTransfer op ≡ false) × (length (now g) ≡ 256)
+        × (length (now k) ≡ 256) × (length (now t) ≡ 2048) × Fit r × (c .fr ≤ 2048) ⌝ }
+    ensures { λ x. ⌜ ((P : Program) (f : List ℕ)
+        → Taken linearForm x (memory (now (g .entry)) (now (k .entry)) (now (t .entry)) f)
+        (memory (now (g .exit)) (now (k .exit)) (now (t .exit)) f)
+        (act owner P (codeBytes (slotAt (now (table .entry)) (c .template)) (here .at .0) op (part (now (s .entry)) (here .i) (here .left)))
+        (stateOf r c (memory (now (g .entry)) (now (k .entry)) (now (t .entry)) f)))) ⌝ }
+{
+    match op {
+        16 => take_neutral(owner, s, table, here, 16, g, k, t, r, c),
+        18 => take_neutral(owner, s, table, here, 18, g, k, t, r, c),
+        19 => take_neutral(owner, s, table, here, 19, g, k, t, r, c),
+        20 => take_neutral(owner, s, table, here, 20, g, k, t, r, c),
+        21 => take_neutral(owner, s, table, here, 21, g, k, t, r, c),
+        22 => take_neutral(owner, s, table, here, 22, g, k, t, r, c),
+        23 => take_neutral(owner, s, table, here, 23, g, k, t, r, c),
+        24 => take_neutral(owner, s, table, here, 24, g, k, t, r, c),
+        25 => take_neutral(owner, s, table, here, 25, g, k, t, r, c),
+        _ => take_neutral(owner, s, table, here, op, g, k, t, r, c),
+    }
+}
+
+fn take_data(
+    owner: Owner,
+    s: &[u8],
+    table: &[u64],
+    here: Here,
+    op: u8,
+    g: &mut [u64],
+    k: &mut [u64],
+    t: &mut [u64],
+    r: Regs,
+    c: Control,
+) -> OneStep
+    requires { ⌜ (here .i + here .left ≤ length (now s)) × (here .at .0 ≤ 262144) × (isTransfer op ≡ false) × (length (now g) ≡ 256)
+        × (length (now k) ≡ 256) × (length (now t) ≡ 2048) × Fit r × (c .fr ≤ 2048) ⌝ }
+    ensures { λ x. ⌜ ((P : Program) (f : List ℕ)
+        → Taken linearForm x (memory (now (g .entry)) (now (k .entry)) (now (t .entry)) f)
+        (memory (now (g .exit)) (now (k .exit)) (now (t .exit)) f)
+        (act owner P (codeBytes (slotAt (now (table .entry)) (c .template)) (here .at .0) op (part (now (s .entry)) (here .i) (here .left)))
+        (stateOf r c (memory (now (g .entry)) (now (k .entry)) (now (t .entry)) f)))) ⌝ }
+{
+    match op {
+        6 => take_neutral(owner, s, table, here, 6, g, k, t, r, c),
+        7 => take_neutral(owner, s, table, here, 7, g, k, t, r, c),
+        8 => take_neutral(owner, s, table, here, 8, g, k, t, r, c),
+        9 => take_neutral(owner, s, table, here, 9, g, k, t, r, c),
+        10 => take_neutral(owner, s, table, here, 10, g, k, t, r, c),
+        11 => take_neutral(owner, s, table, here, 11, g, k, t, r, c),
+        12 => take_neutral(owner, s, table, here, 12, g, k, t, r, c),
+        13 => take_neutral(owner, s, table, here, 13, g, k, t, r, c),
+        15 => take_neutral(owner, s, table, here, 15, g, k, t, r, c),
+        _ => take_primitive(owner, s, table, here, op, g, k, t, r, c),
+    }
+}
+
 fn take_coded(
     owner: Owner,
     s: &[u8],
@@ -155,25 +223,7 @@ fn take_coded(
         3 => take_transfer(owner, s, table, here, 3, g, k, t, f, r, c),
         4 => take_transfer(owner, s, table, here, 4, g, k, t, f, r, c),
         5 => take_transfer(owner, s, table, here, 5, g, k, t, f, r, c),
-        6 => take_neutral(owner, s, table, here, 6, g, k, t, r, c),
-        7 => take_neutral(owner, s, table, here, 7, g, k, t, r, c),
-        8 => take_neutral(owner, s, table, here, 8, g, k, t, r, c),
-        9 => take_neutral(owner, s, table, here, 9, g, k, t, r, c),
-        10 => take_neutral(owner, s, table, here, 10, g, k, t, r, c),
-        11 => take_neutral(owner, s, table, here, 11, g, k, t, r, c),
-        12 => take_neutral(owner, s, table, here, 12, g, k, t, r, c),
-        13 => take_neutral(owner, s, table, here, 13, g, k, t, r, c),
-        15 => take_neutral(owner, s, table, here, 15, g, k, t, r, c),
-        16 => take_neutral(owner, s, table, here, 16, g, k, t, r, c),
-        18 => take_neutral(owner, s, table, here, 18, g, k, t, r, c),
-        19 => take_neutral(owner, s, table, here, 19, g, k, t, r, c),
-        20 => take_neutral(owner, s, table, here, 20, g, k, t, r, c),
-        21 => take_neutral(owner, s, table, here, 21, g, k, t, r, c),
-        22 => take_neutral(owner, s, table, here, 22, g, k, t, r, c),
-        23 => take_neutral(owner, s, table, here, 23, g, k, t, r, c),
-        24 => take_neutral(owner, s, table, here, 24, g, k, t, r, c),
-        25 => take_neutral(owner, s, table, here, 25, g, k, t, r, c),
-        _ => take_neutral(owner, s, table, here, op, g, k, t, r, c),
+        _ => take_data(owner, s, table, here, op, g, k, t, r, c),
     }
 }
 
@@ -258,8 +308,8 @@ fn take_step(
 
 // ---- a run
 
-// At most `budget` steps in template 0, from the registers and the place that are given. Registers, template, place and frames are kept one by one: as structs their padding
-// would be copied at each step.
+// At most `budget` steps in template 0, from the registers and the place that are given. Registers, template, place and frames are kept one by one: as
+// structs their padding would be copied at each step.
 fn run_from(
     file: &[u8],
     table: &[u64],

@@ -67,7 +67,81 @@ fn take_coded(
     }
 }
 
-// The same, each code for itself; g, s, t and f are globals, stack, store and frames.
+// The same, each code for itself, in three functions, since a proof grows with the square of the arms; g, s, t and f are globals, stack, store and frames.
+fn take_above_20(
+    owner: Owner,
+    file: &[u8],
+    links: &[u32],
+    table: &[u64],
+    at: BitPlace,
+    line: u32,
+    g: &mut [u64],
+    s: &mut [u64],
+    t: &mut [u64],
+    f: &mut [u64],
+    r: Regs,
+    c: Control,
+) -> OneStep
+    requires { ⌜ LineReady (now file) (now table) (lent g s t f) r c (at .0) line × (21 ≤ line / 0x10000) ⌝ }
+    ensures { λ x. ⌜ Taken treeForm x (lent (g .entry) (s .entry) (t .entry) (f .entry))
+        (lent (g .exit) (s .exit) (t .exit) (f .exit))
+        (act owner (linkedProgram (now (file .entry)) (now (links .entry)) (now (table .entry)))
+        (instructionAt (now (file .entry)) (now (links .entry)) (now (table .entry)) (c .template) (at .0))
+        (stateOf r c (lent (g .entry) (s .entry) (t .entry) (f .entry)))) ⌝ }
+{
+    let code = line / 0x10000;
+    match code {
+        21 => take_coded(owner, file, links, table, at, line, 21, g, s, t, f, r, c),
+        22 => take_coded(owner, file, links, table, at, line, 22, g, s, t, f, r, c),
+        23 => take_coded(owner, file, links, table, at, line, 23, g, s, t, f, r, c),
+        24 => take_coded(owner, file, links, table, at, line, 24, g, s, t, f, r, c),
+        25 => take_coded(owner, file, links, table, at, line, 25, g, s, t, f, r, c),
+        26 => take_coded(owner, file, links, table, at, line, 26, g, s, t, f, r, c),
+        27 => take_coded(owner, file, links, table, at, line, 27, g, s, t, f, r, c),
+        28 => take_coded(owner, file, links, table, at, line, 28, g, s, t, f, r, c),
+        29 => take_coded(owner, file, links, table, at, line, 29, g, s, t, f, r, c),
+        30 => take_coded(owner, file, links, table, at, line, 30, g, s, t, f, r, c),
+        _ => take_coded(owner, file, links, table, at, line, 31, g, s, t, f, r, c),
+    }
+}
+
+fn take_above_10(
+    owner: Owner,
+    file: &[u8],
+    links: &[u32],
+    table: &[u64],
+    at: BitPlace,
+    line: u32,
+    g: &mut [u64],
+    s: &mut [u64],
+    t: &mut [u64],
+    f: &mut [u64],
+    r: Regs,
+    c: Control,
+) -> OneStep
+    requires { ⌜ LineReady (now file) (now table) (lent g s t f) r c (at .0) line × (11 ≤ line / 0x10000) ⌝ }
+    ensures { λ x. ⌜ Taken treeForm x (lent (g .entry) (s .entry) (t .entry) (f .entry))
+        (lent (g .exit) (s .exit) (t .exit) (f .exit))
+        (act owner (linkedProgram (now (file .entry)) (now (links .entry)) (now (table .entry)))
+        (instructionAt (now (file .entry)) (now (links .entry)) (now (table .entry)) (c .template) (at .0))
+        (stateOf r c (lent (g .entry) (s .entry) (t .entry) (f .entry)))) ⌝ }
+{
+    let code = line / 0x10000;
+    match code {
+        11 => take_coded(owner, file, links, table, at, line, 11, g, s, t, f, r, c),
+        12 => take_coded(owner, file, links, table, at, line, 12, g, s, t, f, r, c),
+        13 => take_coded(owner, file, links, table, at, line, 13, g, s, t, f, r, c),
+        14 => take_coded(owner, file, links, table, at, line, 14, g, s, t, f, r, c),
+        15 => take_coded(owner, file, links, table, at, line, 15, g, s, t, f, r, c),
+        16 => take_coded(owner, file, links, table, at, line, 16, g, s, t, f, r, c),
+        17 => take_coded(owner, file, links, table, at, line, 17, g, s, t, f, r, c),
+        18 => take_coded(owner, file, links, table, at, line, 18, g, s, t, f, r, c),
+        19 => take_coded(owner, file, links, table, at, line, 19, g, s, t, f, r, c),
+        20 => take_coded(owner, file, links, table, at, line, 20, g, s, t, f, r, c),
+        _ => take_above_20(owner, file, links, table, at, line, g, s, t, f, r, c),
+    }
+}
+
 fn take_line(
     owner: Owner,
     file: &[u8],
@@ -102,27 +176,7 @@ fn take_line(
         8 => take_coded(owner, file, links, table, at, line, 8, g, s, t, f, r, c),
         9 => take_coded(owner, file, links, table, at, line, 9, g, s, t, f, r, c),
         10 => take_coded(owner, file, links, table, at, line, 10, g, s, t, f, r, c),
-        11 => take_coded(owner, file, links, table, at, line, 11, g, s, t, f, r, c),
-        12 => take_coded(owner, file, links, table, at, line, 12, g, s, t, f, r, c),
-        13 => take_coded(owner, file, links, table, at, line, 13, g, s, t, f, r, c),
-        14 => take_coded(owner, file, links, table, at, line, 14, g, s, t, f, r, c),
-        15 => take_coded(owner, file, links, table, at, line, 15, g, s, t, f, r, c),
-        16 => take_coded(owner, file, links, table, at, line, 16, g, s, t, f, r, c),
-        17 => take_coded(owner, file, links, table, at, line, 17, g, s, t, f, r, c),
-        18 => take_coded(owner, file, links, table, at, line, 18, g, s, t, f, r, c),
-        19 => take_coded(owner, file, links, table, at, line, 19, g, s, t, f, r, c),
-        20 => take_coded(owner, file, links, table, at, line, 20, g, s, t, f, r, c),
-        21 => take_coded(owner, file, links, table, at, line, 21, g, s, t, f, r, c),
-        22 => take_coded(owner, file, links, table, at, line, 22, g, s, t, f, r, c),
-        23 => take_coded(owner, file, links, table, at, line, 23, g, s, t, f, r, c),
-        24 => take_coded(owner, file, links, table, at, line, 24, g, s, t, f, r, c),
-        25 => take_coded(owner, file, links, table, at, line, 25, g, s, t, f, r, c),
-        26 => take_coded(owner, file, links, table, at, line, 26, g, s, t, f, r, c),
-        27 => take_coded(owner, file, links, table, at, line, 27, g, s, t, f, r, c),
-        28 => take_coded(owner, file, links, table, at, line, 28, g, s, t, f, r, c),
-        29 => take_coded(owner, file, links, table, at, line, 29, g, s, t, f, r, c),
-        30 => take_coded(owner, file, links, table, at, line, 30, g, s, t, f, r, c),
-        _ => take_coded(owner, file, links, table, at, line, 31, g, s, t, f, r, c),
+        _ => take_above_10(owner, file, links, table, at, line, g, s, t, f, r, c),
     }
 }
 

@@ -80,8 +80,8 @@ sheetList =
     ∷ 48 ∷ 32 ∷ 103 ∷ 111 ∷ 110 ∷ 101 ∷ 10 ∷ 49 ∷ 32 ∷ 49 ∷ 32 ∷ 103 ∷ 111 ∷ 110 ∷ 101 ∷ 10 ∷ 50 ∷ 32 ∷ 48 ∷ 32 ∷ 49 ∷ 10 ∷ []
 
 list-row : trimList templates ≡ sheetList
-unfolding trimList linesFrom templateLines entryLines newLine newWord stays there namedFrom closes isTemplate entryOf names newIndex rank decimal line digitsWithin
-    digitsBy
+unfolding trimList linesFrom templateLines entryLines newLine newWord stays there namedFrom closes isTemplate entryOf names newIndex rank
+    decimal line digitsWithin digitsBy
 list-row = refl
 
 rounds-entries : (t : ℕ) → getD trimmedTemplates t noTemplate .entries ≡ getD (trimmed templates) t noTemplate .entries

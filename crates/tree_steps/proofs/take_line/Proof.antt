@@ -5,27 +5,15 @@ use Rattle.tree_steps.proofs.StepLaws.{past-code}
 use Rattle.tree_steps.proofs.take_line.Statement.{statement}
 use Rattle.tree_steps.proofs.take_line.Tie as tie
 
--- the codes that have an arm lie below it
-take-coded-requires-32 : tie.Need-take-coded-requires-32
-take-coded-requires-32 c κs =
+take-above-10-requires : tie.Need-take-above-10-requires
+take-above-10-requires c κs =
     let n = c .before .before .before .before .match .rest in
     let p = c .before .before .before .before .before .before .before .before .before .before .before .before .pre in
-    let high = past-code 30 _ (past-code 29 _ (past-code 28 _ (past-code 27 _ (past-code 26 _ (past-code 25 _ (past-code 24 _ (past-code 23 _
-    (past-code 22 _ (past-code 21 _ (past-code 20 _ (past-code 19 _ (past-code 18 _ (past-code 17 _ (past-code 16 _ (past-code 15 _ (past-code 14 _
-    (past-code 13 _ (past-code 12 _ (past-code 11 _ (past-code 10 _ (past-code 9 _ (past-code 8 _ (past-code 7 _ (past-code 6 _ (past-code 5 _
-    (past-code 4 _ (past-code 3 _ (past-code 2 _ (past-code 1 _ (past-code 0 _ (omega arith) (n .0 .0 .0 .0 .0 .0 .0 .0 .0 .0 .0 .0 .0 .0 .0 .0 .0 .0
-    .0 .0 .0 .0 .0 .0 .0 .0 .0 .0 .0 .0 .1)) (n .0 .0 .0 .0 .0 .0 .0 .0 .0 .0 .0 .0 .0 .0 .0 .0 .0 .0 .0 .0 .0 .0 .0 .0 .0 .0 .0 .0 .0 .1)) (n .0 .0
-    .0 .0 .0 .0 .0 .0 .0 .0 .0 .0 .0 .0 .0 .0 .0 .0 .0 .0 .0 .0 .0 .0 .0 .0 .0 .0 .1)) (n .0 .0 .0 .0 .0 .0 .0 .0 .0 .0 .0 .0 .0 .0 .0 .0 .0 .0 .0 .0
-    .0 .0 .0 .0 .0 .0 .0 .1)) (n .0 .0 .0 .0 .0 .0 .0 .0 .0 .0 .0 .0 .0 .0 .0 .0 .0 .0 .0 .0 .0 .0 .0 .0 .0 .0 .1)) (n .0 .0 .0 .0 .0 .0 .0 .0 .0 .0
-    .0 .0 .0 .0 .0 .0 .0 .0 .0 .0 .0 .0 .0 .0 .0 .1)) (n .0 .0 .0 .0 .0 .0 .0 .0 .0 .0 .0 .0 .0 .0 .0 .0 .0 .0 .0 .0 .0 .0 .0 .0 .1)) (n .0 .0 .0 .0
-    .0 .0 .0 .0 .0 .0 .0 .0 .0 .0 .0 .0 .0 .0 .0 .0 .0 .0 .0 .1)) (n .0 .0 .0 .0 .0 .0 .0 .0 .0 .0 .0 .0 .0 .0 .0 .0 .0 .0 .0 .0 .0 .0 .1)) (n .0 .0
-    .0 .0 .0 .0 .0 .0 .0 .0 .0 .0 .0 .0 .0 .0 .0 .0 .0 .0 .0 .1)) (n .0 .0 .0 .0 .0 .0 .0 .0 .0 .0 .0 .0 .0 .0 .0 .0 .0 .0 .0 .0 .1)) (n .0 .0 .0 .0
-    .0 .0 .0 .0 .0 .0 .0 .0 .0 .0 .0 .0 .0 .0 .0 .1)) (n .0 .0 .0 .0 .0 .0 .0 .0 .0 .0 .0 .0 .0 .0 .0 .0 .0 .0 .1)) (n .0 .0 .0 .0 .0 .0 .0 .0 .0 .0
-    .0 .0 .0 .0 .0 .0 .0 .1)) (n .0 .0 .0 .0 .0 .0 .0 .0 .0 .0 .0 .0 .0 .0 .0 .0 .1)) (n .0 .0 .0 .0 .0 .0 .0 .0 .0 .0 .0 .0 .0 .0 .0 .1)) (n .0 .0 .0
-    .0 .0 .0 .0 .0 .0 .0 .0 .0 .0 .0 .1)) (n .0 .0 .0 .0 .0 .0 .0 .0 .0 .0 .0 .0 .0 .1)) (n .0 .0 .0 .0 .0 .0 .0 .0 .0 .0 .0 .0 .1)) (n .0 .0 .0 .0 .0
-    .0 .0 .0 .0 .0 .0 .1)) (n .0 .0 .0 .0 .0 .0 .0 .0 .0 .0 .1)) (n .0 .0 .0 .0 .0 .0 .0 .0 .0 .1)) (n .0 .0 .0 .0 .0 .0 .0 .0 .1)) (n .0 .0 .0 .0 .0
-    .0 .0 .1)) (n .0 .0 .0 .0 .0 .0 .1)) (n .0 .0 .0 .0 .0 .1)) (n .0 .0 .0 .0 .1)) (n .0 .0 .0 .1)) (n .0 .0 .1)) (n .0 .1)) (n .1) in
-    (p, omega (arith, high, p .line-low))
+    let high = past-code 10 _ (past-code 9 _ (past-code 8 _ (past-code 7 _ (past-code 6 _ (past-code 5 _ (past-code 4 _ (past-code 3 _ (past-code 2 _
+    (past-code 1 _ (past-code 0 _ (omega arith) (n .0 .0 .0 .0 .0 .0 .0 .0 .0 .0 .1)) (n .0 .0 .0 .0 .0 .0 .0 .0 .0 .1)) (n .0 .0 .0 .0 .0 .0 .0 .0
+    .1)) (n .0 .0 .0 .0 .0 .0 .0 .1)) (n .0 .0 .0 .0 .0 .0 .1)) (n .0 .0 .0 .0 .0 .1)) (n .0 .0 .0 .0 .1)) (n .0 .0 .0 .1)) (n .0 .0 .1)) (n .0 .1))
+    (n .1) in
+    (p, high)
 
 pub take-line-spec : {M : Type 1} → statement M
 take-line-spec = tie.close (tie.spec
@@ -40,27 +28,7 @@ take-line-spec = tie.close (tie.spec
     (λ c κs. (c .before .before .before .before .before .before .before .before .before .before .before .before .pre, sym (c .before .before .before .before .match .keys9)))
     (λ c κs. (c .before .before .before .before .before .before .before .before .before .before .before .before .pre, sym (c .before .before .before .before .match .keys10)))
     (λ c κs. (c .before .before .before .before .before .before .before .before .before .before .before .before .pre, sym (c .before .before .before .before .match .keys11)))
-    (λ c κs. (c .before .before .before .before .before .before .before .before .before .before .before .before .pre, sym (c .before .before .before .before .match .keys12)))
-    (λ c κs. (c .before .before .before .before .before .before .before .before .before .before .before .before .pre, sym (c .before .before .before .before .match .keys13)))
-    (λ c κs. (c .before .before .before .before .before .before .before .before .before .before .before .before .pre, sym (c .before .before .before .before .match .keys14)))
-    (λ c κs. (c .before .before .before .before .before .before .before .before .before .before .before .before .pre, sym (c .before .before .before .before .match .keys15)))
-    (λ c κs. (c .before .before .before .before .before .before .before .before .before .before .before .before .pre, sym (c .before .before .before .before .match .keys16)))
-    (λ c κs. (c .before .before .before .before .before .before .before .before .before .before .before .before .pre, sym (c .before .before .before .before .match .keys17)))
-    (λ c κs. (c .before .before .before .before .before .before .before .before .before .before .before .before .pre, sym (c .before .before .before .before .match .keys18)))
-    (λ c κs. (c .before .before .before .before .before .before .before .before .before .before .before .before .pre, sym (c .before .before .before .before .match .keys19)))
-    (λ c κs. (c .before .before .before .before .before .before .before .before .before .before .before .before .pre, sym (c .before .before .before .before .match .keys20)))
-    (λ c κs. (c .before .before .before .before .before .before .before .before .before .before .before .before .pre, sym (c .before .before .before .before .match .keys21)))
-    (λ c κs. (c .before .before .before .before .before .before .before .before .before .before .before .before .pre, sym (c .before .before .before .before .match .keys22)))
-    (λ c κs. (c .before .before .before .before .before .before .before .before .before .before .before .before .pre, sym (c .before .before .before .before .match .keys23)))
-    (λ c κs. (c .before .before .before .before .before .before .before .before .before .before .before .before .pre, sym (c .before .before .before .before .match .keys24)))
-    (λ c κs. (c .before .before .before .before .before .before .before .before .before .before .before .before .pre, sym (c .before .before .before .before .match .keys25)))
-    (λ c κs. (c .before .before .before .before .before .before .before .before .before .before .before .before .pre, sym (c .before .before .before .before .match .keys26)))
-    (λ c κs. (c .before .before .before .before .before .before .before .before .before .before .before .before .pre, sym (c .before .before .before .before .match .keys27)))
-    (λ c κs. (c .before .before .before .before .before .before .before .before .before .before .before .before .pre, sym (c .before .before .before .before .match .keys28)))
-    (λ c κs. (c .before .before .before .before .before .before .before .before .before .before .before .before .pre, sym (c .before .before .before .before .match .keys29)))
-    (λ c κs. (c .before .before .before .before .before .before .before .before .before .before .before .before .pre, sym (c .before .before .before .before .match .keys30)))
-    (λ c κs. (c .before .before .before .before .before .before .before .before .before .before .before .before .pre, sym (c .before .before .before .before .match .keys31)))
-    take-coded-requires-32 (λ c. c .before .before .before .before .before .before .before .g .given)
+    take-above-10-requires (λ c. c .before .before .before .before .before .before .before .g .given)
     (λ c. c .before .before .before .before .before .s .given) (λ c. c .before .before .before .t .given) (λ c. c .before .f .given)
     (λ c. c .before .before .before .before .before .before .before .before .take-coded .ensures)
     (λ c. c .before .before .before .before .before .before .before .g2 .given) (λ c. c .before .before .before .before .before .s2 .given)
@@ -95,64 +63,4 @@ take-line-spec = tie.close (tie.spec
     (λ c. c .before .before .before .before .before .before .before .before .take-coded11 .ensures)
     (λ c. c .before .before .before .before .before .before .before .g12 .given) (λ c. c .before .before .before .before .before .s12 .given)
     (λ c. c .before .before .before .t12 .given) (λ c. c .before .f12 .given)
-    (λ c. c .before .before .before .before .before .before .before .before .take-coded12 .ensures)
-    (λ c. c .before .before .before .before .before .before .before .g13 .given) (λ c. c .before .before .before .before .before .s13 .given)
-    (λ c. c .before .before .before .t13 .given) (λ c. c .before .f13 .given)
-    (λ c. c .before .before .before .before .before .before .before .before .take-coded13 .ensures)
-    (λ c. c .before .before .before .before .before .before .before .g14 .given) (λ c. c .before .before .before .before .before .s14 .given)
-    (λ c. c .before .before .before .t14 .given) (λ c. c .before .f14 .given)
-    (λ c. c .before .before .before .before .before .before .before .before .take-coded14 .ensures)
-    (λ c. c .before .before .before .before .before .before .before .g15 .given) (λ c. c .before .before .before .before .before .s15 .given)
-    (λ c. c .before .before .before .t15 .given) (λ c. c .before .f15 .given)
-    (λ c. c .before .before .before .before .before .before .before .before .take-coded15 .ensures)
-    (λ c. c .before .before .before .before .before .before .before .g16 .given) (λ c. c .before .before .before .before .before .s16 .given)
-    (λ c. c .before .before .before .t16 .given) (λ c. c .before .f16 .given)
-    (λ c. c .before .before .before .before .before .before .before .before .take-coded16 .ensures)
-    (λ c. c .before .before .before .before .before .before .before .g17 .given) (λ c. c .before .before .before .before .before .s17 .given)
-    (λ c. c .before .before .before .t17 .given) (λ c. c .before .f17 .given)
-    (λ c. c .before .before .before .before .before .before .before .before .take-coded17 .ensures)
-    (λ c. c .before .before .before .before .before .before .before .g18 .given) (λ c. c .before .before .before .before .before .s18 .given)
-    (λ c. c .before .before .before .t18 .given) (λ c. c .before .f18 .given)
-    (λ c. c .before .before .before .before .before .before .before .before .take-coded18 .ensures)
-    (λ c. c .before .before .before .before .before .before .before .g19 .given) (λ c. c .before .before .before .before .before .s19 .given)
-    (λ c. c .before .before .before .t19 .given) (λ c. c .before .f19 .given)
-    (λ c. c .before .before .before .before .before .before .before .before .take-coded19 .ensures)
-    (λ c. c .before .before .before .before .before .before .before .g20 .given) (λ c. c .before .before .before .before .before .s20 .given)
-    (λ c. c .before .before .before .t20 .given) (λ c. c .before .f20 .given)
-    (λ c. c .before .before .before .before .before .before .before .before .take-coded20 .ensures)
-    (λ c. c .before .before .before .before .before .before .before .g21 .given) (λ c. c .before .before .before .before .before .s21 .given)
-    (λ c. c .before .before .before .t21 .given) (λ c. c .before .f21 .given)
-    (λ c. c .before .before .before .before .before .before .before .before .take-coded21 .ensures)
-    (λ c. c .before .before .before .before .before .before .before .g22 .given) (λ c. c .before .before .before .before .before .s22 .given)
-    (λ c. c .before .before .before .t22 .given) (λ c. c .before .f22 .given)
-    (λ c. c .before .before .before .before .before .before .before .before .take-coded22 .ensures)
-    (λ c. c .before .before .before .before .before .before .before .g23 .given) (λ c. c .before .before .before .before .before .s23 .given)
-    (λ c. c .before .before .before .t23 .given) (λ c. c .before .f23 .given)
-    (λ c. c .before .before .before .before .before .before .before .before .take-coded23 .ensures)
-    (λ c. c .before .before .before .before .before .before .before .g24 .given) (λ c. c .before .before .before .before .before .s24 .given)
-    (λ c. c .before .before .before .t24 .given) (λ c. c .before .f24 .given)
-    (λ c. c .before .before .before .before .before .before .before .before .take-coded24 .ensures)
-    (λ c. c .before .before .before .before .before .before .before .g25 .given) (λ c. c .before .before .before .before .before .s25 .given)
-    (λ c. c .before .before .before .t25 .given) (λ c. c .before .f25 .given)
-    (λ c. c .before .before .before .before .before .before .before .before .take-coded25 .ensures)
-    (λ c. c .before .before .before .before .before .before .before .g26 .given) (λ c. c .before .before .before .before .before .s26 .given)
-    (λ c. c .before .before .before .t26 .given) (λ c. c .before .f26 .given)
-    (λ c. c .before .before .before .before .before .before .before .before .take-coded26 .ensures)
-    (λ c. c .before .before .before .before .before .before .before .g27 .given) (λ c. c .before .before .before .before .before .s27 .given)
-    (λ c. c .before .before .before .t27 .given) (λ c. c .before .f27 .given)
-    (λ c. c .before .before .before .before .before .before .before .before .take-coded27 .ensures)
-    (λ c. c .before .before .before .before .before .before .before .g28 .given) (λ c. c .before .before .before .before .before .s28 .given)
-    (λ c. c .before .before .before .t28 .given) (λ c. c .before .f28 .given)
-    (λ c. c .before .before .before .before .before .before .before .before .take-coded28 .ensures)
-    (λ c. c .before .before .before .before .before .before .before .g29 .given) (λ c. c .before .before .before .before .before .s29 .given)
-    (λ c. c .before .before .before .t29 .given) (λ c. c .before .f29 .given)
-    (λ c. c .before .before .before .before .before .before .before .before .take-coded29 .ensures)
-    (λ c. c .before .before .before .before .before .before .before .g30 .given) (λ c. c .before .before .before .before .before .s30 .given)
-    (λ c. c .before .before .before .t30 .given) (λ c. c .before .f30 .given)
-    (λ c. c .before .before .before .before .before .before .before .before .take-coded30 .ensures)
-    (λ c. c .before .before .before .before .before .before .before .g31 .given) (λ c. c .before .before .before .before .before .s31 .given)
-    (λ c. c .before .before .before .t31 .given) (λ c. c .before .f31 .given)
-    (λ c. c .before .before .before .before .before .before .before .before .take-coded31 .ensures)
-    (λ c. c .before .before .before .before .before .before .before .g32 .given) (λ c. c .before .before .before .before .before .s32 .given)
-    (λ c. c .before .before .before .t32 .given) (λ c. c .before .f32 .given)
-    (λ c. c .before .before .before .before .before .before .before .before .take-coded32 .ensures))
+    (λ c. c .before .before .before .before .before .before .before .before .take-above-10 .ensures))
