@@ -14,7 +14,7 @@ use files::Padding;
 
 // What reading a code finds, with the place past it and what it carries but lists: the list's end; return or call; a neutral code from 10 on; literal with a
 // tag and a number; global or set-global! (the code) with a number; closure, unless-false and make-cont, which lists follow; or a refusal's number and place.
-#[derive(Drop)]
+#[derive(Clone, Copy)]
 pub enum Token {
     End(BitPlace),
     Ending(BitPlace),
@@ -28,28 +28,28 @@ pub enum Token {
 }
 
 // What is to be known of a list: its class (0 empty, 1 open, 2 closed, 3 neither), and how many closures it has, in all its lists.
-#[derive(Drop)]
+#[derive(Clone, Copy)]
 pub struct Facts {
     pub class: u8,
     pub inside: usize,
 }
 
 // What reading a list finds: the place past it and its facts, or a refusal's number and place.
-#[derive(Drop)]
+#[derive(Clone, Copy)]
 pub enum Listed {
     Done(BitPlace, Facts),
     Refused(u8, BitPlace),
 }
 
 // What reading a file finds: the place past its list, or a refusal's number and place.
-#[derive(Drop)]
+#[derive(Clone, Copy)]
 pub enum BasicFile {
     Read(BitPlace),
     Refused(u8, BitPlace),
 }
 
 // What an instruction does to the class of the list that it begins.
-#[derive(Drop)]
+#[derive(Clone, Copy)]
 enum Kind {
     Neutral,
     // return, call, unless-false with two closed arms
@@ -62,7 +62,7 @@ enum Kind {
 }
 
 // What reading one instruction finds: the list's end; an instruction, its kind and how many closures it has; or a refusal.
-#[derive(Drop)]
+#[derive(Clone, Copy)]
 enum Item {
     End(BitPlace),
     More(BitPlace, Kind, usize),
@@ -70,7 +70,7 @@ enum Item {
 }
 
 // The class that a whole list has, by the class of what is left of it: empty, open, closed (else it is neither).
-#[derive(Drop)]
+#[derive(Clone, Copy)]
 struct Classes {
     pub empty: u8,
     pub opened: u8,

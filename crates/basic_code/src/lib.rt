@@ -14,7 +14,7 @@ use rules::Plain;
 
 // What stands at a place of a basic file: of an instruction of data its rule, which needs no entry, and the place past it; the places of the others as in
 // machines::Instruction.
-#[derive(Drop)]
+#[derive(Clone, Copy)]
 pub enum BasicInstruction {
     Ready(Plain, BitPlace),
     Return,

@@ -22,7 +22,7 @@ use tabulate::CheckedFile;
 
 // What stands at a place of a list: its end; an instruction without lists, and the place past it; a closure, its list, the place past that and how many
 // closures it has; a conditional, its arms, the place past them and how many closures each has; a make-cont, its saved list as a closure's; or no instruction.
-#[derive(Drop)]
+#[derive(Clone, Copy)]
 enum Parts {
     End,
     Simple(BitPlace),

@@ -5,11 +5,11 @@ ghost use Rattle.cells.specs.Cells.{pair_cell, pair_first, pair_second, layer_ce
 ghost use Rattle.cells.specs.Cells.{frame_cell, frame_count, frame_template, frame_env, frame_place, starting_global, value_of};
 
 // A code place in a tree file: a bit number from the file's start.
-#[derive(Drop)]
+#[derive(Clone, Copy)]
 pub struct BitPlace(pub usize);
 
 // A code place in a linear file: a byte number within its template's code.
-#[derive(Drop)]
+#[derive(Clone, Copy)]
 pub struct BytePlace(pub usize);
 
 // What is to be known of a place is asked here, and no other crate takes one apart. Files are at most 262,144 bytes.
@@ -184,7 +184,7 @@ impl BytePlace {
 }
 
 // What a closure cell holds.
-#[derive(Drop)]
+#[derive(Clone, Copy)]
 pub struct Closure {
     pub template: u64,
     pub env: u64,
@@ -192,7 +192,7 @@ pub struct Closure {
 }
 
 // The value of a cell. An integer is its 48 bits in two's complement.
-#[derive(Drop)]
+#[derive(Clone, Copy)]
 pub enum Value {
     False,
     True,

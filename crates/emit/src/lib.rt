@@ -14,14 +14,14 @@ ghost use Rattle.emit.specs.ToWrite.{ToWrite, ArmsToWrite, SavedToWrite, ItemToW
 use cells::BitPlace;
 
 // How many bytes the flat code of a list has, and whether it is closed.
-#[derive(Drop)]
+#[derive(Clone, Copy)]
 pub struct Measured {
     pub size: usize,
     pub closed: bool,
 }
 
 // The place past an instruction, and the part of the output that is left for the rest of its list.
-#[derive(Drop)]
+#[derive(Clone, Copy)]
 pub struct Wrote {
     pub next: BitPlace,
     pub front: usize,

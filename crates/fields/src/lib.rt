@@ -5,7 +5,7 @@ ghost use Rattle.fields.specs.Field.{field_at, field_read};
 use cells::BitPlace;
 
 // What reading a field finds: its value and the place past it, or that it runs past the end.
-#[derive(Drop)]
+#[derive(Clone, Copy)]
 pub enum Field {
     Read(u32, BitPlace),
     Cut,

@@ -9,28 +9,28 @@ use cells::BitPlace;
 use fields::Field;
 
 // What a function that fills an output answers: how many bytes it wrote, or a refusal's number and place.
-#[derive(Drop)]
+#[derive(Clone, Copy)]
 pub enum Outcome {
     Written(usize),
     Refused(u8, usize),
 }
 
 // What reading an entry finds: its slot in a run's table and the place past it, or a refusal's number and place.
-#[derive(Drop)]
+#[derive(Clone, Copy)]
 pub enum EntryRead {
     Slot(u64, BitPlace),
     Refused(u8, BitPlace),
 }
 
 // What reading a template's entries finds: the place past them, or a refusal's number and place.
-#[derive(Drop)]
+#[derive(Clone, Copy)]
 pub enum Entries {
     Read(BitPlace),
     Refused(u8, BitPlace),
 }
 
 // What stands where zero bits or the file's end must: the place past it, or the first bit that is refused 5.
-#[derive(Drop)]
+#[derive(Clone, Copy)]
 pub enum Padding {
     Zero(BitPlace),
     Refused(BitPlace),

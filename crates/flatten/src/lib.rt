@@ -15,7 +15,7 @@ use lists::Keep;
 use tree::Judged;
 
 // The place past a template, and how many bytes of the linear file are written.
-#[derive(Drop)]
+#[derive(Clone, Copy)]
 pub struct Past {
     pub next: BitPlace,
     pub front: usize,

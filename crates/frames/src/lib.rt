@@ -8,14 +8,14 @@ ghost use Rattle.frames.specs.Ends.{state, left, ends_kept, ends_back, KeptFit, 
 use rules::Regs;
 
 // How make-cont ends: on with these registers and so many frame cells in use, or wrong with its number and nothing changed.
-#[derive(Drop)]
+#[derive(Clone, Copy)]
 pub enum Kept {
     On(Regs, usize),
     Wrong(u8),
 }
 
 // How return ends: halted with nothing changed, or back with these registers, so many frame cells in use, and the frame's cell.
-#[derive(Drop)]
+#[derive(Clone, Copy)]
 pub enum Returned {
     Halt,
     To(Regs, usize, u64),

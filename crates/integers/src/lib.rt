@@ -8,14 +8,14 @@ ghost use Rattle.integers.specs.Integers.{signed, floor_quotient};
 ghost use Rattle.integers.specs.Answers.{ranged_of, sum_of};
 
 // The bits of a number that is in range, or that it is not.
-#[derive(Drop)]
+#[derive(Clone, Copy)]
 pub enum Ranged {
     Within(u64),
     Over,
 }
 
 // A total, or that not all cells are integers.
-#[derive(Drop)]
+#[derive(Clone, Copy)]
 pub enum Total {
     Exactly(Ranged),
     NotIntegers,

@@ -18,7 +18,7 @@ use lists::{Keep, Listed};
 use tree::{Judged, TreeFile};
 
 // The first template of a file: E, the first bit of its list and the place past it.
-#[derive(Drop)]
+#[derive(Clone, Copy)]
 pub struct First {
     pub entries: usize,
     pub start: BitPlace,
@@ -26,14 +26,14 @@ pub struct First {
 }
 
 // Where in a prologue's list the file's code goes, and in how many saved lists that is.
-#[derive(Drop)]
+#[derive(Clone, Copy)]
 pub struct Joint {
     pub place: BitPlace,
     pub depth: usize,
 }
 
 // What an instruction says of the joint: it is there, past the instruction, or in its saved list.
-#[derive(Drop)]
+#[derive(Clone, Copy)]
 pub enum Turn {
     There,
     Past(BitPlace),

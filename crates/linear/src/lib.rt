@@ -10,21 +10,21 @@ use fields::Field;
 use files::{Entries, Padding};
 
 // What reading a part of the file finds: the place past it, or a refusal's number and place.
-#[derive(Drop)]
+#[derive(Clone, Copy)]
 pub enum Part {
     Read(BitPlace),
     Refused(u8, BitPlace),
 }
 
 // What reading a linear file finds: its number of templates, or a refusal's number and place.
-#[derive(Drop)]
+#[derive(Clone, Copy)]
 pub enum LinearFile {
     Read(u8),
     Refused(u8, BitPlace),
 }
 
 // What the linear machine says of a file before it runs it: a refusal has its number and place.
-#[derive(Drop)]
+#[derive(Clone, Copy)]
 pub enum Checked {
     Accepted,
     Refused(u8, usize),

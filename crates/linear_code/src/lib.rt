@@ -10,7 +10,7 @@ use cells::BytePlace;
 use machines::{CodePlace, Instruction};
 
 // A neutral code's operands, of which it may have fewer, and the place past it; or it is cut.
-#[derive(Drop)]
+#[derive(Clone, Copy)]
 pub enum NeutralAt {
     Whole(u8, u8, BytePlace),
     Cut,

@@ -21,14 +21,14 @@ use rules::Regs;
 use steps::{Control, OneStep};
 
 // Where a template's code lies in the file: its first byte, and how many there are.
-#[derive(Drop)]
+#[derive(Clone, Copy)]
 pub struct Code {
     pub start: usize,
     pub len: usize,
 }
 
 // The place of a code, and the `left` bytes at i after it.
-#[derive(Drop)]
+#[derive(Clone, Copy)]
 struct Here {
     pub at: BytePlace,
     pub i: usize,

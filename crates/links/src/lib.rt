@@ -11,7 +11,7 @@ use cells::BitPlace;
 
 // What stands at a place of a list: its end, an instruction without lists and the place past it, the place of a conditional's second arm
 // and the place past both, the place past a make-cont's saved list, or no instruction.
-#[derive(Drop)]
+#[derive(Clone, Copy)]
 pub enum Parts {
     End,
     Simple(BitPlace),

@@ -15,7 +15,7 @@ use fields::Field;
 
 // What is to be known of a list: its class (0 empty, 1 open, 2 closed, 3 neither), how many bytes its flat code has, whether codes 6 to 9
 // name entries that suit them, whether its offsets fit, and which templates its closures name: bit t, from the lowest, for template t.
-#[derive(Drop)]
+#[derive(Clone, Copy)]
 pub struct Facts {
     pub class: u8,
     pub size: usize,
@@ -25,21 +25,21 @@ pub struct Facts {
 }
 
 // What reading a list finds: the place past it and its facts, or a refusal's number and place.
-#[derive(Drop)]
+#[derive(Clone, Copy)]
 pub enum Listed {
     Done(BitPlace, Facts),
     Refused(u8, BitPlace),
 }
 
 // What reading keeps of each list, by the place where it begins: twice the size of its flat code and 1 if it is closed, or the place past it.
-#[derive(Drop)]
+#[derive(Clone, Copy)]
 pub enum Keep {
     Sizes,
     Pasts,
 }
 
 // What an instruction does to the class of the list that it begins.
-#[derive(Drop)]
+#[derive(Clone, Copy)]
 enum Kind {
     Neutral,
     // return, call, unless-false with two closed arms
@@ -53,7 +53,7 @@ enum Kind {
 }
 
 // What one instruction adds to the facts of its list.
-#[derive(Drop)]
+#[derive(Clone, Copy)]
 struct Added {
     pub kind: Kind,
     pub size: usize,
@@ -63,7 +63,7 @@ struct Added {
 }
 
 // What reading one instruction finds: the list's end, an instruction, or a refusal.
-#[derive(Drop)]
+#[derive(Clone, Copy)]
 enum Item {
     End(BitPlace),
     More(BitPlace, Added),
@@ -71,7 +71,7 @@ enum Item {
 }
 
 // The class that a whole list has, by the class of what is left of it: empty, open, closed (else it is neither).
-#[derive(Drop)]
+#[derive(Clone, Copy)]
 struct Classes {
     pub empty: u8,
     pub opened: u8,
@@ -80,7 +80,7 @@ struct Classes {
 
 // What is known of a list up to a place in it. `tail` counts the flat bytes since its first make-cont, once that was `seen`: the rest
 // of the first is the longest of all.
-#[derive(Drop)]
+#[derive(Clone, Copy)]
 struct State {
     pub classes: Classes,
     pub size: usize,
@@ -92,7 +92,7 @@ struct State {
 }
 
 // A run of neutral instructions: the place past it, how many flat bytes it has, whether its indices suit its codes.
-#[derive(Drop)]
+#[derive(Clone, Copy)]
 struct Run {
     pub past: BitPlace,
     pub size: usize,

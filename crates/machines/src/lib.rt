@@ -9,7 +9,7 @@ use cells::{BitPlace, BytePlace, Value};
 use rules::Plain;
 
 // How a run ends.
-#[derive(Drop)]
+#[derive(Clone, Copy)]
 pub enum End {
     Halted(Value),
     Wrong(u8),
@@ -19,7 +19,7 @@ pub enum End {
 }
 
 // What a run returns: its end, its steps, and how many cells of stack, store and frames are in use.
-#[derive(Drop)]
+#[derive(Clone, Copy)]
 pub struct Run {
     pub end: End,
     pub steps: u64,
@@ -29,7 +29,7 @@ pub struct Run {
 }
 
 // What is refused before a run looks at its file: nothing, or a number and a place.
-#[derive(Drop)]
+#[derive(Clone, Copy)]
 pub enum Start {
     Go,
     Refused(u8, usize),
@@ -105,14 +105,14 @@ pub fn clear_all(stack: &mut [u64], store: &mut [u64], frames: &mut [u64])
 }
 
 // A code place: a bit number in a tree file, or a byte number within its template's code in a linear file.
-#[derive(Drop)]
+#[derive(Clone, Copy)]
 pub enum CodePlace {
     Tree(BitPlace),
     Linear(BytePlace),
 }
 
 // What stands at a code place. The places in it are where to go on; of a make-cont the saved place, and then the rest's.
-#[derive(Drop)]
+#[derive(Clone, Copy)]
 pub enum Instruction {
     // a neutral code and two operands, of which it may have fewer
     Neutral(u8, u8, u8, CodePlace),
@@ -126,14 +126,14 @@ pub enum Instruction {
 }
 
 // A neutral code with its operands and its entry resolved; or an unfit entry, or no neutral code.
-#[derive(Drop)]
+#[derive(Clone, Copy)]
 pub enum Resolved {
     Fit(Plain),
     Unfit,
 }
 
 // What a slot holds under a tag.
-#[derive(Drop)]
+#[derive(Clone, Copy)]
 enum Marked {
     Number(u8),
     Other,

@@ -2,7 +2,7 @@
 ghost use Rattle.std.specs.Prelude.{◌≡◌};
 ghost use Rattle.owners.specs.Owners.{may_read, may_set, is_owner, owner_of};
 
-#[derive(Drop)]
+#[derive(Clone, Copy)]
 pub enum Owner {
     House,
     Vendor,

@@ -15,7 +15,7 @@ use linear::{Checked, LinearFile};
 use machines::{End, Run};
 
 // What a clip's line tells of its run: the end, and the cells of globals 6 and 7.
-#[derive(Drop)]
+#[derive(Clone, Copy)]
 struct Found {
     end: End,
     six: u64,

@@ -16,7 +16,7 @@ use owners::Owner;
 use runs::copy_down;
 
 // The value, the environment, and how many cells of the stack and of the store are in use.
-#[derive(Drop)]
+#[derive(Clone, Copy)]
 pub struct Regs {
     pub v: u64,
     pub env: u16,
@@ -25,14 +25,14 @@ pub struct Regs {
 }
 
 // How a rule ends: on with these registers, or wrong with its number and nothing changed.
-#[derive(Drop)]
+#[derive(Clone, Copy)]
 pub enum Stepped {
     Next(Regs),
     Wrong(u8),
 }
 
 // The instructions that neither look at the frames nor go elsewhere, their entries resolved.
-#[derive(Drop)]
+#[derive(Clone, Copy)]
 pub enum Plain {
     Literal(u64),
     Closure(u8),
@@ -55,21 +55,21 @@ pub enum Plain {
 }
 
 // How a call ends: on with a template's code and these registers, or wrong with its number and nothing changed.
-#[derive(Drop)]
+#[derive(Clone, Copy)]
 pub enum Called {
     To(u8, Regs),
     Wrong(u8),
 }
 
 // The location of a local, or wrong with its number.
-#[derive(Drop)]
+#[derive(Clone, Copy)]
 enum Found {
     Cell(usize),
     Beyond(u8),
 }
 
 // The bits of two integers, the left one below the top; or wrong with its number.
-#[derive(Drop)]
+#[derive(Clone, Copy)]
 enum Operands {
     Two(u64, u64),
     Wrong(u8),

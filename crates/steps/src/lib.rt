@@ -18,7 +18,7 @@ use owners::Owner;
 use rules::{Called, Plain, Regs, Stepped};
 
 // Where a run is: the template, the place in its code; and how many frame cells are in use.
-#[derive(Drop)]
+#[derive(Clone, Copy)]
 pub struct Control {
     pub template: u8,
     pub place: CodePlace,
@@ -26,7 +26,7 @@ pub struct Control {
 }
 
 // How a step ends: on, or with nothing changed.
-#[derive(Drop)]
+#[derive(Clone, Copy)]
 pub enum OneStep {
     Next(Regs, Control),
     Halted,

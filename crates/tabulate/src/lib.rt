@@ -26,7 +26,7 @@ use files::Outcome;
 
 // What stands at a place of a template's own list: a code that is written as it is, up to a place; a code that carries an entry, as a slot; closure, whose
 // list begins at a place.
-#[derive(Drop)]
+#[derive(Clone, Copy)]
 enum Step {
     Copy(BitPlace),
     Entry(u32, u64, BitPlace),
@@ -35,7 +35,7 @@ enum Step {
 }
 
 // Where the list of the next closure begins.
-#[derive(Drop)]
+#[derive(Clone, Copy)]
 enum Next {
     Nothing,
     List(BitPlace),
@@ -114,7 +114,7 @@ fn add(table: &mut [u64], count: usize, slot: u64) -> usize
 // ---- one template: its number is below n, which is the next one's
 
 // What collecting a template's entries finds: more than 255, or how many there are and how many bits its own list has with indices.
-#[derive(Drop)]
+#[derive(Clone, Copy)]
 enum Collected {
     Many,
     Entries(usize, usize),
@@ -194,14 +194,14 @@ fn entries_bits(table: &[u64], count: usize) -> usize
 // ---- all templates, in the order of their numbers
 
 // What judging all lists finds: how many templates there are, or the lowest whose list is not closed.
-#[derive(Drop)]
+#[derive(Clone, Copy)]
 enum Closed {
     All(usize),
     But(usize),
 }
 
 // What measuring all templates finds: that one has too many entries, or how many bits they have.
-#[derive(Drop)]
+#[derive(Clone, Copy)]
 enum Measured {
     Large,
     Bits(usize),
@@ -276,7 +276,7 @@ fn measure(s: &[u8], end: BitPlace, table: &mut [u64]) -> Measured
 }
 
 // What checking a basic file finds: the place past its list, how many templates it has and how many bits their file, or a refusal's number and place.
-#[derive(Drop)]
+#[derive(Clone, Copy)]
 pub enum CheckedFile {
     Accepted(BitPlace, usize, usize),
     Refused(u8, usize),

@@ -18,7 +18,7 @@ use lists::{Facts, Keep, Listed};
 
 // What is to be known of a template: whether its list is closed, its instructions name fit indices, its offsets fit; how many bytes it
 // takes in the linear file; and which templates its closures name (bit t, from the lowest, for template t).
-#[derive(Drop)]
+#[derive(Clone, Copy)]
 pub struct Report {
     pub closed: bool,
     pub named: bool,
@@ -28,7 +28,7 @@ pub struct Report {
 }
 
 // What reading a template finds: the place past it and its report, or a refusal's number and place.
-#[derive(Drop)]
+#[derive(Clone, Copy)]
 pub enum TemplateRead {
     Done(BitPlace, Report),
     Refused(u8, BitPlace),
@@ -36,7 +36,7 @@ pub enum TemplateRead {
 
 // T; the lowest template whose list is not closed, whose instructions name unfit indices, that has an offset too large (64: none); the
 // bytes of the linear file; which templates closures name.
-#[derive(Drop)]
+#[derive(Clone, Copy)]
 pub struct Summary {
     pub count: u8,
     pub unclosed: u8,
@@ -47,28 +47,28 @@ pub struct Summary {
 }
 
 // What reading the templates finds: the place past them and their summary, or a refusal's number and place.
-#[derive(Drop)]
+#[derive(Clone, Copy)]
 pub enum TemplatesRead {
     Done(BitPlace, Summary),
     Refused(u8, BitPlace),
 }
 
 // What reading a tree file finds: its summary, or a refusal's number and place.
-#[derive(Drop)]
+#[derive(Clone, Copy)]
 pub enum TreeFile {
     Read(Summary),
     Refused(u8, BitPlace),
 }
 
 // A file that was judged: the summary of one that is accepted, or a refusal's number and place.
-#[derive(Drop)]
+#[derive(Clone, Copy)]
 pub enum Judged {
     Accepted(Summary),
     Refused(u8, usize),
 }
 
 // What the tree machine says of a file before it runs it: a refusal has its number and place.
-#[derive(Drop)]
+#[derive(Clone, Copy)]
 pub enum Checked {
     Accepted,
     Refused(u8, usize),

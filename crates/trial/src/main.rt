@@ -6,7 +6,7 @@ ghost use Rattle.trial.specs.Input.{Within};
 use files::Outcome;
 use libc::{STDIN_FILENO, STDOUT_FILENO};
 
-#[derive(Drop)]
+#[derive(Clone, Copy)]
 enum Input {
     Bytes(usize),
     Unread,

@@ -24,14 +24,14 @@ use lists::{Keep, Listed};
 use tree::Judged;
 
 // What trimming answers: the lengths of the file and of the list, or a refusal's number and place.
-#[derive(Drop)]
+#[derive(Clone, Copy)]
 pub enum Trimmed {
     Written(usize, usize),
     Refused(u8, usize),
 }
 
 // A template's list: where it begins and ends, and which templates its closures name (bit t, from the lowest, for template t).
-#[derive(Drop)]
+#[derive(Clone, Copy)]
 pub struct Span {
     pub start: BitPlace,
     pub past: BitPlace,
@@ -39,7 +39,7 @@ pub struct Span {
 }
 
 // Where writing goes on: in the file, in the list, and in the file that is read.
-#[derive(Drop)]
+#[derive(Clone, Copy)]
 pub struct Places {
     pub file: BitPlace,
     pub list: usize,

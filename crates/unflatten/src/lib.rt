@@ -24,7 +24,7 @@ use files::{Entries, Outcome};
 use linear::Checked;
 
 // The arms of a conditional: whether they are closed, where the first ends, where the second begins and ends.
-#[derive(Drop)]
+#[derive(Clone, Copy)]
 pub struct Arms {
     pub closed: bool,
     pub mid: usize,
@@ -33,7 +33,7 @@ pub struct Arms {
 }
 
 // What a region begins with.
-#[derive(Drop)]
+#[derive(Clone, Copy)]
 pub enum Head {
     // with no list's first instruction
     Nothing,
@@ -46,7 +46,7 @@ pub enum Head {
 }
 
 // The region of what is left of a list, and whether that is to be closed (else it is open or empty).
-#[derive(Drop)]
+#[derive(Clone, Copy)]
 pub struct Left {
     pub from: usize,
     pub to: usize,
@@ -54,28 +54,28 @@ pub struct Left {
 }
 
 // What putting a list finds: none, or the place past it.
-#[derive(Drop)]
+#[derive(Clone, Copy)]
 pub enum Found {
     Nothing,
     Past(BitPlace),
 }
 
 // What putting an instruction finds: none, or what is left of its list and the place past it.
-#[derive(Drop)]
+#[derive(Clone, Copy)]
 pub enum Item {
     Nothing,
     More(Left, BitPlace),
 }
 
 // What putting a template finds: no list, or the byte past its code and the place past it in the tree.
-#[derive(Drop)]
+#[derive(Clone, Copy)]
 pub enum Grown {
     Stuck,
     On(usize, BitPlace),
 }
 
 // What putting all templates finds: the lowest that has no list, or the place past the last.
-#[derive(Drop)]
+#[derive(Clone, Copy)]
 pub enum Sized {
     Stuck(usize),
     Past(BitPlace),
