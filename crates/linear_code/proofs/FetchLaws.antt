@@ -5,7 +5,7 @@ use mathlib.Core.List.{List, [], ◌∷◌}
 use native.Mathlib.Omega.{arith}
 use native.Mathlib.Nat.{add-zero, sub-zero, zero-sub, suc-sub-suc}
 use lib.ListN.{length, get_or, take, drop, length-take, length-drop, drop_of_length-le, get_or-eq_default}
-use lib.Seq.{take-nil, drop_cons, drop-drop, get_or-take, get_or-drop}
+use lib.Seq.{take-nil, drop-cons, drop-drop, get_or-take, get_or-drop}
 use borrow.Author.Tests.{lt-ltb, le-ltb, le-leb, lt-leb, ne_eqb}
 use mathlib.Core.Bool.{true, false}
 use Rattle.cells.specs.laws.Laws.{clash}
@@ -109,7 +109,7 @@ module _ (s table : List ℕ) (t start len q : ℕ) (k : Within s start len) whe
   from_there h =
       let e₁ : start + suc q ≡ start + q + 1 = omega arith in
       let e₂ : len - suc q ≡ len - q - 1 = omega arith in
-      drop_cons (part s start len) q 0 (rw (part_length s start len k.inside) h)
+      drop-cons (part s start len) q 0 (rw (part_length s start len k.inside) h)
       ∙ rw (part_at s start len k.inside q h, drop_take (suc q) len (drop start s), drop-drop (suc q) start s, e₁, e₂)
 
   -- the bytes after the code at q

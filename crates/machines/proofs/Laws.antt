@@ -7,7 +7,7 @@ use mathlib.Core.Option.{Option, none, some}
 use native.Mathlib.Omega.{arith}
 use native.Mathlib.Numerals.{add-one}
 use lib.ListN.{length, get_or, drop, length-replicate, drop_of_length-le}
-use lib.Seq.{sets-eq, drop_cons}
+use lib.Seq.{sets-eq, drop-cons}
 use Rattle.cells.specs.Cells.{starting_global}
 use Rattle.runs.specs.Runs.{zeroed}
 use Rattle.machines.specs.Runs.{lowest_unfit}
@@ -17,11 +17,11 @@ use Rattle.machines.specs.Start.{zeros}
 module _ {goal : Option ℕ} (g : List ℕ) (i : ℕ) (h : lowest_unfit i (drop i g) ≡ goal) where
   pub unfit_here : (b : Bool) → i < length g → b ≡ starting_global (get_or g i 0) → b ≡ false → some i ≡ goal
   unfolding lowest_unfit
-  unfit_here b l e k = rw (sym e ∙ k) at (rw (drop_cons g i 0 l) at h)
+  unfit_here b l e k = rw (sym e ∙ k) at (rw (drop-cons g i 0 l) at h)
 
   pub unfit_later : (b : Bool) → i < length g → b ≡ starting_global (get_or g i 0) → b ≡ true → lowest_unfit (i + 1) (drop (i + 1) g) ≡ goal
   unfolding lowest_unfit
-  unfit_later b l e k = ap (λ (n : ℕ). lowest_unfit (i + 1) (drop n g)) (add-one i) ∙ rw (sym e ∙ k) at (rw (drop_cons g i 0 l) at h)
+  unfit_later b l e k = ap (λ (n : ℕ). lowest_unfit (i + 1) (drop n g)) (add-one i) ∙ rw (sym e ∙ k) at (rw (drop-cons g i 0 l) at h)
 
   pub unfit_nowhere : length g ≤ i → none ≡ goal
   unfolding lowest_unfit

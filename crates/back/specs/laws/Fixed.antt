@@ -3,12 +3,12 @@ use Prim.Native.Nat.{ℕ, zero, suc, ◌+◌, ◌*◌, ◌/◌, ◌%◌, ◌^◌
 use native.Mathlib.Omega.{arith}
 use Rattle.std.specs.Prelude.{◌≡◌, refl, ◌&&◌, drop, leb, eqb}
 use Rattle.std.proofs.Math.Path.{sym, ap}
-use Rattle.std.proofs.Common.{◌∙◌, take-append-drop, drop_cons, drop-drop, take-add}
+use Rattle.std.proofs.Common.{◌∙◌, take-append-drop, drop-cons, drop-drop, take-add}
 use Rattle.std.proofs.Math.Bool.{and-eq-true_iff}
 use mathlib.Core.List.{List, [], ◌∷◌, ◌++◌}
 use borrow.Author.Tests.{eqb-true, leb-true}
 use Rattle.std.proofs.Math.ListN.{length, get_or, take, length-append, length-drop}
-use Rattle.std.proofs.Math.Seq.{length-take-le, take_length}
+use Rattle.std.proofs.Math.Seq.{length-take-le, take-length}
 use Rattle.fields.specs.Field.{bit_at}
 use Rattle.files.specs.Reading.{got}
 use Rattle.files.specs.Entries.{Entry, field, entries_at, to_byte, zero_bits, nothing_more}
@@ -54,7 +54,7 @@ module _ {z : List ℕ} where
       record { pre = take k z; post = drop (k + length m) z; is = sym (take-append-drop k z) ∙ ap (take k z ++◌) e; at = length-take-le k z (omega arith) }
 
   slice_one : (k : ℕ) → k < length z → Slice z k (get_or z k 0 ∷ [])
-  slice_one k h = record { is = rw (drop_cons z k 0 h); fits = omega arith }
+  slice_one k h = record { is = rw (drop-cons z k 0 h); fits = omega arith }
 
   module _ (small : Bytes z) where
     -- a byte, and a length in three bytes
@@ -204,4 +204,4 @@ linear_fixed z {ls} {q} small e =
     let n : length (T ∷ linears_bytes ms) ≡ length z = omega (arith, b.2, eqb-true r (8 * length z) d.0) in
     let m : length ms ≡ T = b.0 in
     let some : 1 ≤ T = leb-true 1 T h.0 in
-    rw (← same) (record { at_least_one = omega arith; at_most_64 = omega arith; bytes = rw m (sym s.is ∙ rw n (take_length z)); entries = rw m b.3 })))
+    rw (← same) (record { at_least_one = omega arith; at_most_64 = omega arith; bytes = rw m (sym s.is ∙ rw n (take-length z)); entries = rw m b.3 })))

@@ -2,7 +2,7 @@
 -- or empty. Assumes nothing.
 use Rattle.std.specs.Prelude.{ℕ, ◌≡◌, refl, Bool, true, false, ◌&&◌, ◌||◌, List, ◌⊎◌}
 use Rattle.std.proofs.Common.{arith, inl, inr, ⊎_elim}
-use Rattle.std.proofs.Math.Bool.{and-eq-true_iff, and_true}
+use Rattle.std.proofs.Math.Bool.{and-eq-true_iff, and-true}
 use Rattle.files.specs.Code.{Code, done, neutral, return, call, unless_false_lem, make_cont_lem}
 use Rattle.files.specs.Grammar.{is_empty, is_open, is_closed}
 use Rattle.files.specs.laws.GrammarLaws.{never, empty_done}
@@ -51,7 +51,7 @@ mutual
   closed_is (open_arms_lem {k = k} {x = x} {y = y} {r = r} g h e f i) =
       rw (other (is_empty x) (is_open x) e (loose_is g), other (is_empty y) (is_open y) f (loose_is h), closed_is i, closed_is g)
       (none_left k (is_empty r) (is_closed y))
-  closed_is (saving {k = k} g r) = rw (closed_is g, closed_is r) (and_true k)
+  closed_is (saving {k = k} g r) = rw (closed_is g, closed_is r) (and-true k)
 
   pub loose_is : {k : Bool} {c : Code} → Formed k c → (k || (is_empty c || is_open c)) ≡ true
   loose_is nothing = refl
@@ -61,7 +61,7 @@ mutual
   loose_is (closed_arms_lem g h) = refl
   loose_is (open_arms_lem {x = x} {y = y} g h e f i) =
       rw (other (is_empty x) (is_open x) e (loose_is g), other (is_empty y) (is_open y) f (loose_is h)) (loose_is i)
-  loose_is (saving {x = x} g r) = rw (closed_is r, and_true (is_empty x || is_open x)) (loose_is g)
+  loose_is (saving {x = x} g r) = rw (closed_is r, and-true (is_empty x || is_open x)) (loose_is g)
 
 pub open_is : {c : Code} → Formed false c → is_empty c ≡ false → is_open c ≡ true
 open_is {c} g e = other (is_empty c) (is_open c) e (loose_is g)

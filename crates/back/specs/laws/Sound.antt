@@ -6,7 +6,7 @@ use Rattle.std.proofs.Math.Path.{refl}
 use Rattle.std.proofs.Math.Bool.{true, false}
 use mathlib.Core.List.{List, [], ◌∷◌, ◌++◌, append_assoc, append-nil}
 use Rattle.std.proofs.Math.Option.{Option, none, some}
-use borrow.Author.Tests.{leb-true, not_true}
+use borrow.Author.Tests.{leb-true, not-true}
 use Rattle.std.proofs.Math.ListN.{length, take-append-drop}
 use Rattle.std.proofs.Math.Seq.{length-take-le}
 use Rattle.files.specs.Codes.{is_neutral, operands}
@@ -174,5 +174,5 @@ unflat_sound zero l k w c o e = no_some e
 unflat_sound (suc f) l k [] c o e =
     let t = test_led (not k) _ e in
     let z : done ≡ c = cc in
-    rw (← z, not_true k t.0) (record { is = refl; good = ended })
+    rw (← z, not-true k t.0) (record { is = refl; good = ended })
 unflat_sound (suc f) l k (op ∷ w) c o e = first_sound (unflat f) (unflat_sound f) (is_neutral op) op w refl o.1 e

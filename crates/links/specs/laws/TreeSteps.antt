@@ -2,7 +2,7 @@
 use Rattle.std.specs.Prelude.{ℕ, zero, suc, ◌+◌, ◌*◌, ◌≤◌, ◌<◌, ◌≡◌, List, [], ◌∷◌, length}
 use Rattle.std.proofs.Math.Numerals.{add-one}
 use Rattle.std.proofs.Math.Nat.{add-zero}
-use Rattle.std.proofs.Common.{arith, sym, ap, ◌∙◌, drop_cons}
+use Rattle.std.proofs.Common.{arith, sym, ap, ◌∙◌, drop-cons}
 use Rattle.std.proofs.Math.Path.{refl}
 use Rattle.std.proofs.Math.ListN.{get_or}
 use Rattle.std.proofs.Math.Seq.{drop-length}
@@ -88,7 +88,7 @@ module _ {s table : List ℕ} {count : ℕ} (r : FileReady s table count) where
         → linked_from L own (tree_read s) ≡ linked_from (linked_got L (get_or table (256 * own) 0) 0 0 (list_at s 15 (get_or table (256 * own) 0))) (own + 1)
         (tree_read s)
     unfolding linked_from linked_all linked_got template
-    template_linked L = rw (list_is, r.read, slot_start, add-one own) (ap (linked_all L) (drop_cons r.templates own none within))
+    template_linked L = rw (list_is, r.read, slot_start, add-one own) (ap (linked_all L) (drop-cons r.templates own none within))
 
 pub linked_on : {goal A L : List ℕ} (n : ℕ) (g : Got (List Template)) → goal ≡ linked_from A n g → L ≡ A → goal ≡ linked_from L n g
 linked_on n g h k = rw k h

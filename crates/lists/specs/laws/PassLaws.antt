@@ -4,7 +4,7 @@ use Rattle.std.proofs.Common.{add-zero, ap, ◌∙◌, le-leb, leb-true}
 use Rattle.std.proofs.Math.Nat.{zero-add, add_assoc}
 use native.Mathlib.Omega.{arith}
 use Rattle.std.proofs.Math.Path.{refl, sym}
-use Rattle.std.proofs.Math.Bool.{true, false, and_true, and-false, or_false, and_assoc}
+use Rattle.std.proofs.Math.Bool.{true, false, and-true, and-false, or-false, and_assoc}
 use Rattle.std.proofs.Math.ListN.{length, length-append}
 use Rattle.files.specs.Code.{Code, done, neutral, return, call, unless_false_lem, make_cont_lem, Instr, neutral_i, return_i, call_i, unless_i, cont_i, put}
 use Rattle.files.specs.Reading.{Got, got, refused}
@@ -72,8 +72,8 @@ sorted_neutral : {e o k : Bool} → Sorted e o k → Sorted false (e || o) k
 sorted_neutral r = four (λ e o k. Sorted false (e || o) k) opened opened closed neither r
 
 sorted_conditional : {bo bk e o k : Bool} → Arms bo bk → Sorted e o k → Sorted false (bo && (e || o)) ((bo && k) || (e && bk))
-sorted_conditional {e = e} {k = k} both_open r = rw (and-false e, or_false k) (sorted_neutral r)
-sorted_conditional {e = e} both_closed r = rw (and_true e) (at_most_closed e)
+sorted_conditional {e = e} {k = k} both_open r = rw (and-false e, or-false k) (sorted_neutral r)
+sorted_conditional {e = e} both_closed r = rw (and-true e) (at_most_closed e)
 sorted_conditional {e = e} unlike r = rw (and-false e) neither
 
 sorted_save : {e o k : Bool} → Sorted e o k → (b : Bool) → Sorted false ((e || o) && b) (k && b)
@@ -131,8 +131,8 @@ module _ (c : Classes) {e o k : Bool} (r : Sorted e o k) where
   conditional_class : {bo bk : Bool} → Arms bo bk
       → under (classes_after (cond bo Neutral (cond bk Ending Neither)) c) (class_by e o k) ≡ under c (class_by false (bo && (e || o)) ((bo && k) || (e && bk)))
   unfolding under
-  conditional_class both_open = rw (and-false e, or_false k) neutral_class
-  conditional_class both_closed = rw (and_true e) ending_class
+  conditional_class both_open = rw (and-false e, or-false k) neutral_class
+  conditional_class both_closed = rw (and-true e) ending_class
   conditional_class unlike = rw (and-false e) neither_class
 
   saves_open_class : under (classes_after SavesOpen c) (class_by e o k) ≡ under c (class_by false k false)
@@ -259,7 +259,7 @@ Fit c st st' =
 
 fit_done : (st : State) → Fit done st st
 unfolding flat offsets_fit
-fit_done st = (λ e. rw (add-zero st.tail, and_true (st.fits && fits_offset st.tail)) refl, λ e z. rw z refl)
+fit_done st = (λ e. rw (add-zero st.tail, and-true (st.fits && fits_offset st.tail)) refl, λ e z. rw z refl)
 
 -- one instruction more: c' is c after an instruction that adds o
 module _ (o : Added) (c c' : Code) (st st' : State) (size : length (flat c') ≡ o.size + length (flat c))
@@ -306,7 +306,7 @@ module _ (table : List ℕ) (own : ℕ) where
   run_named : (c : Code) (st : State) → (run table own c st).named ≡ (st.named && slots_fit table own c)
   unfolding state_after slots_fit each_neutral
   run_named =
-      by_run (λ c st st'. st'.named ≡ (st.named && slots_fit table own c)) (λ st. sym (and_true st.named))
+      by_run (λ c st st'. st'.named ≡ (st.named && slots_fit table own c)) (λ st. sym (and-true st.named))
       (λ i c st st' h. h ∙ and_assoc st.named _ _ ∙ rw (put_named table own i c) refl)
 
   run_closes : (c : Code) (st : State) → (run table own c st).closes ≡ unite st.closes (slots_close table own c)

@@ -2,7 +2,7 @@
 use Rattle.std.specs.Prelude.{ℕ, ◌+◌, ◌*◌, ◌-◌, ◌/◌, ◌%◌, ◌^◌, ◌≤◌, ◌<◌, ◌≡◌, Bool, true, false, cond, ◌&&◌, ◌||◌, List, length, eqb}
 use Rattle.std.proofs.Common.{add-zero, add_assoc, arith, sym, ap, ◌∙◌, shr-shr}
 use Rattle.std.proofs.Math.Path.{refl}
-use Rattle.std.proofs.Math.Bool.{and_true, or_false, and_assoc}
+use Rattle.std.proofs.Math.Bool.{and-true, or-false, and_assoc}
 use borrow.Author.Tests.{eqb-true, eqb-false, ne_eqb, le-ltb}
 use Rattle.std.proofs.lemmas.Nat.{shl-shr}
 use Rattle.std.proofs.Math.Pow.{field}
@@ -35,7 +35,7 @@ tail_none false t = refl
 
 run_none : (st : State) → run_after st 0 true ≡ st
 unfolding run_after
-run_none st = rw (add-zero st.size, tail_none st.seen st.tail, and_true st.named) refl
+run_none st = rw (add-zero st.size, tail_none st.seen st.tail, and-true st.named) refl
 
 run_more : (st : State) (n : ℕ) (b : Bool) (o : Added) → Plain o → state_after (run_after st n b) o ≡ run_after st (n + o.size) (b && o.named)
 unfolding state_after run_after Plain classes_after is_save
@@ -47,10 +47,10 @@ run_more st n b o h =
       h.2,
       ne_eqb (n + o.size) 0 z,
       add_assoc st.size n o.size,
-      or_false st.seen,
+      or-false st.seen,
       tail_more st.seen st.tail n o.size,
       and_assoc st.named b o.named,
-      and_true st.fits,
+      and-true st.fits,
       unite_zero st.closes,
     ) refl
 

@@ -1,6 +1,6 @@
 -- Lists of bits: those of a number, those of a file from a place on, and the bytes that they are. Assumes nothing.
 use Rattle.std.specs.Prelude.{ℕ, zero, suc, ◌+◌, ◌*◌, ◌-◌, ◌/◌, ◌%◌, ◌^◌, ◌≤◌, ◌<◌, ◌≡◌, refl, Bool, true, false, List, [], ◌∷◌, ◌++◌, length, get_or, take, drop, leb}
-use Rattle.std.proofs.Common.{add-zero, add_comm, suc-add, mul_assoc, mul_comm, pow-suc, arith, sym, ap, ◌∙◌, append-nil, leb-true, leb-false, length-append, get_or-append-add, get_or-drop, drop_cons, ext_get_or, pow-add, pow_pos}
+use Rattle.std.proofs.Common.{add-zero, add_comm, suc-add, mul_assoc, mul_comm, pow-suc, arith, sym, ap, ◌∙◌, append-nil, leb-true, leb-false, length-append, get_or-append-add, get_or-drop, drop-cons, ext_get_or, pow-add, pow_pos}
 use Rattle.std.proofs.Math.Nat.{mul-add-div_right, div-div-eq-div-mul}
 use Rattle.std.proofs.Math.ListN.{get_or-append, get_or-eq_default}
 use Rattle.std.proofs.Math.Pow.{high}
@@ -169,4 +169,4 @@ bytes_slice z small (suc n) k b h e =
     ∙ byte_is x [] (small k) in
     let rest : bytes_from n (drop 8 b) ≡ take n (drop (suc k) z) =
     bytes_slice z small n (suc k) (drop 8 b) (omega arith) (λ i lt. get_or-drop 8 b i 0 ∙ e (8 + i) (omega arith) ∙ ap (bit_at z) (omega arith)) in
-    rw (first, rest, drop_cons z k 0 (omega arith))
+    rw (first, rest, drop-cons z k 0 (omega arith))

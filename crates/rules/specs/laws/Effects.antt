@@ -5,7 +5,7 @@ use Rattle.std.proofs.Math.Option.{Option, none, some}
 use Rattle.std.proofs.Common.{inl, inr, arith, ltb-true, leb-true, eqb-true}
 use Rattle.std.specs.Int.Signed.{lt_z}
 use Rattle.std.proofs.lemmas.List.Edits.{sets}
-use Rattle.std.proofs.lemmas.Bool.{eqb-false, not_true}
+use Rattle.std.proofs.lemmas.Bool.{eqb-false, not-true}
 use Rattle.runs.specs.Runs.{zeroed}
 use Rattle.cells.specs.Cells.{full, tag_of, true_cell, false_cell, unspecified_cell, undefined_cell, int_cell, closure_cell, pair_cell, pair_first, pair_second}
 use Rattle.cells.specs.Cells.{layer_cell, ValueCell, cell_of, Fits}
@@ -106,7 +106,7 @@ module _ (m : Mem) (r : Regs) (P : Held → Type 0) where
   effect (Literal c) f = f.valued c (from_literal refl)
   effect (Closure t) f = checked P (leb (r.st + 1) 2048) 18 _ (λ k. f.closed t refl (leb-true _ 2048 k))
   effect (Global g) f =
-      checked P (not (eqb (get_or m.globals g 0) undefined_cell)) 12 _ (λ k. f.valued _ (from_global g refl (eqb-false _ undefined_cell (not_true _ k)) refl))
+      checked P (not (eqb (get_or m.globals g 0) undefined_cell)) 12 _ (λ k. f.valued _ (from_global g refl (eqb-false _ undefined_cell (not-true _ k)) refl))
   effect (SetGlobal g) f = f.global_set g
   effect (Local a b) f =
       located P (walk m.store r.env a b) _

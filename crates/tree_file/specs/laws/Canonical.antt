@@ -1,7 +1,7 @@
 -- A tree file that is read is the tree file of its templates: reading loses nothing. Assumes nothing.
 use Rattle.std.specs.Prelude.{ℕ, ◌+◌, ◌*◌, ◌/◌, ◌≤◌, ◌<◌, ◌≡◌, refl, ◌&&◌, List, ◌++◌, length, get_or, leb}
 use Rattle.std.proofs.Common.{zero-add, arith, sym, ap, ◌∙◌, length-append}
-use Rattle.std.proofs.Math.Seq.{take_length}
+use Rattle.std.proofs.Math.Seq.{take-length}
 use Rattle.fields.specs.Field.{bit_at}
 use Rattle.files.specs.Reading.{got}
 use Rattle.files.specs.Entries.{field}
@@ -58,7 +58,7 @@ tree_canonical s ts q bytes e =
     let l : length (bytes_of b) ≡ length s = bytes_length b ∙ k.whole in
     rw k.whole
     (bytes_slice s bytes (length s) 0 b (omega arith)
-    (λ i lt. padded b (8 * length s) k.here (λ j m n. ap (bit_at s) (zero-add j) ∙ k.rest j m n) i lt) ∙ take_length s)
+    (λ i lt. padded b (8 * length s) k.here (λ j m n. ap (bit_at s) (zero-add j) ∙ k.rest j m n) i lt) ∙ take-length s)
 
 -- two files that are read as the same templates are the same
 pub tree_read_once : (s s' : List ℕ) (ts : List Template) (q q' : ℕ) → ((i : ℕ) → get_or s i 0 < 256) → ((i : ℕ) → get_or s' i 0 < 256)

@@ -1,0 +1,19 @@
+-- `basic_machine::arms_parts` meets its contract. Assumes nothing.
+use mathlib.Core.Path.{refl, sym, ◌∙◌}
+use Rattle.basic.specs.laws.StepLaws.{list_is, list_refused}
+use Rattle.basic_machine.specs.laws.PassLaws.{arms_parted, none_first, none_second}
+use borrow.Author.Rules.{rules}
+use Rattle.basic_machine.proofs.arms_parts.Goals as goal
+
+pub returns-in-Done-read_list : goal.returns-in-Done-read_list
+returns-in-Done-read_list c =
+    λ p d e h. arms_parted _ p d h _ _ _ _ _ (list_is _ _ _ _ _ (sym c.in-Done.is ∙ c.read_list.ensures))
+    (list_is _ _ _ _ _ (sym c.in-Done-read_list.is ∙ c.read_list-in-Done.ensures)) e
+
+pub returns-in-Refused-read_list : goal.returns-in-Refused-read_list
+returns-in-Refused-read_list c =
+    λ p d e h. none_second _ p d h _ _ _ (list_is _ _ _ _ _ (sym c.in-Done.is ∙ c.read_list.ensures))
+    (list_refused _ _ _ _ _ (sym c.in-Refused-read_list.is ∙ c.read_list-in-Done.ensures)) e
+
+pub returns-in-Refused : goal.returns-in-Refused
+returns-in-Refused c = λ p d e h. none_first _ p d h _ (list_refused _ _ _ _ _ (sym c.in-Refused.is ∙ c.read_list.ensures)) e

@@ -1,0 +1,12 @@
+-- `basic_machine::saved_parts` meets its contract. Assumes nothing.
+use mathlib.Core.Path.{refl, sym, ◌∙◌}
+use Rattle.basic.specs.laws.StepLaws.{list_is, list_refused}
+use Rattle.basic_machine.specs.laws.PassLaws.{saved_parted, none_saved}
+use borrow.Author.Rules.{rules}
+use Rattle.basic_machine.proofs.saved_parts.Goals as goal
+
+pub returns-in-Done : goal.returns-in-Done
+returns-in-Done c = λ p n d e h. saved_parted _ p d h _ n _ _ (list_is _ _ _ _ _ (sym c.in-Done.is ∙ c.read_list.ensures)) e
+
+pub returns-in-Refused : goal.returns-in-Refused
+returns-in-Refused c = λ p n d e h. none_saved _ p d h _ (list_refused _ _ _ _ _ (sym c.in-Refused.is ∙ c.read_list.ensures)) e

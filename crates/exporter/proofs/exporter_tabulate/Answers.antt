@@ -1,0 +1,15 @@
+-- `exporter::exporter_tabulate` meets its contract: nothing is done without room for two slots; else the contract of `tabulate`. Assumes nothing.
+use borrow.Author.Rules.{rules}
+use borrow.Author.Tests.{le-leb, lt-leb}
+use Rattle.exporter.specs.Exporter.{outcome_output, outcome_result}
+use Rattle.exporter.proofs.exporter_tabulate.Goals as goal
+
+pub returns-then-res-lt2 : goal.returns-then-res-lt2
+unfolding outcome_output outcome_result
+returns-then-res-lt2 c = let h = lt-leb 2 _ c.if-res-lt2.true in record { out_after = rw h; res_after = rw h }
+
+pub returns : goal.returns
+unfolding outcome_output outcome_result
+returns c =
+    let h = le-leb 2 _ c.if-res-lt2.false in
+    record { out_after = rw h c.tabulate-answer.ensures.out_after; res_after = rw (h, ← c.tabulate-answer.ensures.value) c.put_outcome.ensures }

@@ -1,0 +1,12 @@
+-- `fields::word_at` meets its contract: the two half words are the field's two parts. Assumes nothing.
+use mathlib.Core.Path.{ap, ◌∙◌}
+use Prim.Native.Nat.{ℕ}
+use Rattle.fields.specs.Field.{field_at}
+use Rattle.fields.specs.laws.Laws.{joined}
+use borrow.Author.Rules.{rules}
+use Rattle.fields.proofs.word_at.Goals as goal
+
+pub returns : goal.returns
+returns c =
+    let second = c.half_word_at-2.ensures.0 ∙ ap (λ (p : ℕ). field_at c.args.s.now p 16) c.past.ensures in
+    joined c.args.s.now c.args.at.0 16 16 _ _ c.half_word_at.ensures.0 second

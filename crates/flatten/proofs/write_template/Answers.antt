@@ -1,0 +1,140 @@
+-- `flatten::write_template` meets its contract: the four parts of its bytes, one after the other. Assumes nothing.
+use native.Mathlib.Omega.{arith}
+use mathlib.Core.Path.{◌∙◌}
+use lib.ListN.{length-set}
+use Rattle.flatten.specs.laws.TemplateSteps.{places, count_within, room_enough, size_small, list_to_write, template_done}
+use borrow.Author.Rules.{rules}
+use Rattle.flatten.proofs.write_template.Goals as goal
+
+pub bits_at-requires : goal.bits_at-requires
+bits_at-requires c =
+    let w = c.requires in
+    let m = c.from_slot-start.ensures in
+    (omega (arith, w.0), (search rules, count_within w.3 m _ c.measure-size.ensures))
+
+pub bounds-out-front : goal.bounds-out-front
+bounds-out-front c =
+    let w = c.requires in
+    let m = c.from_slot-start.ensures in
+    let r = room_enough w.3 m _ c.measure-size.ensures in
+    let p = places w.3 m _ c.measure-size.ensures in
+    omega (arith, r, p, m, w.0, c.well_formed)
+
+pub past-entries-requires : goal.past-entries-requires
+past-entries-requires c =
+    let w = c.requires in
+    let m = c.from_slot-start.ensures in
+    let r = room_enough w.3 m _ c.measure-size.ensures in
+    let p = places w.3 m _ c.measure-size.ensures in
+    omega (arith, r, p, m, w.0, c.well_formed)
+
+pub overflow_add-front : goal.overflow_add-front
+overflow_add-front c =
+    let w = c.requires in
+    let m = c.from_slot-start.ensures in
+    let r = room_enough w.3 m _ c.measure-size.ensures in
+    let p = places w.3 m _ c.measure-size.ensures in
+    omega (arith, r, p, m, w.0, c.well_formed)
+
+pub write_bits-requires : goal.write_bits-requires
+write_bits-requires c =
+    let w = c.requires in
+    let m = c.from_slot-start.ensures in
+    let r = room_enough w.3 m _ c.measure-size.ensures in
+    let p = places w.3 m _ c.measure-size.ensures in
+    (w.0, p.1, simp length-set (omega (arith, r, p, m, w.0, c.well_formed, c.past-entries.ensures)))
+
+pub overflow_add-f : goal.overflow_add-f
+overflow_add-f c =
+    let w = c.requires in
+    let m = c.from_slot-start.ensures in
+    let r = room_enough w.3 m _ c.measure-size.ensures in
+    let p = places w.3 m _ c.measure-size.ensures in
+    omega (arith, r, p, m, w.0, c.well_formed)
+
+pub since-requires : goal.since-requires
+since-requires c =
+    let w = c.requires in
+    let m = c.from_slot-start.ensures in
+    let r = room_enough w.3 m _ c.measure-size.ensures in
+    let p = places w.3 m _ c.measure-size.ensures in
+    omega (arith, r, p, m, w.0, c.well_formed, c.past-entries.ensures)
+
+pub overflow_add-f-2 : goal.overflow_add-f-2
+overflow_add-f-2 c =
+    let w = c.requires in
+    let m = c.from_slot-start.ensures in
+    let r = room_enough w.3 m _ c.measure-size.ensures in
+    let p = places w.3 m _ c.measure-size.ensures in
+    omega (arith, r, p, m, w.0, c.well_formed, c.past-entries.ensures, c.since.ensures)
+
+pub overflow_add-f-3 : goal.overflow_add-f-3
+overflow_add-f-3 c =
+    let w = c.requires in
+    let m = c.from_slot-start.ensures in
+    let r = room_enough w.3 m _ c.measure-size.ensures in
+    let p = places w.3 m _ c.measure-size.ensures in
+    omega (arith, r, p, m, w.0, c.well_formed, c.past-entries.ensures, c.since.ensures)
+
+pub put_length-requires : goal.put_length-requires
+put_length-requires c =
+    let w = c.requires in
+    let m = c.from_slot-start.ensures in
+    let r = room_enough w.3 m _ c.measure-size.ensures in
+    let p = places w.3 m _ c.measure-size.ensures in
+    let a = c.past-entries.ensures in
+    let b = c.since.ensures in
+    let o = simp length-set at c.write_bits.auto.out in
+    (omega (arith, r, p, m, w.0, c.well_formed), size_small w.3 m _ c.measure-size.ensures w.0)
+
+pub overflow_add-end : goal.overflow_add-end
+overflow_add-end c =
+    let w = c.requires in
+    let m = c.from_slot-start.ensures in
+    let r = room_enough w.3 m _ c.measure-size.ensures in
+    let p = places w.3 m _ c.measure-size.ensures in
+    let a = c.past-entries.ensures in
+    let b = c.since.ensures in
+    omega (arith, r, p, m, w.0, c.well_formed)
+
+pub overflow_add-end-2 : goal.overflow_add-end-2
+overflow_add-end-2 c =
+    let w = c.requires in
+    let m = c.from_slot-start.ensures in
+    let r = room_enough w.3 m _ c.measure-size.ensures in
+    let p = places w.3 m _ c.measure-size.ensures in
+    let a = c.past-entries.ensures in
+    let b = c.since.ensures in
+    omega (arith, r, p, m, w.0, c.well_formed)
+
+pub overflow_add-f-4 : goal.overflow_add-f-4
+overflow_add-f-4 c =
+    let w = c.requires in
+    let m = c.from_slot-start.ensures in
+    let r = room_enough w.3 m _ c.measure-size.ensures in
+    let p = places w.3 m _ c.measure-size.ensures in
+    let a = c.past-entries.ensures in
+    let b = c.since.ensures in
+    omega (arith, r, p, m, w.0, c.well_formed)
+
+pub write_list-next-requires : goal.write_list-next-requires
+write_list-next-requires c =
+    let w = c.requires in
+    let m = c.from_slot-start.ensures in
+    let r = room_enough w.3 m _ c.measure-size.ensures in
+    let p = places w.3 m _ c.measure-size.ensures in
+    let a = c.past-entries.ensures in
+    let b = c.since.ensures in
+    let o = simp length-set at c.write_bits.auto.out in
+    (w.0, omega (arith, r, p, m, w.0, c.well_formed, c.put_length.auto.out), list_to_write w.3 m _ c.measure-size.ensures _)
+
+pub shape_of-out : goal.shape_of-out
+shape_of-out c =
+    c.write_list-next.auto.out ∙ c.put_length.auto.out
+    ∙ (simp length-set at c.write_bits.auto.out)
+
+pub returns : goal.returns
+returns c =
+    λ w. let m = c.from_slot-start.ensures in let first = c.past-entries.ensures in let gap = c.since.ensures in let count = c.bits_at.ensures.0 in let entries =
+    c.write_bits.ensures in let size = c.put_length.ensures in let list = c.write_list-next.ensures (list_to_write w m _ c.measure-size.ensures _) in
+    template_done w m _ c.measure-size.ensures first gap _ count entries size list

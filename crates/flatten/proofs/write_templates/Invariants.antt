@@ -1,0 +1,14 @@
+-- `flatten::write_templates` meets its contract: the loop's invariant: the templates from `own` on go into what is left of the output. Assumes nothing.
+use Prim.Native.Nat.{◌-◌, ◌≤◌}
+use native.Mathlib.Omega.{arith}
+use mathlib.Core.Path.{◌≡◌, refl, ◌∙◌}
+use lib.ListN.{length}
+use Rattle.flatten.specs.laws.FileSteps.{Left, left_all, left_none, left_template, left_next}
+use borrow.Author.Rules.{rules}
+use Rattle.flatten.proofs.write_templates.Given as goal
+
+abbrev pub invariant-loop-own : goal.invariant-loop-own
+invariant-loop-own l = (l.own ≤ l.count) × (length l.out ≡ length l.initial.out) × Left l.s l.table l.marks l.count (length l.initial.out) l.own l.here.0 l.front l.initial.out l.out
+
+abbrev pub decreases-loop-own : goal.decreases-loop-own
+decreases-loop-own l = l.count - l.own

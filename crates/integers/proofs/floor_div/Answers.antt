@@ -1,0 +1,15 @@
+-- `integers::floor_div` meets its contract. Assumes nothing.
+use borrow.Author.Rules.{rules}
+use mathlib.Core.Path.{◌∙◌}
+use Rattle.integers.proofs.Dividing.{asked, floor_value}
+use Rattle.integers.proofs.floor_div.Goals as goal
+
+pub floor_quotient-requires : goal.floor_quotient-requires
+floor_quotient-requires c = asked _ _ _ _ c.signed_value.ensures c.signed_value-2.ensures c.requires.1 c.requires.2
+
+pub returns : goal.returns
+returns c =
+    c.in_range.ensures
+    ∙ rw
+    (floor_value _ _ _ _ c.signed_value.ensures c.signed_value-2.ensures _
+    c.floor_quotient.ensures)

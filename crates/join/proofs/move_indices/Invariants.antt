@@ -1,0 +1,14 @@
+-- `join::move_indices` meets its contract. The loop's invariant: the indices below i are moved. Assumes nothing.
+use Prim.Native.Nat.{ℕ, ◌+◌, ◌-◌, ◌≤◌, ◌<◌}
+use native.Mathlib.Omega.{arith}
+use mathlib.Core.Path.{◌≡◌, refl}
+use lib.ListN.{length, get_or, length-set}
+use Rattle.join.specs.laws.PutLaws.{one_more}
+use borrow.Author.Rules.{rules}
+use Rattle.join.proofs.move_indices.Given as goal
+
+abbrev pub invariant-loop-i : goal.invariant-loop-i
+invariant-loop-i l = (l.i ≤ 256) × (length l.indices ≡ 256) × ((j : ℕ) → j < l.i → get_or l.indices j 0 ≡ l.n + j)
+
+abbrev pub decreases-loop-i : goal.decreases-loop-i
+decreases-loop-i l = 256 - l.i

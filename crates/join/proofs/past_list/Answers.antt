@@ -1,0 +1,12 @@
+-- `join::past_list` meets its contract: what is read is told, and what is refused was not read. Assumes nothing.
+use mathlib.Core.Path.{sym, ap, ◌∙◌}
+use Rattle.files.specs.laws.AllGot.{got_value, refused_got}
+use Rattle.lists.specs.laws.ReadLaws.{listed_done, listed_refused}
+use borrow.Author.Rules.{rules}
+use Rattle.join.proofs.past_list.Goals as goal
+
+pub returns-in-Done : goal.returns-in-Done
+returns-in-Done c = λ k q e. let l = listed_done _ _ _ _ _ (sym c.read_list.ensures.value ∙ c.in-Done.is) in (got_value (sym l.1 ∙ e)).1
+
+pub returns-in-Refused : goal.returns-in-Refused
+returns-in-Refused c = λ k q e. let l = listed_refused _ _ _ _ _ (sym c.read_list.ensures.value ∙ c.in-Refused.is) in refused_got (sym l ∙ e)

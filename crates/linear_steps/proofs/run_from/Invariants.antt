@@ -1,0 +1,25 @@
+-- `linear_steps::run_from` meets its contract. Assumes nothing.
+use Prim.Native.Nat.{◌-◌, ◌≤◌}
+use mathlib.Core.Path.{◌≡◌, refl, sym, ◌∙◌}
+use Rattle.rules.specs.State.{regs}
+use Rattle.machines.specs.Runs.{memory}
+use Rattle.machines.specs.Steps.{ran_from}
+use Rattle.machines.specs.Instruction.{linear_form, form_of}
+use Rattle.machines.specs.declared.CodePlace.TheVariants.{Linear}
+use Rattle.linear_code.specs.Bytes.{bytes_program}
+use Rattle.steps.specs.Step.{control, state_of, StepReady}
+use Rattle.steps.proofs.RunLaws.{at_first, next_ready, next_place, next_turn, halted_turn, wrong_turn, spent_turn}
+use Rattle.linear_steps.specs.Code.{code_of}
+use Rattle.linear_steps.proofs.StepLaws.{placed_turn, placed_ready}
+use borrow.Author.Rules.{rules}
+use Rattle.linear_steps.proofs.run_from.Given as goal
+
+abbrev pub invariant-loop-left : goal.invariant-loop-left
+invariant-loop-left l = StepReady l.file l.table (memory l.globals l.stack l.store l.frames) (regs l.v l.env l.sp l.st) (control l.template (Linear l.at) l.fr) × (l.left ≤ l.budget)
+    × (l.code ≡ code_of l.table l.template)
+    × (ran_from l.owner (bytes_program l.file l.table) l.left (l.budget - l.left) (state_of (regs l.v l.env l.sp l.st) (control l.template (Linear l.at) l.fr) (memory l.globals l.stack l.store l.frames))
+    ≡ ran_from l.owner (bytes_program l.file l.table) l.budget 0
+    (state_of (regs l.initial.v l.initial.env l.initial.sp l.initial.st) (control l.initial.template (Linear l.initial.at) l.initial.fr) (memory l.initial.globals l.initial.stack l.initial.store l.initial.frames)))
+
+abbrev pub decreases-loop-left : goal.decreases-loop-left
+decreases-loop-left l = l.left

@@ -1,0 +1,18 @@
+-- `linear_steps::take_neutral` meets its contract. Assumes nothing.
+use Rattle.machines.specs.Instruction.{number, linear_form, form_of}
+use Rattle.machines.specs.Slots.{slot_at}
+use Rattle.linear_code.specs.Neutral.{neutral_as}
+use Rattle.steps.proofs.StepLaws.{bad_stops}
+use Rattle.linear_steps.proofs.StepLaws.{neutral_as_lem}
+use borrow.Author.Rules.{rules}
+use Rattle.linear_steps.proofs.take_neutral.Goals as goal
+
+pub returns-in-Whole : goal.returns-in-Whole
+unfolding neutral_as number form_of
+returns-in-Whole c = λ P f. neutral_as_lem c.args.owner P _ (slot_at c.args.table.now c.args.c.template) _ _ _ _ (c.neutral_at.ensures _) c.in-Whole.is (c.act_neutral.ensures P f)
+
+pub returns-in-Cut : goal.returns-in-Cut
+unfolding neutral_as
+returns-in-Cut c =
+    λ P f. neutral_as_lem c.args.owner P _ (slot_at c.args.table.now c.args.c.template) _ _ _ _ (c.neutral_at.ensures _) c.in-Cut.is
+    (bad_stops linear_form c.args.owner P _ c.args.r c.args.c)

@@ -1,0 +1,46 @@
+-- `links::link_tree` meets its contract. The loop's invariant: what is left to link from template `own` on gives what the whole gives.
+-- Assumes nothing.
+use Prim.Native.Nat.{ℕ, ◌-◌, ◌≤◌}
+use native.Mathlib.Omega.{arith}
+use mathlib.Core.Path.{◌≡◌, refl, sym, ◌∙◌}
+use mathlib.Core.List.{List}
+use lib.ListN.{length}
+use Rattle.files.specs.Reading.{got}
+use Rattle.files.specs.Tree.{Template, tree_read}
+use Rattle.links.specs.TreeSteps.{linked_from, HasPasts}
+use Rattle.links.specs.laws.TreeSteps.{ready_short, at_most_64, linked_all_lem, list_to_link, next_has, templates_same, template_linked, linked_on}
+use borrow.Author.Rules.{rules}
+use Rattle.links.proofs.link_tree.Goals as goal
+
+pub loop-own-init : goal.loop-own-init
+loop-own-init c = (refl, omega arith, refl, c.requires.2)
+
+pub overflow_mul-own : goal.overflow_mul-own
+overflow_mul-own c = omega (arith, at_most_64 c.requires.0)
+
+pub offset_bounds-table-own : goal.offset_bounds-table-own
+offset_bounds-table-own c = omega (arith, at_most_64 c.requires.0)
+
+pub bounds-table-own : goal.bounds-table-own
+bounds-table-own c =
+    let pre = c.requires in
+    omega (arith, at_most_64 pre.0, pre.1)
+
+pub link_list-requires : goal.link_list-requires
+link_list-requires c =
+    let pre = c.requires in
+    let r = pre.0 in
+    (ready_short r, omega arith, omega arith, rw c.from_slot-start.ensures (list_to_link r c.loop-own.own c.loop-own-test.true _ (c.loop-own.invariant.3 _ _ r.read)))
+
+pub loop-own-preserved : goal.loop-own-preserved
+loop-own-preserved c =
+    let pre = c.requires in (
+      linked_on _ _ (c.loop-own.invariant.0 ∙ template_linked pre.0 _ c.loop-own-test.true _) (rw c.from_slot-start.ensures at c.link_list.ensures),
+      omega arith,
+      c.link_list.auto.links ∙ c.loop-own.invariant.2,
+      templates_same pre.0 _ _
+          (next_has pre.0 c.loop-own.own c.loop-own-test.true _ (c.loop-own.invariant.3 _ _ pre.0.read) (rw c.from_slot-start.ensures at c.link_list.ensures)),
+    )
+
+pub returns : goal.returns
+returns c = sym (c.loop-own.invariant.0 ∙ linked_all_lem c.requires.0 _ _ (omega arith))

@@ -1,0 +1,41 @@
+-- `lists::run_shape` meets its contract: each code's two bits. Assumes nothing.
+use Prim.Native.Nat.{ℕ, ◌*◌, ◌/◌, ◌%◌, ◌^◌, ◌≤◌, ◌<◌}
+use mathlib.Core.Path.{◌≡◌, refl, sym, ◌∙◌}
+use mathlib.Core.Bool.{Bool, true, false, not, ◌&&◌, ◌||◌, and-eq-true_iff}
+use native.Mathlib.Omega.{arith}
+use borrow.Author.Tests.{eqb-true, eqb-false, eq-eqb, leb-true, not-true}
+use lib.Dec.{eqb, leb}
+use Rattle.files.specs.Codes.{shape_of}
+use Rattle.lists.specs.Pass.{run_shape}
+use Rattle.lists.specs.laws.Each.{below, below_at}
+use borrow.Author.Rules.{rules}
+use Rattle.lists.proofs.run_shape.Goals as goal
+
+suits : ℕ → ℕ → Bool
+suits v k = eqb k 0 || (eqb (shape_of v) k && (leb k 3 && (leb 6 v && not (eqb v 7))))
+
+told : (v k : ℕ) → suits v k ≡ true → run_shape v k
+unfolding suits run_shape
+told v k e h = go (eqb k 0) refl e
+  where
+    go : (b : Bool) → eqb k 0 ≡ b → (b || (eqb (shape_of v) k && (leb k 3 && (leb 6 v && not (eqb v 7))))) ≡ true
+        → (shape_of v ≡ k) × (k ≤ 3) × (6 ≤ v) × (v ≡ 7 → ⊥)
+    go true z e = let x : k ≡ 0 = eqb-true k 0 z in absurd (omega arith)
+    go false z e =
+        let x = (and-eq-true_iff (eqb (shape_of v) k) _).0 e in
+        let y = (and-eq-true_iff (leb k 3) _).0 x.1 in
+        let w = (and-eq-true_iff (leb 6 v) _).0 y.1 in
+        (eqb-true _ _ x.0, leb-true k 3 y.0, leb-true 6 v w.0, eqb-false v 7 (seven (eqb v 7) w.1))
+      where
+        seven : (b : Bool) → not b ≡ true → b ≡ false
+        seven true e = sym e
+        seven false e = refl
+
+all : (w v : ℕ) → v < 32 → below (λ v. suits v (w / 2 ^ (2 * v) % 4)) 32 ≡ true → run_shape v (w / 2 ^ (2 * v) % 4)
+all w v i h = told v (w / 2 ^ (2 * v) % 4) (below_at (λ v. suits v (w / 2 ^ (2 * v) % 4)) 32 h v i)
+
+pub returns : goal.returns
+unfolding suits below shape_of
+returns c =
+    let e : c.args.line / 32768 / 2 * 2 ≡ 2 * (c.args.line / 65536) = omega arith in
+    rw e (all _ (c.args.line / 65536) (omega (arith, c.requires)) refl)

@@ -1,0 +1,24 @@
+-- `lists::shape_by_words` meets its contract: each code's four bits are its shape. Assumes nothing.
+use Prim.Native.Nat.{ℕ, ◌*◌, ◌/◌, ◌%◌, ◌^◌, ◌≤◌, ◌<◌}
+use mathlib.Core.Path.{◌≡◌, refl}
+use mathlib.Core.Logic.{⊎_elim}
+use native.Mathlib.Omega.{arith}
+use Rattle.files.specs.Codes.{shape_of}
+use Rattle.lists.specs.laws.Each.{each}
+use borrow.Author.Rules.{rules}
+use Rattle.lists.proofs.shape_by_words.Goals as goal
+
+low : (v : ℕ) → v < 16 → 0x1621332222654210 / 2 ^ (4 * (v % 16)) % 16 ≡ shape_of v
+unfolding shape_of
+low v h =
+    each (λ v. 0x1621332222654210 / 2 ^ (4 * (v % 16)) % 16 ≡ shape_of v) 0 16
+    (refl, (refl, (refl, (refl, (refl, (refl, (refl, (refl, (refl, (refl, (refl, (refl, (refl, (refl, (refl, (refl, tt)))))))))))))))) v (omega arith) (omega arith)
+
+high : (v : ℕ) → 16 ≤ v → v < 32 → 0x6666661111111162 / 2 ^ (4 * (v % 16)) % 16 ≡ shape_of v
+unfolding shape_of
+high v h i =
+    each (λ v. 0x6666661111111162 / 2 ^ (4 * (v % 16)) % 16 ≡ shape_of v) 16 16
+    (refl, (refl, (refl, (refl, (refl, (refl, (refl, (refl, (refl, (refl, (refl, (refl, (refl, (refl, (refl, (refl, tt)))))))))))))))) v h (omega arith)
+
+pub returns : goal.returns
+returns c = ⊎_elim (λ x. rw x.1 (low _ x.0.taken)) (λ x. rw x.1 (high _ x.0.left c.requires)) c.if-code-lt16.branch

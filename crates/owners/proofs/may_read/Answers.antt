@@ -1,0 +1,13 @@
+-- `owners::may_read` meets its contract. Assumes nothing.
+use borrow.Author.Rules.{rules}
+use mathlib.Core.Path.{refl}
+use Rattle.owners.specs.Owners.{may_read}
+use Rattle.owners.proofs.may_read.Goals as goal
+
+pub returns-in-House : goal.returns-in-House
+unfolding may_read
+returns-in-House c = rw c.in-House.is refl
+
+pub returns-in-Vendor : goal.returns-in-Vendor
+unfolding may_read
+returns-in-Vendor c = rw c.in-Vendor.is refl

@@ -1,0 +1,39 @@
+-- `rules::floor_div` meets its contract: the rule goes by the two operands, and by whether the right one is zero. Assumes nothing.
+use borrow.Author.Rules.{rules}
+use borrow.Author.Tests.{eq-eqb, ne_eqb}
+use mathlib.Core.Path.{sym, ap, ◌∙◌}
+use mathlib.Core.Bool.{not}
+use Rattle.rules.specs.State.{mem, told}
+use Rattle.rules.specs.Rules.{divided, floor_div_rule}
+use Rattle.rules.proofs.Laws.{two_are, two_wrong, integer_of, fits_of, by_zero, by_other}
+use Rattle.rules.proofs.floor_div.Goals as goal
+
+pub returns-then-b-eq0 : goal.returns-then-b-eq0
+unfolding told floor_div_rule
+returns-then-b-eq0 c =
+    λ g t. ap (told (mem g c.args.stack.now t))
+    (by_zero _ _ (mem g c.args.stack.now t) c.args.r (rw c.in-Two.is at c.two_integers.ensures.fits).1 c.if-b-eq0.true ∙ two_are divided
+    (mem g c.args.stack.now t) c.args.r _ (c.two_integers.ensures.by_index g t) _ _ c.in-Two.is)
+
+pub floor_div-requires : goal.floor_div-requires
+floor_div-requires c =
+    let h = rw c.in-Two.is at c.two_integers.ensures.fits in
+    (h.0, h.1, c.if-b-eq0.false)
+
+pub integer-requires : goal.integer-requires
+integer-requires c =
+    let pre = c.requires in
+    (pre.0, pre.1, fits_of _ _ c.floor_div.ensures)
+
+pub returns-else-b-eq0 : goal.returns-else-b-eq0
+unfolding floor_div_rule
+returns-else-b-eq0 c =
+    λ g t. c.integer.ensures g t ∙ ap (told (mem g c.args.stack.now t))
+    (integer_of _ _ _ _ c.floor_div.ensures ∙ by_other _ _ (mem g c.args.stack.now t) c.args.r (rw c.in-Two.is at c.two_integers.ensures.fits).1
+    c.if-b-eq0.false ∙ two_are divided (mem g c.args.stack.now t) c.args.r _ (c.two_integers.ensures.by_index g t) _ _ c.in-Two.is)
+
+pub returns-in-Wrong : goal.returns-in-Wrong
+unfolding told floor_div_rule
+returns-in-Wrong c =
+    λ g t. ap (told (mem g c.args.stack.now t))
+    (two_wrong divided (mem g c.args.stack.now t) c.args.r _ (c.two_integers.ensures.by_index g t) _ c.in-Wrong.is)

@@ -1,0 +1,12 @@
+-- `steps::act_plain` meets its contract. Assumes nothing.
+use Rattle.steps.proofs.StepLaws.{plain_goes, plain_stops}
+use borrow.Author.Rules.{rules}
+use Rattle.steps.proofs.act_plain.Goals as goal
+
+pub returns-in-Next : goal.returns-in-Next
+returns-in-Next c =
+    let pre = c.requires in
+    λ P f. plain_goes _ P _ _ _ _ _ _ f _ _ _ c.args.c _ c.plain_rule.ensures.store_after _ c.in-Next.is c.plain_rule.ensures.fits pre.4
+
+pub returns-in-Wrong : goal.returns-in-Wrong
+returns-in-Wrong c = λ P f. plain_stops _ P _ _ _ _ _ _ f _ _ _ c.args.c _ c.plain_rule.ensures.store_after _ c.in-Wrong.is

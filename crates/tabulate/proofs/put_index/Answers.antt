@@ -1,0 +1,28 @@
+-- `tabulate::put_index` meets its contract: the code, and the place of the slot and one more. Assumes nothing.
+use Prim.Native.Nat.{ℕ, suc, ◌+◌}
+use Rattle.tabulate.specs.laws.PutLaws.{put_code_index}
+use Rattle.bit_writer.specs.laws.Laws.{put_length}
+use Rattle.bit_writer.specs.Put.{put_bits}
+use Rattle.files.specs.Linear.{bits_of}
+use lib.ListN.{length}
+use mathlib.Core.Path.{◌≡◌, refl, sym, ap, ◌∙◌}
+use native.Mathlib.Omega.{arith}
+use borrow.Author.Rules.{rules}
+use Rattle.tabulate.proofs.put_index.Goals as goal
+
+pub put_field-requires : goal.put_field-requires
+put_field-requires c =
+    let pre = c.requires in
+    let m = ap length c.put_field-next.ensures.1 ∙ put_length _ _ _ in
+    (omega (arith, m, pre.2), omega arith, omega (arith, c.find-i.ensures, pre.3, pre.1), omega (arith, m, c.put_field-next.ensures.0, pre.5))
+
+pub shape_of-out : goal.shape_of-out
+shape_of-out c =
+    let m = ap length c.put_field-next.ensures.1 ∙ put_length _ _ _ in
+    ap length c.put_field.ensures.1 ∙ put_length _ _ _ ∙ m
+
+pub returns : goal.returns
+returns c =
+    let pre = c.requires in
+    put_code_index _ _ _ _ _ _ _ _ _ (omega (arith, c.find-i.ensures)) pre.5 c.put_field-next.ensures.0 c.put_field-next.ensures.1 c.put_field.ensures.0
+    c.put_field.ensures.1

@@ -1,0 +1,16 @@
+-- `text::put_bytes` meets its contract: the bytes left to put, put into the buffer as it is now, give the buffer that is wanted; the measure is how many are left. Assumes nothing.
+use borrow.Author.Rules.{rules}
+use Prim.Native.Nat.{◌+◌, ◌-◌, ◌≤◌}
+use native.Mathlib.Nat.{add-zero}
+use native.Mathlib.Omega.{arith}
+use mathlib.Core.Path.{◌≡◌, sym, ◌∙◌}
+use lib.ListN.{length, drop}
+use lib.Seq.{sets}
+use Rattle.text.proofs.Laws.{put_on, put_done}
+use Rattle.text.proofs.put_bytes.Given as goal
+
+abbrev pub invariant-loop-i : goal.invariant-loop-i
+invariant-loop-i l = (l.i ≤ length l.bytes) × (length l.out ≡ length l.initial.out) × (sets l.out (l.at + l.i) (drop l.i l.bytes) ≡ sets l.initial.out l.at l.bytes)
+
+abbrev pub decreases-loop-i : goal.decreases-loop-i
+decreases-loop-i l = length l.bytes - l.i

@@ -1,0 +1,25 @@
+-- `tree_steps::run_from` meets its contract. Assumes nothing.
+use Prim.Native.Nat.{◌-◌, ◌≤◌}
+use mathlib.Core.Path.{◌≡◌, refl}
+use native.Mathlib.Omega.{arith}
+use Rattle.rules.specs.State.{regs}
+use Rattle.machines.specs.Runs.{memory}
+use Rattle.machines.specs.Steps.{ran_from}
+use Rattle.machines.specs.Instruction.{form_of}
+use Rattle.machines.specs.declared.CodePlace.TheVariants.{Tree}
+use Rattle.tree_code.specs.Fetch.{linked_program}
+use Rattle.steps.specs.Step.{control, state_of, StepReady}
+use Rattle.tree_steps.specs.Ready.{first_regs, beginning}
+use Rattle.steps.proofs.RunLaws.{at_first, next_ready, next_place, next_turn, halted_turn, wrong_turn, spent_turn}
+use Rattle.tree_steps.proofs.StepLaws.{ready_apart, turn_apart}
+use borrow.Author.Rules.{rules}
+use Rattle.tree_steps.proofs.run_from.Given as goal
+
+abbrev pub invariant-loop-left : goal.invariant-loop-left
+invariant-loop-left l = StepReady l.file l.table (memory l.globals l.stack l.store l.frames) (regs l.v l.env l.sp l.st) (control l.template (Tree l.at) l.fr) × (l.left ≤ l.budget)
+    × (ran_from l.owner (linked_program l.file l.links l.table) l.left (l.budget - l.left)
+    (state_of (regs l.v l.env l.sp l.st) (control l.template (Tree l.at) l.fr) (memory l.globals l.stack l.store l.frames))
+    ≡ ran_from l.owner (linked_program l.file l.links l.table) l.budget 0 (state_of first_regs (beginning l.initial.at) (memory l.initial.globals l.initial.stack l.initial.store l.initial.frames)))
+
+abbrev pub decreases-loop-left : goal.decreases-loop-left
+decreases-loop-left l = l.left

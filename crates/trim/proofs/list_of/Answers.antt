@@ -1,0 +1,11 @@
+-- `trim::list_of` meets its contract: by the list that is read at the table's slot. Assumes nothing.
+use mathlib.Core.Path.{sym, ◌∙◌}
+use Rattle.trim.specs.laws.StandLaws.{span_done, span_refused}
+use borrow.Author.Rules.{rules}
+use Rattle.trim.proofs.list_of.Goals as goal
+
+pub returns-in-Done : goal.returns-in-Done
+returns-in-Done c = λ here w. span_done w _ c.from_slot-start.ensures _ _ (sym c.read_list.ensures.value ∙ c.in-Done.is)
+
+pub returns-in-Refused : goal.returns-in-Refused
+returns-in-Refused c = λ here w. span_refused w _ c.from_slot-start.ensures _ _ (sym c.read_list.ensures.value ∙ c.in-Refused.is)

@@ -1,0 +1,13 @@
+-- `trim::number` meets its contract. Assumes nothing.
+use Prim.Native.Nat.{◌-◌, ◌≤◌}
+use native.Mathlib.Omega.{arith}
+use mathlib.Core.Path.{◌≡◌, refl, sym, ◌∙◌}
+use Rattle.trim.specs.laws.MarkLaws.{Numbering, numbering_none, numbering_fits, numbering_on, numbering_all}
+use borrow.Author.Rules.{rules}
+use Rattle.trim.proofs.number.Given as goal
+
+abbrev pub invariant-loop-i : goal.invariant-loop-i
+invariant-loop-i l = (l.i ≤ l.n) × Numbering l.initial.marks l.i l.count l.marks
+
+abbrev pub decreases-loop-i : goal.decreases-loop-i
+decreases-loop-i l = l.n - l.i

@@ -1,0 +1,16 @@
+-- `trim::put_lines` meets its contract. The loop's invariant: the lines from entry n on are left. Assumes nothing.
+use Prim.Native.Nat.{◌+◌, ◌*◌, ◌-◌, ◌≤◌}
+use native.Mathlib.Omega.{arith}
+use mathlib.Core.Path.{◌≡◌, refl, ◌∙◌}
+use lib.ListN.{length}
+use Rattle.text.specs.laws.Laws.{put_then, put_length}
+use Rattle.trim.specs.Standing.{row_lines}
+use Rattle.trim.specs.laws.LineLaws.{Lining, lining_none, lining_on, lining_all}
+use borrow.Author.Rules.{rules}
+use Rattle.trim.proofs.put_lines.Given as goal
+
+abbrev pub invariant-loop-n : goal.invariant-loop-n
+invariant-loop-n l = (1 ≤ l.n) × (l.n ≤ l.entries + 1) × (l.there + 12 ≤ l.initial.there + 12 * l.n) × (length l.out ≡ length l.initial.out) × Lining l.own l.row (row_lines l.own l.row 1 l.entries) l.initial.out l.initial.there l.entries l.n l.there l.out
+
+abbrev pub decreases-loop-n : goal.decreases-loop-n
+decreases-loop-n l = l.entries + 1 - l.n

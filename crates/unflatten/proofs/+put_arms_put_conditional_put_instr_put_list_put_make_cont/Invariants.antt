@@ -1,0 +1,37 @@
+-- The cycle of calls {put_arms, put_conditional, put_instr, put_list, put_make_cont} meets its contracts: a level falls at each list inside an
+-- instruction, and the bytes of the region within a list. Assumes nothing.
+use Prim.Native.Nat.{◌+◌, ◌*◌, ◌-◌}
+use native.Mathlib.Omega.{arith}
+use mathlib.Core.Path.{refl, sym, ◌∙◌}
+use Rattle.lists.specs.Facts.{slot_named}
+use Rattle.unflatten.specs.ToPut.{Going, ArmsIn}
+use Rattle.unflatten.specs.laws.PutLaws.{puts_none, puts_some, two_first, two_from, stepped_none, stepped_on, arms_none, arms_more, saved_none, saved_more}
+use Rattle.unflatten.specs.laws.PutLaws.{head_as, head_none, going_begun, going_no_end, going_end, going_none, going_on}
+use borrow.Author.Rules.{rules}
+use Prim.Native.Nat.{ℕ, ◌<◌}
+use Rattle.unflatten.proofs.+put_arms_put_conditional_put_instr_put_list_put_make_cont.{
+use Rattle.unflatten.proofs.+put_arms_put_conditional_put_instr_put_list_put_make_cont.Tie.{
+use Rattle.unflatten.proofs.+put_arms_put_conditional_put_instr_put_list_put_make_cont.Given as goal
+
+  close,
+}
+abbrev pub decreases-put_arms : goal.decreases-put_arms
+decreases-put_arms l = 4 * l.levels + 4
+
+abbrev pub decreases-put_conditional : goal.decreases-put_conditional
+decreases-put_conditional l = 4 * l.levels + 1
+
+abbrev pub decreases-put_instr : goal.decreases-put_instr
+decreases-put_instr l = 4 * l.levels + 2
+
+abbrev pub decreases-put_list : goal.decreases-put_list
+decreases-put_list l = 4 * l.levels + 3
+
+abbrev pub decreases-put_make_cont : goal.decreases-put_make_cont
+decreases-put_make_cont l = 4 * l.levels + 1
+
+abbrev pub invariant-put_list-loop-p : goal.invariant-put_list-loop-p
+invariant-put_list-loop-p l = Going (slot_named l.table l.own) l.s l.levels l.initial.p l.initial.e l.initial.k l.initial.here.0 l.initial.out l.p l.e l.k l.here.0 l.out
+
+abbrev pub decreases-put_list-loop-p : goal.decreases-put_list-loop-p
+decreases-put_list-loop-p l = l.e - l.p
