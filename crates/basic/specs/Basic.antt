@@ -19,11 +19,11 @@ pub data Basic : Type 0 where
 -- one code with all that it carries but lists
 pub data Token : Type 0 where
   ended_t : Token
-  plain_t_lem : ℕ → List ℕ → Token
+  plain_t : ℕ → List ℕ → Token
   carries_t : ℕ → Entry → Token
   closure_t : Token
-  branch_t_lem : Token
-  save_t_lem : ℕ → Token
+  branch_t : Token
+  save_t : ℕ → Token
 
 -- ---- how many bits
 -- after the code of literal: kind, tag and value; after those of global and set-global!: the number
@@ -36,11 +36,11 @@ carried_bits (template t) = 8
 unfoldable pub token_bits : Token → ℕ
 unfolding carried_bits
 token_bits ended_t = 5
-token_bits (plain_t_lem v ns) = 5 + 8 * length ns
+token_bits (plain_t v ns) = 5 + 8 * length ns
 token_bits (carries_t v e) = 5 + carried_bits e
 token_bits closure_t = 5
-token_bits branch_t_lem = 5
-token_bits (save_t_lem n) = 13
+token_bits branch_t = 5
+token_bits (save_t n) = 13
 
 -- a list, its code 0 with it
 unfoldable pub bits : Basic → ℕ

@@ -7,7 +7,7 @@ use Rattle.files.specs.Codes.{shape_of}
 use Rattle.files.specs.Reading.{Got, got, refused}
 use Rattle.files.specs.Entries.{global, then, field, valid, constant_at}
 use Rattle.files.specs.Tree.{padded_end}
-use Rattle.basic.specs.Basic.{Basic, ended, plain, carries, closure, branch, save, Token, ended_t, plain_t_lem, carries_t, closure_t, branch_t_lem, save_t_lem}
+use Rattle.basic.specs.Basic.{Basic, ended, plain, carries, closure, branch, save, Token, ended_t, plain_t, carries_t, closure_t, branch_t, save_t}
 
 -- ---- one code
 -- an instruction at p that holds lists, in a list with l levels left below it: 4 where there are none
@@ -27,11 +27,11 @@ module _ (s : List ℕ) where
   -- the code v at p, which ends at q, by its shape: as in a tree
   unfoldable pub shaped_at : ℕ → ℕ → ℕ → ℕ → ℕ → Got Token
   shaped_at l p v q zero = got ended_t q
-  shaped_at l p v q (suc zero) = got (plain_t_lem v []) q
-  shaped_at l p v q (suc (suc zero)) = then (field s q 8) (λ a r. got (plain_t_lem v (a ∷ [])) r)
-  shaped_at l p v q (suc (suc (suc zero))) = then (field s q 8) (λ a r. then (field s r 8) (λ b z. got (plain_t_lem v (a ∷ b ∷ [])) z))
-  shaped_at l p v q (suc (suc (suc (suc zero)))) = holding l p (got branch_t_lem q)
-  shaped_at l p v q (suc (suc (suc (suc (suc zero))))) = holding l p (then (field s q 8) (λ n r. got (save_t_lem n) r))
+  shaped_at l p v q (suc zero) = got (plain_t v []) q
+  shaped_at l p v q (suc (suc zero)) = then (field s q 8) (λ a r. got (plain_t v (a ∷ [])) r)
+  shaped_at l p v q (suc (suc (suc zero))) = then (field s q 8) (λ a r. then (field s r 8) (λ b z. got (plain_t v (a ∷ b ∷ [])) z))
+  shaped_at l p v q (suc (suc (suc (suc zero)))) = holding l p (got branch_t q)
+  shaped_at l p v q (suc (suc (suc (suc (suc zero))))) = holding l p (then (field s q 8) (λ n r. got (save_t n) r))
   shaped_at l p v q (suc (suc (suc (suc (suc (suc k)))))) = refused invalid_field p
 
   -- codes 6 to 9 carry what a tree's indices name; the others are as in a tree
@@ -52,11 +52,11 @@ module _ (s : List ℕ) where
 -- what follows a code that ends at q: its lists, each read by deep, and then the rest of the list, read by rest
 unfoldable pub onward : (ℕ → Got Basic) → (ℕ → Got Basic) → Token → ℕ → Got Basic
 onward deep rest ended_t q = got ended q
-onward deep rest (plain_t_lem v ns) q = then (rest q) (λ c r. got (plain v ns c) r)
+onward deep rest (plain_t v ns) q = then (rest q) (λ c r. got (plain v ns c) r)
 onward deep rest (carries_t v e) q = then (rest q) (λ c r. got (carries v e c) r)
 onward deep rest closure_t q = then (deep q) (λ x r. then (rest r) (λ c z. got (closure x c) z))
-onward deep rest branch_t_lem q = then (deep q) (λ x r. then (deep r) (λ y z. then (rest z) (λ c u. got (branch x y c) u)))
-onward deep rest (save_t_lem n) q = then (deep q) (λ x r. then (rest r) (λ c z. got (save n x c) z))
+onward deep rest branch_t q = then (deep q) (λ x r. then (deep r) (λ y z. then (rest z) (λ c u. got (branch x y c) u)))
+onward deep rest (save_t n) q = then (deep q) (λ x r. then (rest r) (λ c z. got (save n x c) z))
 
 -- the list at p, with l levels left below it, of fewer instructions than the last number
 unfoldable pub items : List ℕ → ℕ → (ℕ → Got Basic) → ℕ → ℕ → Got Basic

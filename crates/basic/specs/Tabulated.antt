@@ -1,6 +1,6 @@
 -- The templates of basic byte code (document 02, request 6): tables of entries in place of what the instructions carry.
 use Rattle.std.specs.Prelude.{ℕ, zero, suc, ◌+◌, Bool, true, false, cond, ◌&&◌, ◌||◌, List, [], ◌∷◌, ◌++◌, length, eqb}
-use Rattle.files.specs.Code.{Code, done, neutral, unless_false_lem, make_cont_lem, simple, put}
+use Rattle.files.specs.Code.{Code, done, neutral, unless_false, make_cont, simple, put}
 use Rattle.files.specs.Entries.{Entry, constant, global, template}
 use Rattle.files.specs.Tree.{Template}
 use Rattle.basic.specs.Basic.{Basic, ended, plain, carries, closure, branch, save}
@@ -70,8 +70,8 @@ indexed es n ended = done
 indexed es n (plain v ns r) = put (simple v ns) (indexed es n r)
 indexed es n (carries v e r) = neutral v (index_of e es ∷ []) (indexed es n r)
 indexed es n (closure x r) = neutral 7 (index_of (template n) es ∷ []) (indexed es (suc n + inside x) r)
-indexed es n (branch x y r) = unless_false_lem (indexed es n x) (indexed es (n + inside x) y) (indexed es (n + inside x + inside y) r)
-indexed es n (save m x r) = make_cont_lem m (indexed es n x) (indexed es (n + inside x) r)
+indexed es n (branch x y r) = unless_false (indexed es n x) (indexed es (n + inside x) y) (indexed es (n + inside x + inside y) r)
+indexed es n (save m x r) = make_cont m (indexed es n x) (indexed es (n + inside x) r)
 
 -- ---- templates
 -- the template whose list is c, where n is the next template's number; a file's bytes do not depend on where its lists start

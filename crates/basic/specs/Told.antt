@@ -15,20 +15,20 @@ use Rattle.basic.specs.declared.BasicFile.{BasicFile}
 use Rattle.basic.specs.declared.BasicFile.TheVariants.{Read, Refused as RefusedFile}
 use Rattle.basic.specs.declared.Item.{Item}
 use Rattle.basic.specs.declared.Item.TheVariants.{End as EndItem, More, Bad}
-use Rattle.basic.specs.Basic.{Basic, ended, plain, carries, closure, branch, save, Token, ended_t, plain_t_lem, carries_t, closure_t, branch_t_lem, save_t_lem}
+use Rattle.basic.specs.Basic.{Basic, ended, plain, carries, closure, branch, save, Token, ended_t, plain_t, carries_t, closure_t, branch_t, save_t}
 use Rattle.basic.specs.Reading.{list_at, basic_read}
 use Rattle.basic.specs.Tabulated.{inside}
 
 -- ---- a code, by what reading it gives
 pub data Told (g : Got Token) : ToldToken → Type 0 where
   told_end : (q : BitPlace) → g ≡ got ended_t q.0 → Told g (End q)
-  told_ending : (q : BitPlace) (v : ℕ) (ns : List ℕ) → v < 6 → g ≡ got (plain_t_lem v ns) q.0 → Told g (Ending q)
-  told_plain : (q : BitPlace) (v : ℕ) (ns : List ℕ) → 6 ≤ v → g ≡ got (plain_t_lem v ns) q.0 → Told g (Plain q)
+  told_ending : (q : BitPlace) (v : ℕ) (ns : List ℕ) → v < 6 → g ≡ got (plain_t v ns) q.0 → Told g (Ending q)
+  told_plain : (q : BitPlace) (v : ℕ) (ns : List ℕ) → 6 ≤ v → g ≡ got (plain_t v ns) q.0 → Told g (Plain q)
   told_literal : (q : BitPlace) (t x : ℕ) → g ≡ got (carries_t 6 (constant t x)) q.0 → Told g (Literal t x q)
   told_global : (q : BitPlace) (v n : ℕ) → g ≡ got (carries_t v (global n)) q.0 → Told g (Global v n q)
   told_closure : (q : BitPlace) → g ≡ got closure_t q.0 → Told g (Closure q)
-  told_branch : (q : BitPlace) → g ≡ got branch_t_lem q.0 → Told g (Branch q)
-  told_save : (q : BitPlace) (n : ℕ) → g ≡ got (save_t_lem n) q.0 → Told g (Save q)
+  told_branch : (q : BitPlace) → g ≡ got branch_t q.0 → Told g (Branch q)
+  told_save : (q : BitPlace) (n : ℕ) → g ≡ got (save_t n) q.0 → Told g (Save q)
   told_refused : (q : BitPlace) (n : ℕ) → g ≡ refused n q.0 → Told g (Refused n q)
 
 -- ---- the class of a list: 0 empty, 1 open, 2 closed, 3 neither

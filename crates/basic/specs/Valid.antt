@@ -5,7 +5,7 @@ use Rattle.files.specs.Codes.{is_neutral, operands}
 use Rattle.files.specs.Reading.{Got, refused}
 use Rattle.files.specs.Entries.{Entry, constant, global, tag_width}
 use Rattle.files.specs.Valid.{Bytes}
-use Rattle.basic.specs.Basic.{Basic, ended, plain, carries, closure, branch, save, Token, ended_t, plain_t_lem, carries_t, closure_t, branch_t_lem, save_t_lem}
+use Rattle.basic.specs.Basic.{Basic, ended, plain, carries, closure, branch, save, Token, ended_t, plain_t, carries_t, closure_t, branch_t, save_t}
 use Rattle.basic.specs.Reading.{list_at}
 
 -- return, call, or a neutral code from 10 on, each with as many operand bytes as it takes
@@ -21,11 +21,11 @@ pub data CarriesOk : ℕ → Entry → Type 0 where
 
 unfoldable pub TokenOk : Token → Type 0
 TokenOk ended_t = Unit
-TokenOk (plain_t_lem v ns) = PlainOk v ns
+TokenOk (plain_t v ns) = PlainOk v ns
 TokenOk (carries_t v e) = CarriesOk v e
 TokenOk closure_t = Unit
-TokenOk branch_t_lem = Unit
-TokenOk (save_t_lem n) = n < 256
+TokenOk branch_t = Unit
+TokenOk (save_t n) = n < 256
 
 unfoldable pub Ok : Basic → Type 0
 Ok ended = Unit

@@ -4,7 +4,7 @@ ghost use Rattle.std.specs.Prelude.{◌≡◌, ◌&&◌, List, ℕ, suc, ◌+◌
 ghost use Rattle.files.specs.Codes.{shape_of};
 ghost use Rattle.files.specs.Reading.{Got, got};
 ghost use Rattle.files.specs.Entries.{then, field, constant_at};
-ghost use Rattle.basic.specs.Basic.{Token as BasicToken, plain_t_lem, carries_t, closure_t, branch_t_lem, save_t_lem};
+ghost use Rattle.basic.specs.Basic.{Token as BasicToken, plain_t, carries_t, closure_t, branch_t, save_t};
 ghost use Rattle.basic.specs.Reading.{literal_at, global_at, shaped_at, token_at, list_at};
 ghost use Rattle.basic.specs.Told.{Told, kind_after, branch_kind, save_kind, Stepped, list_told, FileRead};
 
@@ -130,7 +130,7 @@ fn read_global(s: &[u8], code: u32, at: BitPlace) -> Token
 
 // A code without lists, whose operands end at a place.
 fn plain_token(code: u32, past: BitPlace) -> Token
-    ensures { (g : Got BasicToken) (ns : List ℕ) → g ≡ got (plain_t_lem code ns) past.0 → Told g result }
+    ensures { (g : Got BasicToken) (ns : List ℕ) → g ≡ got (plain_t code ns) past.0 → Told g result }
 {
     if code < 6 {
         return Token::Ending(past);
@@ -161,7 +161,7 @@ fn read_plain(s: &[u8], code: u32, at: BitPlace, shape: u8) -> Token
 // The operand of a make-cont whose code ends at a place.
 fn read_save(s: &[u8], at: BitPlace) -> Token
     requires { length s.now ≤ 262144 }
-    ensures { Told (then (field s.now at.0 8) (λ n z. got (save_t_lem n) z)) result }
+    ensures { Told (then (field s.now at.0 8) (λ n z. got (save_t n) z)) result }
 {
     let Field::Read(_, past) = fields::read_field(s, at, 8) else {
         return Token::Refused(2, at);
@@ -298,7 +298,7 @@ fn read_closure(s: &[u8], at: BitPlace, levels: usize) -> Item
 #[cycle(read_branch_read_closure_read_item_read_list_read_saved)]
 fn read_branch(s: &[u8], at: BitPlace, levels: usize) -> Item
     requires { length s.now ≤ 262144 }
-    ensures { (p : ℕ) → token_at s.now (suc levels) p ≡ got branch_t_lem at.0 → Stepped s.now (suc levels) p result }
+    ensures { (p : ℕ) → token_at s.now (suc levels) p ≡ got branch_t at.0 → Stepped s.now (suc levels) p result }
 {
     match read_list(s, at, levels) {
         Listed::Done(mid, x) => match read_list(s, mid, levels) {
@@ -315,7 +315,7 @@ fn read_branch(s: &[u8], at: BitPlace, levels: usize) -> Item
 #[cycle(read_branch_read_closure_read_item_read_list_read_saved)]
 fn read_saved(s: &[u8], at: BitPlace, levels: usize) -> Item
     requires { length s.now ≤ 262144 }
-    ensures { (p n : ℕ) → token_at s.now (suc levels) p ≡ got (save_t_lem n) at.0 → Stepped s.now (suc levels) p result }
+    ensures { (p n : ℕ) → token_at s.now (suc levels) p ≡ got (save_t n) at.0 → Stepped s.now (suc levels) p result }
 {
     match read_list(s, at, levels) {
         Listed::Done(past, x) => Item::More(past, save_kind(x.class), x.inside),

@@ -3,7 +3,7 @@
 ghost use Rattle.std.specs.Prelude.{◌≡◌, ℕ, ◌+◌, ◌*◌, ◌≤◌, ◌<◌, length, set};
 ghost use Rattle.files.specs.Reading.{got};
 ghost use Rattle.links.specs.Links.{link};
-ghost use Rattle.basic.specs.Basic.{Basic, closure_t, branch_t_lem, save_t_lem};
+ghost use Rattle.basic.specs.Basic.{Basic, closure_t, branch_t, save_t};
 ghost use Rattle.basic.specs.Reading.{token_at};
 ghost use Rattle.basic.specs.Checked.{basic_checked};
 ghost use Rattle.machines.specs.Runs.{lent, ran};
@@ -47,7 +47,7 @@ fn closure_parts(s: &[u8], at: BitPlace) -> Parts
 // A conditional, whose first arm begins at a place.
 fn arms_parts(s: &[u8], at: BitPlace) -> Parts
     requires { length s.now ≤ 65536 }
-    ensures { (p : ℕ) (c : Basic) → token_at s.now 15 p ≡ got branch_t_lem at.0 → Reads s.now p c
+    ensures { (p : ℕ) (c : Basic) → token_at s.now 15 p ≡ got branch_t at.0 → Reads s.now p c
         → Parted s.now p c result }
 {
     match basic::read_list(s, at, 15) {
@@ -62,7 +62,7 @@ fn arms_parts(s: &[u8], at: BitPlace) -> Parts
 // A make-cont, whose saved list begins at a place.
 fn saved_parts(s: &[u8], at: BitPlace) -> Parts
     requires { length s.now ≤ 65536 }
-    ensures { (p n : ℕ) (c : Basic) → token_at s.now 15 p ≡ got (save_t_lem n) at.0 → Reads s.now p c
+    ensures { (p n : ℕ) (c : Basic) → token_at s.now 15 p ≡ got (save_t n) at.0 → Reads s.now p c
         → Parted s.now p c result }
 {
     match basic::read_list(s, at, 15) {

@@ -8,9 +8,9 @@ pub data Code : Type 0 where
   return : Code → Code
   call : ℕ → Code → Code
   -- first arm, second arm
-  unless_false_lem : Code → Code → Code → Code
+  unless_false : Code → Code → Code → Code
   -- n, saved list
-  make_cont_lem : ℕ → Code → Code → Code
+  make_cont : ℕ → Code → Code → Code
 
 -- one instruction, without the rest
 pub data Instr : Type 0 where
@@ -24,8 +24,8 @@ unfoldable pub put : Instr → Code → Code
 put (neutral_i op ns) c = neutral op ns c
 put return_i c = return c
 put (call_i n) c = call n c
-put (unless_i x y) c = unless_false_lem x y c
-put (cont_i n x) c = make_cont_lem n x c
+put (unless_i x y) c = unless_false x y c
+put (cont_i n x) c = make_cont n x c
 
 -- an instruction without lists, by its code and its operands
 unfoldable pub simple : ℕ → List ℕ → Instr
@@ -37,5 +37,5 @@ bits done = 5
 bits (neutral op ns r) = 5 + 8 * length ns + bits r
 bits (return r) = 5 + bits r
 bits (call n r) = 13 + bits r
-bits (unless_false_lem x y r) = 5 + bits x + bits y + bits r
-bits (make_cont_lem n x r) = 13 + bits x + bits r
+bits (unless_false x y r) = 5 + bits x + bits y + bits r
+bits (make_cont n x r) = 13 + bits x + bits r

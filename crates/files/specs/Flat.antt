@@ -1,6 +1,6 @@
 -- Flattening (document 01, 'Flattening'; 000, section 5), and refusal 8.
 use Rattle.std.specs.Prelude.{ℕ, ◌+◌, ◌/◌, ◌%◌, Bool, true, false, ◌&&◌, List, [], ◌∷◌, ◌++◌, length, leb}
-use Rattle.files.specs.Code.{Code, done, neutral, return, call, unless_false_lem, make_cont_lem}
+use Rattle.files.specs.Code.{Code, done, neutral, return, call, unless_false, make_cont}
 use Rattle.files.specs.Grammar.{is_closed}
 use Rattle.files.specs.Tree.{Template}
 
@@ -19,8 +19,8 @@ flat done = []
 flat (neutral op ns r) = op ∷ (ns ++ flat r)
 flat (return r) = 1 ∷ flat r
 flat (call n r) = 2 ∷ n ∷ flat r
-flat (unless_false_lem x y r) = conditional (is_closed x) (flat x) (flat y) (flat r)
-flat (make_cont_lem n x r) = 4 ∷ offset (length (flat r)) ++ (n ∷ (flat r ++ flat x))
+flat (unless_false x y r) = conditional (is_closed x) (flat x) (flat y) (flat r)
+flat (make_cont n x r) = 4 ∷ offset (length (flat r)) ++ (n ∷ (flat r ++ flat x))
 
 -- 8: no offset exceeds 65,535
 abbrev pub fits_offset : ℕ → Bool
@@ -35,8 +35,8 @@ offsets_fit done = true
 offsets_fit (neutral op ns r) = offsets_fit r
 offsets_fit (return r) = offsets_fit r
 offsets_fit (call n r) = offsets_fit r
-offsets_fit (unless_false_lem x y r) = arms_fit (is_closed x) (length (flat x)) (length (flat y)) && (offsets_fit x && (offsets_fit y && offsets_fit r))
-offsets_fit (make_cont_lem n x r) = fits_offset (length (flat r)) && (offsets_fit x && offsets_fit r)
+offsets_fit (unless_false x y r) = arms_fit (is_closed x) (length (flat x)) (length (flat y)) && (offsets_fit x && (offsets_fit y && offsets_fit r))
+offsets_fit (make_cont n x r) = fits_offset (length (flat r)) && (offsets_fit x && offsets_fit r)
 
 abbrev pub offset_template : Template → Bool
 offset_template t = offsets_fit t.code

@@ -1,7 +1,7 @@
 -- Open and closed lists (document 01, 'Open and closed'), and indices (refusals 6 and 7).
 use Rattle.std.specs.Prelude.{ℕ, zero, suc, ◌+◌, Bool, true, false, cond, ◌&&◌, ◌||◌, List, [], ◌∷◌, get_or, leb, eqb}
 use Rattle.std.proofs.Math.Option.{Option, none, some}
-use Rattle.files.specs.Code.{Code, done, neutral, return, call, unless_false_lem, make_cont_lem}
+use Rattle.files.specs.Code.{Code, done, neutral, return, call, unless_false, make_cont}
 use Rattle.files.specs.Entries.{Entry, constant, global, template}
 use Rattle.files.specs.Tree.{Template}
 
@@ -10,8 +10,8 @@ is_empty done = true
 is_empty (neutral op ns r) = false
 is_empty (return r) = false
 is_empty (call n r) = false
-is_empty (unless_false_lem x y r) = false
-is_empty (make_cont_lem n x r) = false
+is_empty (unless_false x y r) = false
+is_empty (make_cont n x r) = false
 
 unfoldable mutual
   unfolding is_empty
@@ -21,16 +21,16 @@ unfoldable mutual
   is_open (neutral op ns r) = is_empty r || is_open r
   is_open (return r) = false
   is_open (call n r) = false
-  is_open (unless_false_lem x y r) = is_open x && is_open y && (is_empty r || is_open r)
-  is_open (make_cont_lem n x r) = (is_empty x || is_open x) && is_closed r
+  is_open (unless_false x y r) = is_open x && is_open y && (is_empty r || is_open r)
+  is_open (make_cont n x r) = (is_empty x || is_open x) && is_closed r
 
   pub is_closed : Code → Bool
   is_closed done = false
   is_closed (neutral op ns r) = is_closed r
   is_closed (return r) = is_empty r
   is_closed (call n r) = is_empty r
-  is_closed (unless_false_lem x y r) = (is_open x && is_open y && is_closed r) || (is_empty r && is_closed x && is_closed y)
-  is_closed (make_cont_lem n x r) = is_closed x && is_closed r
+  is_closed (unless_false x y r) = (is_open x && is_open y && is_closed r) || (is_empty r && is_closed x && is_closed y)
+  is_closed (make_cont n x r) = is_closed x && is_closed r
 
 -- ---- entries by index; index 0 is never usable
 unfoldable pub entry_of : List Entry → ℕ → Option Entry
@@ -56,8 +56,8 @@ each_neutral ok done = true
 each_neutral ok (neutral op ns r) = ok op (get_or ns 0 0) && each_neutral ok r
 each_neutral ok (return r) = each_neutral ok r
 each_neutral ok (call n r) = each_neutral ok r
-each_neutral ok (unless_false_lem x y r) = each_neutral ok x && each_neutral ok y && each_neutral ok r
-each_neutral ok (make_cont_lem n x r) = each_neutral ok x && each_neutral ok r
+each_neutral ok (unless_false x y r) = each_neutral ok x && each_neutral ok y && each_neutral ok r
+each_neutral ok (make_cont n x r) = each_neutral ok x && each_neutral ok r
 
 unfoldable pub indices_fit : List Entry → Code → Bool
 unfolding index_fits each_neutral

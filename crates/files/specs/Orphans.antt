@@ -1,7 +1,7 @@
 -- Orphan templates (document 02, request 4; refusal 24): those other than 0 that no closure instruction of any template names.
 use Rattle.std.specs.Prelude.{ℕ, zero, suc, ◌+◌, ◌-◌, Bool, false, cond, ◌&&◌, ◌||◌, List, [], ◌∷◌, length, get_or, eqb}
 use Rattle.std.proofs.Math.Option.{Option, none, some}
-use Rattle.files.specs.Code.{Code, done, neutral, return, call, unless_false_lem, make_cont_lem}
+use Rattle.files.specs.Code.{Code, done, neutral, return, call, unless_false, make_cont}
 use Rattle.files.specs.Entries.{Entry, constant, global, template}
 use Rattle.files.specs.Tree.{Template}
 use Rattle.files.specs.Grammar.{entry_of}
@@ -20,8 +20,8 @@ closes es u done = false
 closes es u (neutral op ns r) = (eqb op 7 && is_template u (entry_of es (get_or ns 0 0))) || closes es u r
 closes es u (return r) = closes es u r
 closes es u (call m r) = closes es u r
-closes es u (unless_false_lem x y r) = closes es u x || (closes es u y || closes es u r)
-closes es u (make_cont_lem m x r) = closes es u x || closes es u r
+closes es u (unless_false x y r) = closes es u x || (closes es u y || closes es u r)
+closes es u (make_cont m x r) = closes es u x || closes es u r
 
 -- a closure instruction of some template, an orphan too, names template u
 unfoldable pub closure_names : List Template → ℕ → Bool

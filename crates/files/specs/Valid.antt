@@ -1,7 +1,7 @@
 -- What a list that was read is like: a neutral code has as many operands as it takes, and every operand is a byte.
 use Rattle.std.specs.Prelude.{ℕ, ◌<◌, ◌≡◌, true, List, [], ◌∷◌, length}
 use Rattle.files.specs.Codes.{is_neutral, operands}
-use Rattle.files.specs.Code.{Code, done, neutral, return, call, unless_false_lem, make_cont_lem, Instr, neutral_i, return_i, call_i, unless_i, cont_i}
+use Rattle.files.specs.Code.{Code, done, neutral, return, call, unless_false, make_cont, Instr, neutral_i, return_i, call_i, unless_i, cont_i}
 
 unfoldable pub Bytes : List ℕ → Type 0
 Bytes [] = Unit
@@ -12,8 +12,8 @@ Valid done = Unit
 Valid (neutral op ns r) = (is_neutral op ≡ true) × (operands op ≡ length ns) × Bytes ns × Valid r
 Valid (return r) = Valid r
 Valid (call n r) = (n < 256) × Valid r
-Valid (unless_false_lem x y r) = Valid x × Valid y × Valid r
-Valid (make_cont_lem n x r) = (n < 256) × Valid x × Valid r
+Valid (unless_false x y r) = Valid x × Valid y × Valid r
+Valid (make_cont n x r) = (n < 256) × Valid x × Valid r
 
 unfoldable pub ValidInstr : Instr → Type 0
 ValidInstr (neutral_i op ns) = (is_neutral op ≡ true) × (operands op ≡ length ns) × Bytes ns

@@ -1,6 +1,6 @@
 -- What is known of operands that were read, and where their parts stand: what the functions tell each other.
 use Rattle.std.specs.Prelude.{ℕ, ◌+◌, ◌*◌, ◌≤◌, ◌≡◌, List, [], ◌∷◌, length}
-use Rattle.files.specs.Code.{Code, done, neutral, return, call, unless_false_lem, make_cont_lem, bits}
+use Rattle.files.specs.Code.{Code, done, neutral, return, call, unless_false, make_cont, bits}
 use Rattle.files.specs.Valid.{Valid}
 use Rattle.files.specs.Reading.{got}
 use Rattle.files.specs.Tree.{Template, tree_read}
@@ -62,8 +62,8 @@ turn_of p done = There
 turn_of p (neutral op ns y) = Past (record { 0 = p + (5 + 8 * length ns) })
 turn_of p (return y) = Past (record { 0 = p + 5 })
 turn_of p (call n y) = Past (record { 0 = p + 13 })
-turn_of p (unless_false_lem y₁ y₂ y) = Past (record { 0 = p + 5 + bits y₁ + bits y₂ })
-turn_of p (make_cont_lem n y b) = Within (record { 0 = p + 13 })
+turn_of p (unless_false y₁ y₂ y) = Past (record { 0 = p + 5 + bits y₁ + bits y₂ })
+turn_of p (make_cont n y b) = Within (record { 0 = p + 13 })
 
 -- the place past the last list
 unfoldable pub file_end : List Template → ℕ

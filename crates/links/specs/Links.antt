@@ -2,7 +2,7 @@
 -- share a link). At unless-false: the first bit of the second arm; at make-cont: the first bit of its rest; at a list's end: where
 -- execution goes on. After an arm that is what follows its conditional, after a saved list the end of the list that holds its make-cont.
 use Rattle.std.specs.Prelude.{ℕ, ◌+◌, ◌*◌, ◌/◌, List, [], ◌∷◌, length, get_or, set}
-use Rattle.files.specs.Code.{Code, done, neutral, return, call, unless_false_lem, make_cont_lem, bits}
+use Rattle.files.specs.Code.{Code, done, neutral, return, call, unless_false, make_cont, bits}
 use Rattle.files.specs.Tree.{Template}
 
 -- the link of a place
@@ -18,13 +18,13 @@ linked L p e f done = link L p f
 linked L p e f (neutral op ns r) = linked L (p + (5 + 8 * length ns)) e f r
 linked L p e f (return r) = linked L (p + 5) e f r
 linked L p e f (call n r) = linked L (p + 13) e f r
-linked L p e f (unless_false_lem x y r) =
+linked L p e f (unless_false x y r) =
     linked
     (linked
     (linked (link L p (p + 5 + bits x)) (p + 5) (p + bits x) (p + 5 + bits x + bits y) x)
     (p + 5 + bits x) (p + bits x + bits y) (p + 5 + bits x + bits y) y)
     (p + 5 + bits x + bits y) e f r
-linked L p e f (make_cont_lem n x r) =
+linked L p e f (make_cont n x r) =
     linked (linked (link L p (p + 13 + bits x)) (p + 13) (p + 8 + bits x) e x) (p + 13 + bits x) e f r
 
 -- the same of templates; a template's list never runs out, and neither does a saved list of it

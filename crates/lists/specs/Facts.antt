@@ -2,7 +2,7 @@
 use Rattle.std.specs.Prelude.{ℕ, ◌+◌, ◌*◌, ◌%◌, ◌^◌, Bool, true, false, cond, ◌&&◌, List, length, get_or, leb, eqb}
 use Rattle.std.proofs.Math.Option.{Option, none, some}
 use Rattle.cells.specs.Cells.{tag_of}
-use Rattle.files.specs.Code.{Code, done, neutral, return, call, unless_false_lem, make_cont_lem}
+use Rattle.files.specs.Code.{Code, done, neutral, return, call, unless_false, make_cont}
 use Rattle.files.specs.Reading.{Got, got, refused}
 use Rattle.files.specs.Entries.{Entry, constant, global, template}
 use Rattle.files.specs.Grammar.{is_empty, is_open, is_closed, entry_of, each_neutral}
@@ -39,8 +39,8 @@ unite_neutral f done = 0
 unite_neutral f (neutral op ns r) = unite (f op (get_or ns 0 0)) (unite_neutral f r)
 unite_neutral f (return r) = unite_neutral f r
 unite_neutral f (call n r) = unite_neutral f r
-unite_neutral f (unless_false_lem x y r) = unite (unite (unite_neutral f x) (unite_neutral f y)) (unite_neutral f r)
-unite_neutral f (make_cont_lem n x r) = unite (unite_neutral f x) (unite_neutral f r)
+unite_neutral f (unless_false x y r) = unite (unite (unite_neutral f x) (unite_neutral f y)) (unite_neutral f r)
+unite_neutral f (make_cont n x r) = unite (unite_neutral f x) (unite_neutral f r)
 
 -- the template that a neutral code names, if it is a closure whose entry suits it, as a set
 unfoldable pub slot_closes : List ℕ → ℕ → ℕ → ℕ → ℕ

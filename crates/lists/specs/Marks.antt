@@ -1,7 +1,7 @@
 -- Marks: what reading keeps of each list, by the list's first place / 5 (a list has at least 5 bits, so two of them never share a mark). For
 -- the flattener twice the size of its flat code, and 1 more if it is closed; for the links the place past it.
 use Rattle.std.specs.Prelude.{ℕ, ◌+◌, ◌*◌, ◌/◌, ◌≡◌, Bool, cond, List, length, get_or, set, eqb}
-use Rattle.files.specs.Code.{Code, done, neutral, return, call, unless_false_lem, make_cont_lem, bits, Instr, neutral_i, return_i, call_i, unless_i, cont_i}
+use Rattle.files.specs.Code.{Code, done, neutral, return, call, unless_false, make_cont, bits, Instr, neutral_i, return_i, call_i, unless_i, cont_i}
 use Rattle.files.specs.Reading.{Got, got, refused, Head, stop, item, bad}
 use Rattle.files.specs.Grammar.{is_closed}
 use Rattle.files.specs.Flat.{flat}
@@ -35,13 +35,13 @@ marked_in k M p done = M
 marked_in k M p (neutral op ns r) = marked_in k M (p + (5 + 8 * length ns)) r
 marked_in k M p (return r) = marked_in k M (p + 5) r
 marked_in k M p (call n r) = marked_in k M (p + 13) r
-marked_in k M p (unless_false_lem x y r) =
+marked_in k M p (unless_false x y r) =
     marked_in k
     (mark
     (marked_in k (mark (marked_in k M (p + 5) x) (p + 5) (mark_of k x (p + 5 + bits x))) (p + 5 + bits x) y)
     (p + 5 + bits x) (mark_of k y (p + 5 + bits x + bits y)))
     (p + 5 + bits x + bits y) r
-marked_in k M p (make_cont_lem n x r) =
+marked_in k M p (make_cont n x r) =
     marked_in k (mark (marked_in k M (p + 13) x) (p + 13) (mark_of k x (p + 13 + bits x))) (p + 13 + bits x) r
 
 -- with its own
@@ -73,11 +73,11 @@ HasIn k M p done = Unit
 HasIn k M p (neutral op ns r) = HasIn k M (p + (5 + 8 * length ns)) r
 HasIn k M p (return r) = HasIn k M (p + 5) r
 HasIn k M p (call n r) = HasIn k M (p + 13) r
-HasIn k M p (unless_false_lem x y r) =
+HasIn k M p (unless_false x y r) =
     ((mark_at M (p + 5) ≡ mark_of k x (p + 5 + bits x)) × HasIn k M (p + 5) x)
     × ((mark_at M (p + 5 + bits x) ≡ mark_of k y (p + 5 + bits x + bits y)) × HasIn k M (p + 5 + bits x) y)
     × HasIn k M (p + 5 + bits x + bits y) r
-HasIn k M p (make_cont_lem n x r) = ((mark_at M (p + 13) ≡ mark_of k x (p + 13 + bits x)) × HasIn k M (p + 13) x) × HasIn k M (p + 13 + bits x) r
+HasIn k M p (make_cont n x r) = ((mark_at M (p + 13) ≡ mark_of k x (p + 13 + bits x)) × HasIn k M (p + 13) x) × HasIn k M (p + 13 + bits x) r
 
 -- and its own
 abbrev pub Has : Keep → List ℕ → ℕ → Code → Type 0

@@ -3,7 +3,7 @@ use Rattle.std.specs.Prelude.{ℕ, zero, suc, ◌+◌, ◌≤◌, ◌≡◌, Boo
 use Rattle.fields.specs.Field.{field_at}
 use Rattle.cells.specs.declared.BitPlace.{BitPlace}
 use Rattle.files.specs.Codes.{shape_of}
-use Rattle.files.specs.Code.{Code, done, neutral, return, call, unless_false_lem, make_cont_lem, Instr, neutral_i, return_i, call_i, unless_i, cont_i}
+use Rattle.files.specs.Code.{Code, done, neutral, return, call, unless_false, make_cont, Instr, neutral_i, return_i, call_i, unless_i, cont_i}
 use Rattle.files.specs.Reading.{Got, got, refused, Head, stop, item, bad, bottom, below, shaped, head_at, deep_of, list_at}
 use Rattle.files.specs.Flat.{fits_offset, arms_fit}
 use Rattle.lists.specs.declared.Facts.{Facts}
@@ -116,8 +116,8 @@ run table own done st = st
 run table own (neutral op ns r) st = run table own r (state_after st (added_by table own (neutral_i op ns)))
 run table own (return r) st = run table own r (state_after st (added_by table own return_i))
 run table own (call n r) st = run table own r (state_after st (added_by table own (call_i n)))
-run table own (unless_false_lem x y r) st = run table own r (state_after st (added_by table own (unless_i x y)))
-run table own (make_cont_lem n x r) st = run table own r (state_after st (added_by table own (cont_i n x)))
+run table own (unless_false x y r) st = run table own r (state_after st (added_by table own (unless_i x y)))
+run table own (make_cont n x r) st = run table own r (state_after st (added_by table own (cont_i n x)))
 
 -- ---- what is answered, without the code
 -- a list of which what is known up to here is st

@@ -4,7 +4,7 @@ use Rattle.std.proofs.Math.Bool.{cond}
 use Rattle.std.proofs.Math.Option.{Option, none, some}
 use Rattle.std.proofs.Math.ListN.{length}
 use Rattle.files.specs.Codes.{operand_bytes}
-use Rattle.files.specs.Code.{Code, done, neutral, return, call, unless_false_lem, make_cont_lem, bits}
+use Rattle.files.specs.Code.{Code, done, neutral, return, call, unless_false, make_cont, bits}
 use Rattle.files.specs.Entries.{Entry, constant, global, template}
 use Rattle.files.specs.Grammar.{is_closed, entry_of}
 use Rattle.files.specs.Tree.{Template}
@@ -107,8 +107,8 @@ module _ (es : List Entry) where
   first s (neutral op ns r) F = plainly (resolve es op ns) (s + (5 + 8 * length ns))
   first s (return r) F = returns
   first s (call n r) F = calls n
-  first s (unless_false_lem x y r) F = branches (open_count (is_closed x)) (s + 5) (s + 5 + bits x)
-  first s (make_cont_lem n x r) F = saves n (s + 13) (s + 13 + bits x)
+  first s (unless_false x y r) F = branches (open_count (is_closed x)) (s + 5) (s + 5 + bits x)
+  first s (make_cont n x r) F = saves n (s + 13) (s + 13 + bits x)
 
   -- what stands at place p of a list: what begins it, or by `more` what stands beyond that
   abbrev pub look_by : (ℕ → Fetched → ℕ → Fetched) → ℕ → Code → Fetched → ℕ → Fetched
@@ -120,11 +120,11 @@ module _ (es : List Entry) where
   beyond (neutral op ns r) s F p = look_by (beyond r) (s + (5 + 8 * length ns)) r F p
   beyond (return r) s F p = look_by (beyond r) (s + 5) r F p
   beyond (call n r) s F p = look_by (beyond r) (s + 13) r F p
-  beyond (unless_false_lem x y r) s F p =
+  beyond (unless_false x y r) s F p =
       cond (ltb p (s + 5 + bits x)) (look_by (beyond x) (s + 5) x (first (s + 5 + bits x + bits y) r F) p)
       (cond (ltb p (s + 5 + bits x + bits y)) (look_by (beyond y) (s + 5 + bits x) y (first (s + 5 + bits x + bits y) r F) p)
       (look_by (beyond r) (s + 5 + bits x + bits y) r F p))
-  beyond (make_cont_lem n x r) s F p = cond (ltb p (s + 13 + bits x)) (look_by (beyond x) (s + 13) x F p) (look_by (beyond r) (s + 13 + bits x) r bad p)
+  beyond (make_cont n x r) s F p = cond (ltb p (s + 13 + bits x)) (look_by (beyond x) (s + 13) x F p) (look_by (beyond r) (s + 13 + bits x) r bad p)
 
   unfoldable pub look : ℕ → Code → Fetched → ℕ → Fetched
   unfolding first beyond

@@ -1,7 +1,7 @@
 -- Code of a tree file as codes and operand bytes one after the other, whatever lists they stand in; and with new indices.
 use Rattle.std.specs.Prelude.{ℕ, ◌+◌, ◌<◌, ◌≡◌, cond, ◌||◌, List, [], ◌∷◌, ◌++◌, length, get_or, eqb, ltb}
 use Rattle.files.specs.Codes.{shape_of}
-use Rattle.files.specs.Code.{Code, done, neutral, return, call, unless_false_lem, make_cont_lem}
+use Rattle.files.specs.Code.{Code, done, neutral, return, call, unless_false, make_cont}
 use Rattle.files.specs.Valid.{Bytes}
 use Rattle.files.specs.Linear.{bits_of}
 use Rattle.readback.specs.Bits.{Stands}
@@ -25,8 +25,8 @@ tokens done ts = ts
 tokens (neutral op ns r) ts = token op ns ∷ tokens r ts
 tokens (return r) ts = token 1 [] ∷ tokens r ts
 tokens (call n r) ts = token 2 (n ∷ []) ∷ tokens r ts
-tokens (unless_false_lem x y r) ts = token 3 [] ∷ tokens x (end ∷ tokens y (end ∷ tokens r ts))
-tokens (make_cont_lem n x r) ts = token 4 (n ∷ []) ∷ tokens x (end ∷ tokens r ts)
+tokens (unless_false x y r) ts = token 3 [] ∷ tokens x (end ∷ tokens y (end ∷ tokens r ts))
+tokens (make_cont n x r) ts = token 4 (n ∷ []) ∷ tokens x (end ∷ tokens r ts)
 
 -- its bits, without those of its code 0
 unfoldable pub body_bits : Code → List ℕ
@@ -34,8 +34,8 @@ body_bits done = []
 body_bits (neutral op ns r) = (bits_of 5 op ++ operands_bits ns) ++ body_bits r
 body_bits (return r) = bits_of 5 1 ++ body_bits r
 body_bits (call n r) = (bits_of 5 2 ++ bits_of 8 n) ++ body_bits r
-body_bits (unless_false_lem x y r) = (bits_of 5 3 ++ (list_bits x ++ list_bits y)) ++ body_bits r
-body_bits (make_cont_lem n x r) = (bits_of 5 4 ++ (bits_of 8 n ++ list_bits x)) ++ body_bits r
+body_bits (unless_false x y r) = (bits_of 5 3 ++ (list_bits x ++ list_bits y)) ++ body_bits r
+body_bits (make_cont n x r) = (bits_of 5 4 ++ (bits_of 8 n ++ list_bits x)) ++ body_bits r
 
 unfoldable pub token_bits : Token → List ℕ
 token_bits t = bits_of 5 t.code ++ operands_bits t.operands

@@ -17,7 +17,7 @@ pub record OwnList (s : List ℕ) (p e n : ℕ) : Type 0 where
   pub few : n + inside list ≤ 256
 
 pub data CollectedIs (es : List Entry) (b : ℕ) (table : List ℕ) : Collected → Type 0 where
-  many_entries_lem : 255 < length es → CollectedIs es b table Many
+  many_entries : 255 < length es → CollectedIs es b table Many
   few_entries : (count size : ℕ) → length es ≤ 255 → count ≡ length es → size ≡ b → take count table ≡ slots_of es → AllFit es
       → CollectedIs es b table (Entries count size)
 

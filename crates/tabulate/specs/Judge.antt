@@ -33,7 +33,7 @@ pub data ClosedIs (c : Basic) : Closed → Type 0 where
   but_one : (t : ℕ) → lowest closed_template 0 (tabulated c) ≡ some t → ClosedIs c (But t)
 
 pub data MeasuredIs (ts : List Template) : Measured → Type 0 where
-  too_large_lem : entries_fit ts ≡ false → MeasuredIs ts Large
+  too_large : entries_fit ts ≡ false → MeasuredIs ts Large
   measured : (b : ℕ) → entries_fit ts ≡ true → b ≡ length (templates_bits ts) → b ≤ 134217728 → MeasuredIs ts (Bits b)
 
 -- the templates from number own on, the list of which begins at p; m in all have a higher number than 0

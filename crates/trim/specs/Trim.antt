@@ -1,7 +1,7 @@
 -- Templates trimmed (document 02, request 5): orphan templates and entries that no instruction names are taken out, again and again until nothing more can
 -- go, and the rest is renumbered in its old order.
 use Rattle.std.specs.Prelude.{ℕ, zero, suc, ◌+◌, Bool, true, false, cond, ◌&&◌, ◌||◌, List, [], ◌∷◌, map, length, get_or, leb, eqb}
-use Rattle.files.specs.Code.{Code, done, neutral, return, call, unless_false_lem, make_cont_lem}
+use Rattle.files.specs.Code.{Code, done, neutral, return, call, unless_false, make_cont}
 use Rattle.files.specs.Entries.{Entry, constant, global, template}
 use Rattle.files.specs.Tree.{Template}
 use Rattle.files.specs.Orphans.{closes}
@@ -15,8 +15,8 @@ names n done = false
 names n (neutral op ns r) = (leb op 9 && eqb (get_or ns 0 0) n) || names n r
 names n (return r) = names n r
 names n (call m r) = names n r
-names n (unless_false_lem x y r) = names n x || (names n y || names n r)
-names n (make_cont_lem m x r) = names n x || names n r
+names n (unless_false x y r) = names n x || (names n y || names n r)
+names n (make_cont m x r) = names n x || names n r
 
 -- entries are numbered from 1
 unfoldable pub new_index : Code → ℕ → ℕ

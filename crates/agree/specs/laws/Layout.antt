@@ -3,7 +3,7 @@ use Rattle.std.specs.Prelude.{ℕ, suc, ◌+◌, ◌*◌, ◌≤◌, ◌<◌, �
 use Rattle.std.proofs.Common.{arith, ap, ◌∙◌, append_assoc, length-append, length-drop, drop-drop}
 use Rattle.std.proofs.Math.Bool.{and-eq-true_iff}
 use Rattle.std.proofs.Math.Seq.{drop-append_seam}
-use Rattle.files.specs.Code.{Code, neutral, unless_false_lem, make_cont_lem, bits}
+use Rattle.files.specs.Code.{Code, neutral, unless_false, make_cont, bits}
 use Rattle.files.specs.Entries.{Entry}
 use Rattle.files.specs.laws.ReadingLaws.{least_bits}
 use Rattle.files.specs.Flat.{flat}
@@ -49,7 +49,7 @@ module _ (es : List Entry) where
           indexed = ((and-eq-true_iff (index_fits es op (get_or ns 0 0)) (indices_fit es r)).0 u.indexed).1;
         }
 
-    module _ {s : ℕ} {x y r : Code} {F : Fetched} (u : Sub s (unless_false_lem x y r) F) where
+    module _ {s : ℕ} {x y r : Code} {F : Fetched} (u : Sub s (unless_false x y r) F) where
       pub sub_first : Sub (s + 5) x (first es (s + 5 + bits x + bits y) r F)
       unfolding bits indices_fit each_neutral
       sub_first =
@@ -79,7 +79,7 @@ module _ (es : List Entry) where
             indexed = ((and-eq-true_iff (indices_fit es x && indices_fit es y) (indices_fit es r)).0 u.indexed).1;
           }
 
-    module _ {s n : ℕ} {x r : Code} {F : Fetched} (u : Sub s (make_cont_lem n x r) F) where
+    module _ {s n : ℕ} {x r : Code} {F : Fetched} (u : Sub s (make_cont n x r) F) where
       pub sub_saved : Sub (s + 13) x F
       unfolding bits indices_fit each_neutral
       sub_saved =

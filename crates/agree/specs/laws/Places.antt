@@ -11,7 +11,7 @@ use Rattle.std.proofs.Math.ListN.{length, length-append}
 use Rattle.std.proofs.Math.Seq.{take-append_seam}
 use Rattle.files.specs.Codes.{shape_of, is_neutral, operands}
 use Rattle.files.specs.laws.CodesLaws.{neutral_alike}
-use Rattle.files.specs.Code.{Code, done, neutral, return, call, unless_false_lem, make_cont_lem, bits}
+use Rattle.files.specs.Code.{Code, done, neutral, return, call, unless_false, make_cont, bits}
 use Rattle.files.specs.Entries.{Entry}
 use Rattle.files.specs.laws.ReadingLaws.{least_bits}
 use Rattle.files.specs.Grammar.{is_closed, index_fits, each_neutral, indices_fit}
@@ -110,8 +110,8 @@ module _ (ts : List Template) (ls : List Linear) (twins : (t : ℕ) → Twins (g
           (plains (fits_resolves es op ns o.0 ((and-eq-true_iff (index_fits es op (get_or ns 0 0)) (indices_fit es r)).0 u.indexed).0)
           (both o.2 (sub_neutral es tree u) (at_skip W (op ∷ ns) (flat r) a (omega arith)) (omega (arith, length-append ns (flat r))) z))
 
-      at_cont : {n : ℕ} {x r : Code} → Ok k (make_cont_lem n x r) → Sub es tree s (make_cont_lem n x r) F → At W q (flat (make_cont_lem n x r))
-          → q + length (flat (make_cont_lem n x r)) ≡ e → MeetsAt (first es s (make_cont_lem n x r) F) q j
+      at_cont : {n : ℕ} {x r : Code} → Ok k (make_cont n x r) → Sub es tree s (make_cont n x r) F → At W q (flat (make_cont n x r))
+          → q + length (flat (make_cont n x r)) ≡ e → MeetsAt (first es s (make_cont n x r) F) q j
       unfolding Ok flat first same_but_places
       at_cont {n} {x} {r} o u a h =
           let m = div-add-mod (length (flat r)) 256 in
@@ -177,9 +177,9 @@ module _ (ts : List Template) (ls : List Linear) (twins : (t : ℕ) → Twins (g
       heads (neutral op ns r) o u a h f = at_neutral o u a h
       heads (return r) o u a h f = rw (shut_zero z o.0) (now_m (lin_is _ ∙ decoded.lin_return es W a) return_m)
       heads (call n r) o u a h f = rw (shut_zero z o.0) (now_m (lin_is _ ∙ decoded.lin_call es W a) call_m)
-      heads (unless_false_lem x y r) o u a h f =
+      heads (unless_false x y r) o u a h f =
           at_unless (is_closed x) o.0 o.1 o.2 (sub_first es tree u) (sub_second es tree u) (sub_rest es tree u) a h
-      heads (make_cont_lem n x r) o u a h f = at_cont o u a h
+      heads (make_cont n x r) o u a h f = at_cont o u a h
 
     mutual
       meets : {F : Fetched} {q j : ℕ} → Spot es tree W lin F q j → MeetsAt F q j

@@ -3,7 +3,7 @@
 use Rattle.std.specs.Prelude.{ℕ, ◌≡◌, refl, Bool, true, false, ◌&&◌, ◌||◌, List, ◌⊎◌}
 use Rattle.std.proofs.Common.{arith, inl, inr, ⊎_elim}
 use Rattle.std.proofs.Math.Bool.{and-eq-true_iff, and-true}
-use Rattle.files.specs.Code.{Code, done, neutral, return, call, unless_false_lem, make_cont_lem}
+use Rattle.files.specs.Code.{Code, done, neutral, return, call, unless_false, make_cont}
 use Rattle.files.specs.Grammar.{is_empty, is_open, is_closed}
 use Rattle.files.specs.laws.GrammarLaws.{never, empty_done}
 
@@ -13,10 +13,10 @@ pub data Formed : Bool → Code → Type 0 where
   before : {op : ℕ} {k : Bool} {ns : List ℕ} {r : Code} → Formed k r → Formed k (neutral op ns r)
   returning : Formed true (return done)
   calling : {n : ℕ} → Formed true (call n done)
-  closed_arms_lem : {x y : Code} → Formed true x → Formed true y → Formed true (unless_false_lem x y done)
-  open_arms_lem : {k : Bool} {x y r : Code} → Formed false x → Formed false y → is_empty x ≡ false → is_empty y ≡ false → Formed k r
-      → Formed k (unless_false_lem x y r)
-  saving : {n : ℕ} {k : Bool} {x r : Code} → Formed k x → Formed true r → Formed k (make_cont_lem n x r)
+  closed_arms : {x y : Code} → Formed true x → Formed true y → Formed true (unless_false x y done)
+  open_arms : {k : Bool} {x y r : Code} → Formed false x → Formed false y → is_empty x ≡ false → is_empty y ≡ false → Formed k r
+      → Formed k (unless_false x y r)
+  saving : {n : ℕ} {k : Bool} {x r : Code} → Formed k x → Formed true r → Formed k (make_cont n x r)
 
 pub both : (a b : Bool) → (a && b) ≡ true → (a ≡ true) × (b ≡ true)
 both a b = (and-eq-true_iff a b).0
@@ -47,8 +47,8 @@ mutual
   closed_is (before g) = closed_is g
   closed_is returning = refl
   closed_is calling = refl
-  closed_is (closed_arms_lem {x = x} {y = y} g h) = rw (closed_is g, closed_is h) (any_arms (is_open x) (is_open y))
-  closed_is (open_arms_lem {k = k} {x = x} {y = y} {r = r} g h e f i) =
+  closed_is (closed_arms {x = x} {y = y} g h) = rw (closed_is g, closed_is h) (any_arms (is_open x) (is_open y))
+  closed_is (open_arms {k = k} {x = x} {y = y} {r = r} g h e f i) =
       rw (other (is_empty x) (is_open x) e (loose_is g), other (is_empty y) (is_open y) f (loose_is h), closed_is i, closed_is g)
       (none_left k (is_empty r) (is_closed y))
   closed_is (saving {k = k} g r) = rw (closed_is g, closed_is r) (and-true k)
@@ -58,8 +58,8 @@ mutual
   loose_is (before g) = loose_is g
   loose_is returning = refl
   loose_is calling = refl
-  loose_is (closed_arms_lem g h) = refl
-  loose_is (open_arms_lem {x = x} {y = y} g h e f i) =
+  loose_is (closed_arms g h) = refl
+  loose_is (open_arms {x = x} {y = y} g h e f i) =
       rw (other (is_empty x) (is_open x) e (loose_is g), other (is_empty y) (is_open y) f (loose_is h)) (loose_is i)
   loose_is (saving {x = x} g r) = rw (closed_is r, and-true (is_empty x || is_open x)) (loose_is g)
 
@@ -73,8 +73,8 @@ open_some done e = never e
 open_some (neutral op ns r) e = refl
 open_some (return r) e = refl
 open_some (call n r) e = refl
-open_some (unless_false_lem x y r) e = refl
-open_some (make_cont_lem n x r) e = refl
+open_some (unless_false x y r) e = refl
+open_some (make_cont n x r) e = refl
 
 loose : (a b : Bool) → b ≡ true → (a || b) ≡ true
 loose true b e = refl
@@ -88,33 +88,33 @@ mutual
   closed_formed (neutral op ns r) e = before (closed_formed r e)
   closed_formed (return r) e = rw (empty_done r e) returning
   closed_formed (call n r) e = rw (empty_done r e) calling
-  closed_formed (unless_false_lem x y r) e =
+  closed_formed (unless_false x y r) e =
       ⊎_elim
       (λ h.
       let a = both (is_open x && is_open y) (is_closed r) h in
       let b = both (is_open x) (is_open y) a.0 in
-      open_arms_lem (loose_formed x (loose (is_empty x) (is_open x) b.0)) (loose_formed y (loose (is_empty y) (is_open y) b.1)) (open_some x b.0)
+      open_arms (loose_formed x (loose (is_empty x) (is_open x) b.0)) (loose_formed y (loose (is_empty y) (is_open y) b.1)) (open_some x b.0)
       (open_some y b.1)
       (closed_formed r a.1))
       (λ h.
       let a = both (is_empty r && is_closed x) (is_closed y) h in
       let b = both (is_empty r) (is_closed x) a.0 in
-      rw (empty_done r b.0) (closed_arms_lem (closed_formed x b.1) (closed_formed y a.1)))
+      rw (empty_done r b.0) (closed_arms (closed_formed x b.1) (closed_formed y a.1)))
       (one_of (is_open x && is_open y && is_closed r) (is_empty r && is_closed x && is_closed y) e)
-  closed_formed (make_cont_lem n x r) e = let a = both (is_closed x) (is_closed r) e in saving (closed_formed x a.0) (closed_formed r a.1)
+  closed_formed (make_cont n x r) e = let a = both (is_closed x) (is_closed r) e in saving (closed_formed x a.0) (closed_formed r a.1)
 
   pub loose_formed : (c : Code) → (is_empty c || is_open c) ≡ true → Formed false c
   loose_formed done e = nothing
   loose_formed (neutral op ns r) e = before (loose_formed r e)
   loose_formed (return r) e = never e
   loose_formed (call n r) e = never e
-  loose_formed (unless_false_lem x y r) e =
+  loose_formed (unless_false x y r) e =
       let a = both (is_open x && is_open y) (is_empty r || is_open r) e in
       let b = both (is_open x) (is_open y) a.0 in
-      open_arms_lem (loose_formed x (loose (is_empty x) (is_open x) b.0)) (loose_formed y (loose (is_empty y) (is_open y) b.1)) (open_some x b.0)
+      open_arms (loose_formed x (loose (is_empty x) (is_open x) b.0)) (loose_formed y (loose (is_empty y) (is_open y) b.1)) (open_some x b.0)
       (open_some y b.1)
       (loose_formed r a.1)
-  loose_formed (make_cont_lem n x r) e = let a = both (is_empty x || is_open x) (is_closed r) e in saving (loose_formed x a.0) (closed_formed r a.1)
+  loose_formed (make_cont n x r) e = let a = both (is_empty x || is_open x) (is_closed r) e in saving (loose_formed x a.0) (closed_formed r a.1)
 
 pub open_formed : (c : Code) → is_open c ≡ true → Formed false c
 open_formed c e = loose_formed c (loose (is_empty c) (is_open c) e)

@@ -1,13 +1,13 @@
 -- A list is good where it is formed and valid, its levels are there and its offsets fit; and its flat code is bytes. Assumes nothing.
 use Rattle.std.specs.Prelude.{ℕ, zero, suc, ◌+◌, ◌≤◌, ◌<◌, ◌≡◌, refl, Bool, true, false, ◌&&◌, List, [], ◌∷◌, ◌++◌, length, leb}
 use Rattle.std.proofs.Common.{arith, leb-true, le-leb}
-use Rattle.files.specs.Code.{Code, done, neutral, return, call, unless_false_lem, make_cont_lem}
+use Rattle.files.specs.Code.{Code, done, neutral, return, call, unless_false, make_cont}
 use Rattle.files.specs.Grammar.{is_empty, is_closed}
 use Rattle.files.specs.Flat.{flat, conditional, arms_fit, offsets_fit}
 use Rattle.files.specs.Valid.{Bytes, Valid}
 use Rattle.readback.specs.laws.Bytes as bytes
 use Rattle.tree_file.specs.File.{levels}
-use Rattle.back.specs.laws.Formed.{Formed, nothing, before, returning, calling, closed_arms_lem, open_arms_lem, saving, both}
+use Rattle.back.specs.laws.Formed.{Formed, nothing, before, returning, calling, closed_arms, open_arms, saving, both}
 use Rattle.back.specs.laws.Formed as formed
 use Rattle.back.specs.laws.Good.{Good, ended, plain, returned, called, shut, arms, cont}
 
@@ -18,8 +18,8 @@ not_empty done h = absurd (omega arith)
 not_empty (neutral op ns r) h = refl
 not_empty (return r) h = refl
 not_empty (call n r) h = refl
-not_empty (unless_false_lem x y r) h = refl
-not_empty (make_cont_lem n x r) h = refl
+not_empty (unless_false x y r) h = refl
+not_empty (make_cont n x r) h = refl
 
 some_conditional : (b : Bool) (x y r : List ℕ) → 1 ≤ length (conditional b x y r)
 unfolding conditional
@@ -32,8 +32,8 @@ some_bytes done e = let z : ◌≡◌ {A = ℕ} 0 1 = cc in absurd (omega arith)
 some_bytes (neutral op ns r) e = omega arith
 some_bytes (return r) e = omega arith
 some_bytes (call n r) e = omega arith
-some_bytes (unless_false_lem x y r) e = some_conditional (is_closed x) (flat x) (flat y) (flat r)
-some_bytes (make_cont_lem n x r) e = omega arith
+some_bytes (unless_false x y r) e = some_conditional (is_closed x) (flat x) (flat y) (flat r)
+some_bytes (make_cont n x r) e = omega arith
 
 -- ---- what a good list is
 pub good_formed : {l : ℕ} {k : Bool} {c : Code} → Good l k c → Formed k c
@@ -41,8 +41,8 @@ good_formed ended = nothing
 good_formed (plain n o b g) = before (good_formed g)
 good_formed returned = returning
 good_formed (called h) = calling
-good_formed (shut g h f) = closed_arms_lem (good_formed g) (good_formed h)
-good_formed (arms {x = x} {y = y} g h r e f i j) = open_arms_lem (good_formed g) (good_formed h) (not_empty x e) (not_empty y f) (good_formed r)
+good_formed (shut g h f) = closed_arms (good_formed g) (good_formed h)
+good_formed (arms {x = x} {y = y} g h r e f i j) = open_arms (good_formed g) (good_formed h) (not_empty x e) (not_empty y f) (good_formed r)
 good_formed (cont g r n f) = saving (good_formed g) (good_formed r)
 
 pub closed_is : {l : ℕ} {k : Bool} {c : Code} → Good l k c → is_closed c ≡ k
@@ -86,13 +86,13 @@ good l nothing v d f = ended
 good l (before g) v d f = plain v.0 v.1 v.2 (good l g v.3 d f)
 good l returning v d f = returned
 good l calling v d f = called v.0
-good zero (closed_arms_lem g h) v d f = absurd (omega arith)
-good (suc l) (closed_arms_lem {x} {y} g h) v d f =
+good zero (closed_arms g h) v d f = absurd (omega arith)
+good (suc l) (closed_arms {x} {y} g h) v d f =
     let a = both (leb (length (flat x)) 65535) (offsets_fit x && (offsets_fit y && true)) (rw (formed.closed_is g) at f) in
     let b = both (offsets_fit x) (offsets_fit y && true) a.1 in
     shut (good l g v.0 (omega arith) b.0) (good l h v.1 (omega arith) (both (offsets_fit y) true b.1).0) (leb-true (length (flat x)) 65535 a.0)
-good zero (open_arms_lem g h a b r) v d f = absurd (omega arith)
-good (suc l) (open_arms_lem {x = x} {y = y} {r = r} g h a b i) v d f =
+good zero (open_arms g h a b r) v d f = absurd (omega arith)
+good (suc l) (open_arms {x = x} {y = y} {r = r} g h a b i) v d f =
     let m = leb (3 + length (flat x)) 65535 in
     let n = leb (length (flat y)) 65535 in
     let e = both (m && n) (offsets_fit x && (offsets_fit y && offsets_fit r)) (rw (formed.closed_is g) at f) in

@@ -7,7 +7,7 @@ use borrow.Author.Tests.{le-leb}
 use Rattle.std.proofs.Math.ListN.{length, length-append}
 use Rattle.std.proofs.Math.Seq.{take_at, drop_at, take-append_seam, drop-append_seam}
 use Rattle.files.specs.Codes.{is_neutral, operands, shape_of}
-use Rattle.files.specs.Code.{Code, done, neutral, unless_false_lem, make_cont_lem}
+use Rattle.files.specs.Code.{Code, done, neutral, unless_false, make_cont}
 use Rattle.files.specs.Flat.{flat, conditional}
 use Rattle.back.specs.Unflat.{ends_in_jump, on, test, neutral_back, open_arms, closed_arms, arms_back, unless_back, cont_back, view, end_back, first_back, unflat}
 use Rattle.back.specs.laws.Good.{Good, ended, plain, returned, called, shut, arms, cont}
@@ -27,7 +27,7 @@ module _ (go : ℕ → Bool → List ℕ → Option Code) where
       rw (e, le-leb (length ns) (length (ns ++ flat r)) h, drop-append_seam ns (flat r), take-append_seam ns (flat r), g)
 
   shut_back : {l : ℕ} {x y : Code} → ends_in_jump (flat x) ≡ false → go l true (flat x) ≡ some x → go l true (flat y) ≡ some y
-      → unless_back go (suc l) true (length (flat x)) (flat x ++ flat y) ≡ some (unless_false_lem x y done)
+      → unless_back go (suc l) true (length (flat x)) (flat x ++ flat y) ≡ some (unless_false x y done)
   unfolding unless_back arms_back closed_arms test on
   shut_back {l} {x} {y} j g h =
       let f : length (flat x) ≤ length (flat x ++ flat y) = simp length-append (omega arith) in
@@ -36,7 +36,7 @@ module _ (go : ℕ → Bool → List ℕ → Option Code) where
   open_back : {l : ℕ} {k : Bool} {x y r : Code} (a b : ℕ) → ends_in_jump (with_jump (flat x) a b) ≡ true → 256 * a + b ≡ length (flat y)
       → 1 ≤ length (flat x) → 1 ≤ length (flat y)
       → go l false (flat x) ≡ some x → go l false (flat y) ≡ some y → go (suc l) k (flat r) ≡ some r
-      → unless_back go (suc l) k (3 + length (flat x)) (with_jump (flat x) a b ++ (flat y ++ flat r)) ≡ some (unless_false_lem x y r)
+      → unless_back go (suc l) k (3 + length (flat x)) (with_jump (flat x) a b ++ (flat y ++ flat r)) ≡ some (unless_false x y r)
   unfolding unless_back arms_back open_arms test on
   open_back {l} {k} {x} {y} {r} a b j m e f g h i =
       let v = with_jump (flat x) a b in
@@ -62,7 +62,7 @@ module _ (go : ℕ → Bool → List ℕ → Option Code) where
       )
 
   cont_back_lem : {l n : ℕ} {k : Bool} {x r : Code} → go l k (flat x) ≡ some x → go (suc l) true (flat r) ≡ some r
-      → cont_back go (suc l) k (length (flat r)) n (flat r ++ flat x) ≡ some (make_cont_lem n x r)
+      → cont_back go (suc l) k (length (flat r)) n (flat r ++ flat x) ≡ some (make_cont n x r)
   unfolding cont_back test on
   cont_back_lem {l} {n} {k} {x} {r} g h =
       let f : length (flat r) ≤ length (flat r ++ flat x) = simp length-append (omega arith) in

@@ -3,7 +3,7 @@
 use Rattle.std.specs.Prelude.{ℕ, ◌≡◌, refl, true, List, [], ◌∷◌, map}
 use Rattle.std.proofs.Math.Option.{Option, none, some}
 use Rattle.files.specs.Codes.{shape_of, is_neutral, operands}
-use Rattle.files.specs.Code.{Code, done, neutral, return, call, unless_false_lem, make_cont_lem}
+use Rattle.files.specs.Code.{Code, done, neutral, return, call, unless_false, make_cont}
 use Rattle.back.specs.Unflat.{after, scan, ends_in_jump, last_offset, before_jump, on, test, neutral_back, open_arms, closed_arms, arms_back}
 use Rattle.back.specs.Unflat.{unless_back, cont_back, view, end_back, first_back, unflat}
 
@@ -30,9 +30,9 @@ codes =
 
 abbrev lists : List (Option Code)
 lists =
-    some (unless_false_lem (make_cont_lem 0 done (return done)) unspecified (return done))
-    ∷ some (unless_false_lem (unless_false_lem unspecified unspecified done) unspecified (return done))
-    ∷ some (unless_false_lem (neutral 6 (5 ∷ []) (call 0 done)) (return done) done)
+    some (unless_false (make_cont 0 done (return done)) unspecified (return done))
+    ∷ some (unless_false (unless_false unspecified unspecified done) unspecified (return done))
+    ∷ some (unless_false (neutral 6 (5 ∷ []) (call 0 done)) (return done) done)
     ∷ none
     ∷ none
     ∷ none
@@ -49,7 +49,7 @@ code_rows = refl
 
 -- a saved list in a saved list wants two levels
 level_rows : map (λ l. unflat 20 l true (4 ∷ 0 ∷ 1 ∷ 0 ∷ 1 ∷ 4 ∷ 0 ∷ 1 ∷ 0 ∷ 1 ∷ 1 ∷ [])) (1 ∷ 2 ∷ [])
-    ≡ none ∷ some (make_cont_lem 0 (make_cont_lem 0 (return done) (return done)) (return done)) ∷ []
+    ≡ none ∷ some (make_cont 0 (make_cont 0 (return done) (return done)) (return done)) ∷ []
 unfolding shape_of is_neutral operands after scan ends_in_jump last_offset before_jump on test neutral_back open_arms closed_arms arms_back unless_back cont_back view
     end_back first_back unflat
 level_rows = refl

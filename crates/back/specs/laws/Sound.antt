@@ -10,7 +10,7 @@ use borrow.Author.Tests.{leb-true, not-true}
 use Rattle.std.proofs.Math.ListN.{length, take-append-drop}
 use Rattle.std.proofs.Math.Seq.{length-take-le}
 use Rattle.files.specs.Codes.{is_neutral, operands}
-use Rattle.files.specs.Code.{Code, done, neutral, return, call, unless_false_lem, make_cont_lem}
+use Rattle.files.specs.Code.{Code, done, neutral, return, call, unless_false, make_cont}
 use Rattle.files.specs.Flat.{flat, conditional, offset}
 use Rattle.files.specs.Valid.{Bytes}
 use Rattle.files.specs.laws.BytesLaws.{bytes_take, bytes_drop, bytes_left, bytes_right}
@@ -71,7 +71,7 @@ module _ (go : ℕ → Bool → List ℕ → Option Code) (ok : (l : ℕ) (k : B
       (λ y second end.
       let s = ok l true v x a first in
       let u = ok l true w y b second in
-      let z : unless_false_lem x y done ≡ c = cc in
+      let z : unless_false x y done ≡ c = cc in
       rw (← z, shut-list) (record { is = rw (closed_is s.good, s.is, u.is, append-nil w); good = shut s.good u.good (rw s.is h) })))
 
   open_sound : {l : ℕ} {k : Bool} (u : List ℕ) (p q : ℕ) (w : List ℕ) {c : Code} → Bytes (with_jump u p q) → Bytes w → length (with_jump u p q) ≤ 65535
@@ -95,7 +95,7 @@ module _ (go : ℕ → Bool → List ℕ → Option Code) (ok : (l : ℕ) (k : B
       let s = ok l false u x (bytes_left u (5 ∷ p ∷ q ∷ []) a) first in
       let t = ok l false (take m w) y (bytes_take m w b) second in
       let v = ok (suc l) k (drop m w) r (bytes_drop m w b) rest in
-      let z : unless_false_lem x y r ≡ c = cc in
+      let z : unless_false x y r ≡ c = cc in
       let n : length (take m w) ≡ m = length-take-le m w i in
       let j = jump_length u p q in
       rw (← z)
@@ -141,7 +141,7 @@ module _ (go : ℕ → Bool → List ℕ → Option Code) (ok : (l : ℕ) (k : B
       (λ r rest end.
       let s = ok l k (drop m w) x (bytes_drop m w o) saved in
       let u = ok (suc l) true (take m w) r (bytes_take m w o) rest in
-      let z : make_cont_lem n x r ≡ c = cc in
+      let z : make_cont n x r ≡ c = cc in
       rw (← z)
       (record {
         is = rw (u.is, s.is, f, high a b i, low a b i, take-append-drop m w);

@@ -1,7 +1,7 @@
 -- The class of a list is that of its tabulated code. Assumes nothing.
 use Rattle.std.specs.Prelude.{ℕ, zero, suc, ◌+◌, ◌≤◌, ◌<◌, ◌≡◌, refl, Bool, true, false, cond, ◌&&◌, ◌||◌, List, [], ◌∷◌, eqb}
 use Rattle.std.proofs.Common.{arith, sym, ap, ◌∙◌, le-ltb}
-use Rattle.files.specs.Code.{Code, done, neutral, return, call, unless_false_lem, make_cont_lem, put, simple}
+use Rattle.files.specs.Code.{Code, done, neutral, return, call, unless_false, make_cont, put, simple}
 use Rattle.files.specs.Reading.{got}
 use Rattle.files.specs.Entries.{Entry}
 use Rattle.files.specs.Grammar.{is_empty, is_open, is_closed, closed_template}
@@ -49,12 +49,12 @@ call_by : (n : ℕ) (r : Code) → codeClass (call n r) ≡ class_by false false
 unfolding codeClass is_empty is_open is_closed
 call_by n r = refl
 
-branch_by : (x y r : Code) → codeClass (unless_false_lem x y r)
+branch_by : (x y r : Code) → codeClass (unless_false x y r)
     ≡ class_by false (is_open x && is_open y && (is_empty r || is_open r)) ((is_open x && is_open y && is_closed r) || (is_empty r && is_closed x && is_closed y))
 unfolding codeClass is_empty is_open is_closed
 branch_by x y r = refl
 
-save_by : (n : ℕ) (x r : Code) → codeClass (make_cont_lem n x r) ≡ class_by false ((is_empty x || is_open x) && is_closed r) (is_closed x && is_closed r)
+save_by : (n : ℕ) (x r : Code) → codeClass (make_cont n x r) ≡ class_by false ((is_empty x || is_open x) && is_closed r) (is_closed x && is_closed r)
 unfolding codeClass is_empty is_open is_closed
 save_by n x r = refl
 
@@ -87,7 +87,7 @@ branch_number a b k h i j =
     (four (λ k. Branched 3 2 k) refl refl refl refl k j) (four (λ k. Branched 3 3 k) refl refl refl refl k j) b i)
     a h
 
-branch_class : (x y r : Code) → codeClass (unless_false_lem x y r) ≡ before (branch_kind (codeClass x) (codeClass y)) (codeClass r)
+branch_class : (x y r : Code) → codeClass (unless_false x y r) ≡ before (branch_kind (codeClass x) (codeClass y)) (codeClass r)
 branch_class x y r =
     branch_by x y r
     ∙ rw (open_class x, open_class y, closed_class x, closed_class y, empty_class r, open_class r, closed_class r)
@@ -102,7 +102,7 @@ save_number a k h j =
     four (λ a. Saved a k) (four (λ k. Saved 0 k) refl refl refl refl k j) (four (λ k. Saved 1 k) refl refl refl refl k j)
     (four (λ k. Saved 2 k) refl refl refl refl k j) (four (λ k. Saved 3 k) refl refl refl refl k j) a h
 
-save_class : (n : ℕ) (x r : Code) → codeClass (make_cont_lem n x r) ≡ before (save_kind (codeClass x)) (codeClass r)
+save_class : (n : ℕ) (x r : Code) → codeClass (make_cont n x r) ≡ before (save_kind (codeClass x)) (codeClass r)
 save_class n x r =
     save_by n x r
     ∙ rw (empty_class x, open_class x, closed_class x, closed_class r)

@@ -27,7 +27,7 @@ use Rattle.readback.specs.laws.Standing.{stands_field, field_then, none_stands}
 use Rattle.tree_file.specs.File.{operands_bits, list_bits, instr_bits}
 use Rattle.tree_file.specs.laws.Lengths.{operands_length, list_put, list_length}
 use Rattle.tree_file.specs.laws.Standing.{code_end}
-use Rattle.basic.specs.Basic.{Basic, ended, plain, carries, closure, branch, save, Token, ended_t, plain_t_lem, carries_t, closure_t, branch_t_lem, save_t_lem}
+use Rattle.basic.specs.Basic.{Basic, ended, plain, carries, closure, branch, save, Token, ended_t, plain_t, carries_t, closure_t, branch_t, save_t}
 use Rattle.basic.specs.Basic.{token_bits, bits as basicBits}
 use Rattle.basic.specs.Reading.{holding, literal_at, global_at, shaped_at, code_at, token_at, onward, list_at}
 use Rattle.basic.specs.Tabulated.{inside, uses, index_of, indexed, template_of, closures}
@@ -71,11 +71,11 @@ code_cont (suc (suc (suc (suc (suc v))))) e = absurd (other_at 5 (drop 5 shapes)
 -- ---- the bits of a code stand where it was read
 unfoldable pub bits_as : Token → List ℕ
 bits_as ended_t = bits_of 5 0
-bits_as (plain_t_lem v ns) = bits_of 5 v ++ operands_bits ns
+bits_as (plain_t v ns) = bits_of 5 v ++ operands_bits ns
 bits_as (carries_t v e) = []
 bits_as closure_t = []
-bits_as branch_t_lem = bits_of 5 3
-bits_as (save_t_lem n) = bits_of 5 4 ++ bits_of 8 n
+bits_as branch_t = bits_of 5 3
+bits_as (save_t n) = bits_of 5 4 ++ bits_of 8 n
 
 module _ (s : List ℕ) where
   unfoldable Standing : ℕ → Got Token → Type 0
@@ -252,13 +252,13 @@ module _ (s : List ℕ) (e p z q : ℕ) (c : Basic) (cs : List Basic) (read : li
         far = far.1;
       })
 
-  pub pass_plain : (v : ℕ) (ns : List ℕ) → token_at s 15 p ≡ got (plain_t_lem v ns) z → Passing s e p z (c ∷ cs)
+  pub pass_plain : (v : ℕ) (ns : List ℕ) → token_at s 15 p ≡ got (plain_t v ns) z → Passing s e p z (c ∷ cs)
   unfolding onward closures_all uses_all code_all own_all inside_all closures uses indexed inside own_bits bits_as token_bits TokenOk
   pass_plain v ns i =
-      let b = copied (plain_t_lem v ns) i (simp (length-append, length_bits, operands_length ns)) in
-      let far = token_far (plain_t_lem v ns) i in
+      let b = copied (plain_t v ns) i (simp (length-append, length_bits, operands_length ns)) in
+      let far = token_far (plain_t v ns) i in
       let ok = (token_facts s 15 p i).2 in
-      then_led (list_at s 15 z) _ (onward_is (plain_t_lem v ns) i)
+      then_led (list_at s 15 z) _ (onward_is (plain_t v ns) i)
       (λ r u j g. let k = got_value g in rw (← k.0)
       (record {
         left = r ∷ cs;
@@ -315,12 +315,12 @@ module _ (s : List ℕ) (e p z q : ℕ) (c : Basic) (cs : List Basic) (read : li
         far = far.1;
       })))
 
-  pub pass_branch : token_at s 15 p ≡ got branch_t_lem z → Passing s e p z (c ∷ cs)
+  pub pass_branch : token_at s 15 p ≡ got branch_t z → Passing s e p z (c ∷ cs)
   unfolding onward closures_all uses_all code_all own_all inside_all closures uses indexed inside own_bits list_bits bits_as token_bits
   pass_branch i =
-      let b = copied branch_t_lem i (length_bits 5 3) in
-      let far = token_far branch_t_lem i in
-      then_led (below s 15 z) _ (onward_is branch_t_lem i)
+      let b = copied branch_t i (length_bits 5 3) in
+      let far = token_far branch_t i in
+      then_led (below s 15 z) _ (onward_is branch_t i)
       (λ x y d on. then_led (below s 15 y) _ on
       (λ x₂ y₂ d₂ on₂. then_led (list_at s 15 y₂) _ on₂
       (λ r u j g. let k = got_value g in rw (← k.0)
@@ -339,12 +339,12 @@ module _ (s : List ℕ) (e p z q : ℕ) (c : Basic) (cs : List Basic) (read : li
         far = far.1;
       }))))
 
-  pub pass_save : (m : ℕ) → token_at s 15 p ≡ got (save_t_lem m) z → Passing s e p z (c ∷ cs)
+  pub pass_save : (m : ℕ) → token_at s 15 p ≡ got (save_t m) z → Passing s e p z (c ∷ cs)
   unfolding onward closures_all uses_all code_all own_all inside_all closures uses indexed inside own_bits list_bits bits_as token_bits
   pass_save m i =
-      let b = copied (save_t_lem m) i (simp (length-append, length_bits)) in
-      let far = token_far (save_t_lem m) i in
-      then_led (below s 15 z) _ (onward_is (save_t_lem m) i)
+      let b = copied (save_t m) i (simp (length-append, length_bits)) in
+      let far = token_far (save_t m) i in
+      then_led (below s 15 z) _ (onward_is (save_t m) i)
       (λ x y d on. then_led (list_at s 15 y) _ on
       (λ r u j g. let k = got_value g in rw (← k.0)
       (record {

@@ -8,7 +8,7 @@ use Rattle.files.specs.Codes.{shape_of}
 use Rattle.files.specs.Reading.{Got, got, refused}
 use Rattle.files.specs.Entries.{Entry, then, field}
 use Rattle.files.specs.laws.AllGot.{refused_got, got_value, then_led}
-use Rattle.basic.specs.Basic.{Basic, ended, plain, carries, closure, branch, save, Token, ended_t, plain_t_lem, carries_t, closure_t, branch_t_lem, save_t_lem}
+use Rattle.basic.specs.Basic.{Basic, ended, plain, carries, closure, branch, save, Token, ended_t, plain_t, carries_t, closure_t, branch_t, save_t}
 use Rattle.basic.specs.Reading.{holding, shaped_at, code_at, token_at, onward, list_at}
 use Rattle.basic.specs.Valid.{below}
 use Rattle.basic.specs.laws.ReadLaws.{list_step}
@@ -52,31 +52,31 @@ module _ (s : List ℕ) (l k p : ℕ) where
 -- ---- a list that is read from p to q, by its first code
 pub data Parts (s : List ℕ) (l p q : ℕ) : Basic → Type 0 where
   ended_parts : token_at s l p ≡ got ended_t q → Parts s l p q ended
-  plain_parts : {v : ℕ} {ns : List ℕ} {r : Basic} (z : ℕ) → token_at s l p ≡ got (plain_t_lem v ns) z → list_at s l z ≡ got r q → Parts s l p q (plain v ns r)
+  plain_parts : {v : ℕ} {ns : List ℕ} {r : Basic} (z : ℕ) → token_at s l p ≡ got (plain_t v ns) z → list_at s l z ≡ got r q → Parts s l p q (plain v ns r)
   carries_parts : {v : ℕ} {e : Entry} {r : Basic} (z : ℕ) → token_at s l p ≡ got (carries_t v e) z → list_at s l z ≡ got r q → Parts s l p q (carries v e r)
   closure_parts : {x r : Basic} (z u : ℕ) → token_at s l p ≡ got closure_t z → below s l z ≡ got x u → list_at s l u ≡ got r q → Parts s l p q (closure x r)
-  branch_parts : {x y r : Basic} (z u w : ℕ) → token_at s l p ≡ got branch_t_lem z → below s l z ≡ got x u → below s l u ≡ got y w → list_at s l w ≡ got r q
+  branch_parts : {x y r : Basic} (z u w : ℕ) → token_at s l p ≡ got branch_t z → below s l z ≡ got x u → below s l u ≡ got y w → list_at s l w ≡ got r q
       → Parts s l p q (branch x y r)
-  save_parts : {n : ℕ} {x r : Basic} (z u : ℕ) → token_at s l p ≡ got (save_t_lem n) z → below s l z ≡ got x u → list_at s l u ≡ got r q
+  save_parts : {n : ℕ} {x r : Basic} (z u : ℕ) → token_at s l p ≡ got (save_t n) z → below s l z ≡ got x u → list_at s l u ≡ got r q
       → Parts s l p q (save n x r)
 
 module _ (s : List ℕ) (l p : ℕ) where
   parts_by : {c : Basic} {q : ℕ} (t : Token) (z : ℕ) → token_at s l p ≡ got t z → onward (below s l) (list_at s l) t z ≡ got c q → Parts s l p q c
   unfolding onward
   parts_by {c} {q} ended_t z e on = let v = got_value on in rw (← v.0) (ended_parts (e ∙ ap (got ended_t) v.1))
-  parts_by {c} {q} (plain_t_lem v ns) z e on =
+  parts_by {c} {q} (plain_t v ns) z e on =
       then_led (list_at s l z) _ on (λ r u i j. let v = got_value j in rw (← v.0) (plain_parts z e (i ∙ ap (got r) v.1)))
   parts_by {c} {q} (carries_t v x) z e on =
       then_led (list_at s l z) _ on (λ r u i j. let v = got_value j in rw (← v.0) (carries_parts z e (i ∙ ap (got r) v.1)))
   parts_by {c} {q} closure_t z e on =
       then_led (below s l z) _ on
       (λ x u i on₁. then_led (list_at s l u) _ on₁ (λ r w j k. let v = got_value k in rw (← v.0) (closure_parts z u e i (j ∙ ap (got r) v.1))))
-  parts_by {c} {q} branch_t_lem z e on =
+  parts_by {c} {q} branch_t z e on =
       then_led (below s l z) _ on
       (λ x u i on₁. then_led (below s l u) _ on₁
       (λ y w j on₂. then_led (list_at s l w) _ on₂
       (λ r a k m. let v = got_value m in rw (← v.0) (branch_parts z u w e i j (k ∙ ap (got r) v.1)))))
-  parts_by {c} {q} (save_t_lem n) z e on =
+  parts_by {c} {q} (save_t n) z e on =
       then_led (below s l z) _ on
       (λ x u i on₁. then_led (list_at s l u) _ on₁ (λ r w j k. let v = got_value k in rw (← v.0) (save_parts z u e i (j ∙ ap (got r) v.1))))
 

@@ -17,7 +17,7 @@ use Rattle.files.specs.Reading.{Got, got, refused}
 use Rattle.files.specs.Entries.{Entry, constant, global, then, field, valid, tag_width, constant_at}
 use Rattle.files.specs.Valid.{Bytes}
 use Rattle.files.specs.laws.EntriesLaws.{then_field}
-use Rattle.basic.specs.Basic.{Basic, ended, plain, carries, closure, branch, save, Token, ended_t, plain_t_lem, carries_t, closure_t, branch_t_lem, save_t_lem}
+use Rattle.basic.specs.Basic.{Basic, ended, plain, carries, closure, branch, save, Token, ended_t, plain_t, carries_t, closure_t, branch_t, save_t}
 use Rattle.basic.specs.Basic.{carried_bits, token_bits, bits}
 use Rattle.basic.specs.Reading.{holding, literal_at, global_at, shaped_at, code_at, token_at, onward, items, list_at}
 use Rattle.basic.specs.Valid.{PlainOk, return_ok, call_ok, neutral_ok, CarriesOk, literal_ok, global_ok, set_global_ok, TokenOk, Ok, below}
@@ -136,14 +136,14 @@ module _ (s : List ℕ) where
     onward_past : (t : Token) → q ≡ p + token_bits t → q ≤ 8 * length s → TokenOk t → ListPast p (onward deep rest t q)
     unfolding onward ListPast token_bits TokenOk bits Ok
     onward_past ended_t e h ok = (e, h, tt)
-    onward_past (plain_t_lem v ns) e h ok = then_list p q (rest q) _ (g q) (λ c r e₁ h₁ k₁. (omega arith, h₁, (ok, k₁)))
+    onward_past (plain_t v ns) e h ok = then_list p q (rest q) _ (g q) (λ c r e₁ h₁ k₁. (omega arith, h₁, (ok, k₁)))
     onward_past (carries_t v x) e h ok = then_list p q (rest q) _ (g q) (λ c r e₁ h₁ k₁. (omega arith, h₁, (ok, k₁)))
     onward_past closure_t e h ok =
         then_list p q (deep q) _ (d q) (λ x r e₁ h₁ k₁. then_list p r (rest r) _ (g r) (λ c z e₂ h₂ k₂. (omega arith, h₂, (k₁, k₂))))
-    onward_past branch_t_lem e h ok =
+    onward_past branch_t e h ok =
         then_list p q (deep q) _ (d q)
         (λ x r e₁ h₁ k₁. then_list p r (deep r) _ (d r) (λ y u e₂ h₂ k₂. then_list p u (rest u) _ (g u) (λ c z e₃ h₃ k₃. (omega arith, h₃, (k₁, k₂, k₃)))))
-    onward_past (save_t_lem n) e h ok =
+    onward_past (save_t n) e h ok =
         then_list p q (deep q) _ (d q) (λ x r e₁ h₁ k₁. then_list p r (rest r) _ (g r) (λ c z e₂ h₂ k₂. (omega arith, h₂, (ok, k₁, k₂))))
 
   then_token : (p : ℕ) (g : Got Token) (f : Token → ℕ → Got Basic) → TokenPast p g
@@ -176,11 +176,11 @@ module _ (s : List ℕ) where
   pub token_least : (t : Token) → 5 ≤ token_bits t
   unfolding token_bits
   token_least ended_t = omega arith
-  token_least (plain_t_lem v ns) = omega arith
+  token_least (plain_t v ns) = omega arith
   token_least (carries_t v e) = omega arith
   token_least closure_t = omega arith
-  token_least branch_t_lem = omega arith
-  token_least (save_t_lem n) = omega arith
+  token_least branch_t = omega arith
+  token_least (save_t n) = omega arith
 
   pub list_least : (c : Basic) → 5 ≤ bits c
   unfolding bits
@@ -199,12 +199,12 @@ module _ (s : List ℕ) where
     onward_same : (t : Token) → onward deep r t q₀ ≡ onward deep r' t q₀
     unfolding onward
     onward_same ended_t = refl
-    onward_same (plain_t_lem v ns) = rw (same q₀ (omega arith)) refl
+    onward_same (plain_t v ns) = rw (same q₀ (omega arith)) refl
     onward_same (carries_t v e) = rw (same q₀ (omega arith)) refl
     onward_same closure_t = then_same (deep q₀) _ _ (λ x z e. rw (same z (after_deep q₀ (omega arith) e)) refl)
-    onward_same branch_t_lem =
+    onward_same branch_t =
         then_same (deep q₀) _ _ (λ x z e. then_same (deep z) _ _ (λ y u f. rw (same u (after_deep z (after_deep q₀ (omega arith) e) f)) refl))
-    onward_same (save_t_lem n) = then_same (deep q₀) _ _ (λ x z e. rw (same z (after_deep q₀ (omega arith) e)) refl)
+    onward_same (save_t n) = then_same (deep q₀) _ _ (λ x z e. rw (same z (after_deep q₀ (omega arith) e)) refl)
 
   token_same : (p : ℕ) (deep r r' : ℕ → Got Basic) → ((q : ℕ) → ListPast q (deep q)) → ((q : ℕ) → p < q → p < 8 * length s → r q ≡ r' q)
       → (x : Got Token) → TokenPast p x

@@ -19,7 +19,7 @@ use Rattle.basic.specs.declared.Listed.{Listed}
 use Rattle.basic.specs.declared.Listed.TheVariants.{Done, Refused as RefusedList}
 use Rattle.basic.specs.declared.Item.{Item}
 use Rattle.basic.specs.declared.Item.TheVariants.{End, More, Bad}
-use Rattle.basic.specs.Basic.{Basic, ended, plain, carries, closure, branch, save, Token, ended_t, plain_t_lem, carries_t, closure_t, branch_t_lem, save_t_lem}
+use Rattle.basic.specs.Basic.{Basic, ended, plain, carries, closure, branch, save, Token, ended_t, plain_t, carries_t, closure_t, branch_t, save_t}
 use Rattle.basic.specs.Basic.{token_bits, bits}
 use Rattle.basic.specs.Reading.{holding, literal_at, global_at, shaped_at, code_at, token_at, onward, list_at}
 use Rattle.basic.specs.Tabulated.{inside}
@@ -165,17 +165,17 @@ module _ (s : List ℕ) (l p : ℕ) (q : BitPlace) where
   unfolding class_of inside
   carries_shift v e = record { class = λ c. refl; count = λ c. sym (zero-add (inside c)) }
 
-  plain_step : (v : ℕ) (ns : List ℕ) (k : Kind) → plain_kind v ≡ k → token_at s l p ≡ got (plain_t_lem v ns) q.0 → Stepped s l p (More q k 0)
+  plain_step : (v : ℕ) (ns : List ℕ) (k : Kind) → plain_kind v ≡ k → token_at s l p ≡ got (plain_t v ns) q.0 → Stepped s l p (More q k 0)
   unfolding then onward
   plain_step v ns k h e =
-      let f = token_far (plain_t_lem v ns) e in
+      let f = token_far (plain_t v ns) e in
       at_more q (plain v ns) k 0 (list_step s l p ∙ rw e refl) (plain_shift v ns k h) (omega (arith, f.0)) f.1
 
-  pub ending_step : (v : ℕ) (ns : List ℕ) → v < 6 → token_at s l p ≡ got (plain_t_lem v ns) q.0 → Stepped s l p (More q Ending 0)
+  pub ending_step : (v : ℕ) (ns : List ℕ) → v < 6 → token_at s l p ≡ got (plain_t v ns) q.0 → Stepped s l p (More q Ending 0)
   unfolding plain_kind
   ending_step v ns h e = plain_step v ns Ending (rw (lt-ltb v 6 h) refl) e
 
-  pub neutral_step : (v : ℕ) (ns : List ℕ) → 6 ≤ v → token_at s l p ≡ got (plain_t_lem v ns) q.0 → Stepped s l p (More q Neutral 0)
+  pub neutral_step : (v : ℕ) (ns : List ℕ) → 6 ≤ v → token_at s l p ≡ got (plain_t v ns) q.0 → Stepped s l p (More q Neutral 0)
   unfolding plain_kind
   neutral_step v ns h e = plain_step v ns Neutral (rw (le-ltb v 6 h) refl) e
 
@@ -201,7 +201,7 @@ module _ (s : List ℕ) (l p q : ℕ) where
     unfolding then onward below
     closure_bad n z h = at_bad z n (list_step s (suc l) p ∙ rw (e, h) refl)
 
-  module _ (n : ℕ) (e : token_at s (suc l) p ≡ got (save_t_lem n) q) where
+  module _ (n : ℕ) (e : token_at s (suc l) p ≡ got (save_t n) q) where
     pub save_step : (z : BitPlace) (x : Facts) → ListIs s l q z x → Stepped s (suc l) p (More z (save_kind x.class) x.inside)
     unfolding then onward below class_of inside token_bits
     save_step z x w =
@@ -215,7 +215,7 @@ module _ (s : List ℕ) (l p q : ℕ) where
     unfolding then onward below
     save_bad m z h = at_bad z m (list_step s (suc l) p ∙ rw (e, h) refl)
 
-  module _ (e : token_at s (suc l) p ≡ got branch_t_lem q) where
+  module _ (e : token_at s (suc l) p ≡ got branch_t q) where
     pub branch_bad : (n : ℕ) (z : BitPlace) → list_at s l q ≡ refused n z.0 → Stepped s (suc l) p (Bad n z)
     unfolding then onward below
     branch_bad n z h = at_bad z n (list_step s (suc l) p ∙ rw (e, h) refl)
@@ -242,11 +242,11 @@ module _ (s : List ℕ) (l p q : ℕ) where
 -- ---- a list with no level below it has none of these
 unfoldable Flat : Token → Type 0
 Flat ended_t = Unit
-Flat (plain_t_lem v ns) = Unit
+Flat (plain_t v ns) = Unit
 Flat (carries_t v e) = Unit
 Flat closure_t = ⊥
-Flat branch_t_lem = ⊥
-Flat (save_t_lem n) = ⊥
+Flat branch_t = ⊥
+Flat (save_t n) = ⊥
 
 module _ (s : List ℕ) (p : ℕ) where
   literal_flat : (q : ℕ) → AllGot Flat (literal_at s q)
@@ -281,13 +281,13 @@ module _ (s : List ℕ) (p : ℕ) where
   unfolding Flat
   closure_level l q e = flat_only l closure_t q (λ x. x) e
 
-  pub branch_level : (l q : ℕ) → token_at s l p ≡ got branch_t_lem q → 1 ≤ l
+  pub branch_level : (l q : ℕ) → token_at s l p ≡ got branch_t q → 1 ≤ l
   unfolding Flat
-  branch_level l q e = flat_only l branch_t_lem q (λ x. x) e
+  branch_level l q e = flat_only l branch_t q (λ x. x) e
 
-  pub save_level : (l q n : ℕ) → token_at s l p ≡ got (save_t_lem n) q → 1 ≤ l
+  pub save_level : (l q n : ℕ) → token_at s l p ≡ got (save_t n) q → 1 ≤ l
   unfolding Flat
-  save_level l q n e = flat_only l (save_t_lem n) q (λ x. x) e
+  save_level l q n e = flat_only l (save_t n) q (λ x. x) e
 
 -- ---- what is told of a code, by its variant
 pub turned : {g : Got Token} {r r' : ToldToken} → r ≡ r' → Told g r → Told g r'
@@ -303,7 +303,7 @@ module _ (g : Got Token) where
   pub is_closure : (q : BitPlace) → Told g (Closure q) → g ≡ got closure_t q.0
   is_closure q (told_closure q' e) = e
 
-  pub is_branch : (q : BitPlace) → Told g (Branch q) → g ≡ got branch_t_lem q.0
+  pub is_branch : (q : BitPlace) → Told g (Branch q) → g ≡ got branch_t q.0
   is_branch q (told_branch q' e) = e
 
   pub is_literal : (t x : ℕ) (q : BitPlace) → Told g (Literal t x q) → g ≡ got (carries_t 6 (constant t x)) q.0
@@ -315,7 +315,7 @@ module _ (g : Got Token) where
   pub is_refused : (n : ℕ) (q : BitPlace) → Told g (Refused n q) → g ≡ refused n q.0
   is_refused n q (told_refused q' n' e) = e
 
-  pub is_save_lem : (q : BitPlace) → Told g (Save q) → (n : ℕ) × (g ≡ got (save_t_lem n) q.0)
+  pub is_save_lem : (q : BitPlace) → Told g (Save q) → (n : ℕ) × (g ≡ got (save_t n) q.0)
   is_save_lem q (told_save q' n e) = (n, e)
 
 module _ (s : List ℕ) (l p : ℕ) where

@@ -14,7 +14,7 @@ use Rattle.files.specs.laws.EntriesLaws.{width_none}
 use Rattle.files.specs.laws.EntriesSteps.{no_field}
 use Rattle.basic.specs.declared.Token.{Token as ToldToken}
 use Rattle.basic.specs.declared.Token.TheVariants.{End, Ending, Plain, Literal, Global, Closure, Branch, Save, Refused}
-use Rattle.basic.specs.Basic.{Token, ended_t, plain_t_lem, carries_t, closure_t, branch_t_lem, save_t_lem}
+use Rattle.basic.specs.Basic.{Token, ended_t, plain_t, carries_t, closure_t, branch_t, save_t}
 use Rattle.basic.specs.Reading.{holding, literal_at, global_at, shaped_at, code_at, token_at}
 use Rattle.basic.specs.Told.{Told, told_end, told_plain, told_literal, told_global, told_closure, told_branch, told_save, told_refused}
 
@@ -67,7 +67,7 @@ module _ (s : List ℕ) (q : BitPlace) where
   unfolding global_at then
   global_read v g z e = told_global z v g (rw e refl)
 
-  pub save_read : (n : ℕ) (z : BitPlace) → field s q.0 8 ≡ got n z.0 → Told (then (field s q.0 8) (λ n z. got (save_t_lem n) z)) (Save z)
+  pub save_read : (n : ℕ) (z : BitPlace) → field s q.0 8 ≡ got n z.0 → Told (then (field s q.0 8) (λ n z. got (save_t n) z)) (Save z)
   unfolding then
   save_read n z e = told_save z n (rw e refl)
 
@@ -77,17 +77,17 @@ module _ (s : List ℕ) (q : BitPlace) where
 
 -- ---- operands
 module _ (s : List ℕ) (l p v : ℕ) (q : BitPlace) {r : ToldToken} where
-  pub no_operands : (k : ℕ) → k ≡ 1 → ((g : Got Token) (ns : List ℕ) → g ≡ got (plain_t_lem v ns) q.0 → Told g r) → Told (shaped_at s l p v q.0 k) r
+  pub no_operands : (k : ℕ) → k ≡ 1 → ((g : Got Token) (ns : List ℕ) → g ≡ got (plain_t v ns) q.0 → Told g r) → Told (shaped_at s l p v q.0 k) r
   unfolding shaped_at
   no_operands k e f = rw e (f _ [] refl)
 
   module _ (a : ℕ) (z : BitPlace) (e : field s q.0 8 ≡ got a z.0) where
-    pub one_operand : (k : ℕ) → k ≡ 2 → ((g : Got Token) (ns : List ℕ) → g ≡ got (plain_t_lem v ns) z.0 → Told g r) → Told (shaped_at s l p v q.0 k) r
+    pub one_operand : (k : ℕ) → k ≡ 2 → ((g : Got Token) (ns : List ℕ) → g ≡ got (plain_t v ns) z.0 → Told g r) → Told (shaped_at s l p v q.0 k) r
     unfolding shaped_at then
     one_operand k h f = rw (h, e) (f _ (a ∷ []) refl)
 
     pub two_operands : (b : ℕ) (u : BitPlace) (k : ℕ) → k ≡ 3 → field s z.0 8 ≡ got b u.0
-        → ((g : Got Token) (ns : List ℕ) → g ≡ got (plain_t_lem v ns) u.0 → Told g r) → Told (shaped_at s l p v q.0 k) r
+        → ((g : Got Token) (ns : List ℕ) → g ≡ got (plain_t v ns) u.0 → Told g r) → Told (shaped_at s l p v q.0 k) r
     unfolding shaped_at then
     two_operands b u k h i f = rw (h, e, i) (f _ (a ∷ b ∷ []) refl)
 
@@ -140,11 +140,11 @@ module _ (s : List ℕ) where
   held zero p g h = absurd (h refl)
   held (suc l) p g h = refl
 
-  shaped_arms : (l p v q : ℕ) → (l ≡ 0 → ⊥) → shaped_at s l p v q 4 ≡ got branch_t_lem q
+  shaped_arms : (l p v q : ℕ) → (l ≡ 0 → ⊥) → shaped_at s l p v q 4 ≡ got branch_t q
   unfolding shaped_at
   shaped_arms l p v q h = held l p _ h
 
-  shaped_saves : (l p v q : ℕ) → (l ≡ 0 → ⊥) → shaped_at s l p v q 5 ≡ then (field s q 8) (λ n z. got (save_t_lem n) z)
+  shaped_saves : (l p v q : ℕ) → (l ≡ 0 → ⊥) → shaped_at s l p v q 5 ≡ then (field s q 8) (λ n z. got (save_t n) z)
   unfolding shaped_at
   shaped_saves l p v q h = held l p _ h
 
@@ -159,7 +159,7 @@ module _ (s : List ℕ) (l : ℕ) (p : BitPlace) (v : ℕ) (q : BitPlace) (k : �
   pub shaped_branch : (l ≡ 0 → ⊥) → k ≡ 4 → Told (shaped_at s l p.0 v q.0 k) (Branch q)
   shaped_branch h e = told_branch q (rw e (shaped_arms s l p.0 v q.0 h))
 
-  pub shaped_save : (l ≡ 0 → ⊥) → k ≡ 5 → {r : ToldToken} → Told (then (field s q.0 8) (λ n z. got (save_t_lem n) z)) r → Told (shaped_at s l p.0 v q.0 k) r
+  pub shaped_save : (l ≡ 0 → ⊥) → k ≡ 5 → {r : ToldToken} → Told (then (field s q.0 8) (λ n z. got (save_t n) z)) r → Told (shaped_at s l p.0 v q.0 k) r
   shaped_save h e t = rw (e, shaped_saves s l p.0 v q.0 h) t
 
   pub shaped_bad : k ≡ 6 → Told (shaped_at s l p.0 v q.0 k) (Refused 3 p)

@@ -18,7 +18,7 @@ use Rattle.sound.specs.laws.Programs.{FetchedOk, ProgramOk}
 use Rattle.agree.specs.Demand3.{EndAlike}
 use Rattle.agree.specs.laws.Aside.{frames_alike}
 use Rattle.basic_program.specs.Program.{Body, all_bodies, no_body, basic_at, basic_program}
-use Rattle.basic_program.specs.laws.Spots.{Spot, spot_first, spot_within, Twin, plain_t, return_t, call_t, branch_t, save_t, bad_t, look_like}
+use Rattle.basic_program.specs.laws.Spots.{Spot, spot_first, spot_within, Twin, plain_twin, return_twin, call_twin, branch_twin, save_twin, bad_t, look_like}
 use Rattle.basic_program.specs.laws.Bodies.{BodyOk, body_ok, entries_are, code_is}
 
 -- c is in order and short, and the program of its tabulated templates, placed from bit k on, is ok
@@ -60,11 +60,11 @@ module _ (c : Basic) (ok : Ok c) (short : bits c ≤ 8 * 65536) (k : ℕ) (tree_
 
   fetched : (t : ℕ) {F G : Fetched} → t < 2 ^ 8 → FetchedOk G → Twin (Place t) F G → Fetches R (same_but_places R own) ⊥ t t F G
   unfolding same_but_places
-  fetched t h o (plain_t r) = plain_f refl (refl, r, h, refl)
-  fetched t h o return_t = return_f
-  fetched t h o call_t = call_f
-  fetched t h o (branch_t r₁ r₂) = branch_f (λ z. absurd z) (refl, r₁, h, refl) (refl, r₂, h, refl)
-  fetched t h o (save_t {n = n} {p₁ = p₁} {q₁ = q₁} l r₁ r₂) =
+  fetched t h o (plain_twin r) = plain_f refl (refl, r, h, refl)
+  fetched t h o return_twin = return_f
+  fetched t h o call_twin = call_f
+  fetched t h o (branch_twin r₁ r₂) = branch_f (λ z. absurd z) (refl, r₁, h, refl) (refl, r₂, h, refl)
+  fetched t h o (save_twin {n = n} {p₁ = p₁} {q₁ = q₁} l r₁ r₂) =
       let v : Savable R n t p₁ t q₁ 0 =
       record { n_fits = o.0; t_fits = h; p_fits = place_fits t p₁ q₁ r₁; t'_fits = h; q_fits = o.1; places = (refl, r₁, h, refl) } in
       save_f v (refl, r₂, h, refl)

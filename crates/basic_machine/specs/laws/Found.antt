@@ -16,11 +16,11 @@ use Rattle.rules.specs.declared.Plain.{Plain}
 use Rattle.machines.specs.Fetched.{Fetched, bad, plainly, named_by, resolve}
 use Rattle.machines.specs.Slots.{slot_names, slot_resolve}
 use Rattle.basic.specs.Basic.{Basic, ended, plain, carries, closure, branch, save, carried_bits, bits}
-use Rattle.basic.specs.Basic.{Token, ended_t, plain_t_lem, carries_t, closure_t, branch_t_lem, save_t_lem}
+use Rattle.basic.specs.Basic.{Token, ended_t, plain_t, carries_t, closure_t, branch_t, save_t}
 use Rattle.basic.specs.Valid.{PlainOk, return_ok, call_ok, neutral_ok, Ok}
 use Rattle.basic.specs.Tabulated.{inside, indexed}
 use Rattle.basic_program.specs.Program.{plain_at, carried, first, look}
-use Rattle.basic_program.specs.laws.Spots.{Spot, spot_first, spot_within, Twin, plain_t, return_t, call_t, branch_t, save_t, bad_t, no_names, look_here}
+use Rattle.basic_program.specs.laws.Spots.{Spot, spot_first, spot_within, Twin, plain_twin, return_twin, call_twin, branch_twin, save_twin, bad_t, no_names, look_here}
 use Rattle.basic_code.specs.Fetch.{instruction_at, end_as, here_as}
 use Rattle.basic_machine.specs.Links.{onward}
 use Rattle.basic_machine.specs.laws.LinksLaws.{Linked}
@@ -56,12 +56,12 @@ module _ (s L : List ℕ) (P : ℕ → ℕ → Type 0) where
     where
       by : (o : Option Plain) → Twin P (plainly o p) (plainly o p)
       by none = bad_t
-      by (some i) = plain_t h
+      by (some i) = plain_twin h
 
-  plain_like : (v : ℕ) (ns : List ℕ) (a q : ℕ) → PlainOk v ns → P q q → Twin P (instruction_of s L a (plain_t_lem v ns) q) (plain_at v ns q)
+  plain_like : (v : ℕ) (ns : List ℕ) (a q : ℕ) → PlainOk v ns → P q q → Twin P (instruction_of s L a (plain_t v ns) q) (plain_at v ns q)
   unfolding instruction_of plain_at slot_resolve resolve
-  plain_like v ns a q return_ok h = return_t
-  plain_like v ns a q (call_ok k) h = call_t
+  plain_like v ns a q return_ok h = return_twin
+  plain_like v ns a q (call_ok k) h = call_twin
   plain_like v ns a q (neutral_ok l e k b) h =
       rw (ne_eqb v 1 (λ z. omega arith), ne_eqb v 2 (λ z. omega arith))
       (plains _ _ q (no_names (λ n. slot_names 0) (λ n. named_by (entry_of [] n)) v (get_or ns 0 0) (get_or ns 1 0) l) h)
@@ -79,13 +79,13 @@ module _ (s L : List ℕ) (P : ℕ → ℕ → Type 0) where
       rw (instruction_is s L a x.stands.0) (plains (carried v e) (carried v e) _ refl (x.places _ _ (inr (spot_first [] r n _ _))))
   head (closure y r) n a z f F x other =
       let k = packed (link_at L a) (a + 5 + bits y) n x.links.0 (omega (arith, x.few)) in
-      rw (instruction_is s L a x.stands.0, k.0, k.1) (plain_t (x.places _ _ (inr (spot_first [] r (suc n + inside y) _ _))))
+      rw (instruction_is s L a x.stands.0, k.0, k.1) (plain_twin (x.places _ _ (inr (spot_first [] r (suc n + inside y) _ _))))
   head (branch y w r) n a z f F x other =
       rw (instruction_is s L a x.stands.0, x.links.0)
-      (branch_t (x.places _ _ (inr (inl (spot_first [] y n _ _)))) (x.places _ _ (inr (inr (inl (spot_first [] w (n + inside y) _ _))))))
+      (branch_twin (x.places _ _ (inr (inl (spot_first [] y n _ _)))) (x.places _ _ (inr (inr (inl (spot_first [] w (n + inside y) _ _))))))
   head (save m y r) n a z f F x other =
       rw (instruction_is s L a x.stands.0, x.links.0)
-      (save_t x.ok.0 (x.places _ _ (inr (inl (spot_first [] y n _ _)))) (x.places _ _ (inr (inr (spot_first [] r (n + inside y) _ _)))))
+      (save_twin x.ok.0 (x.places _ _ (inr (inl (spot_first [] y n _ _)))) (x.places _ _ (inr (inr (spot_first [] r (n + inside y) _ _)))))
 
   -- it is no list's end
   head_here : (c : Basic) (n a z f : ℕ) (F : Fetched) → Sits n a z f F c → Twin P (here a) (first n a c F)

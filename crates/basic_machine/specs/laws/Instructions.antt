@@ -21,7 +21,7 @@ use Rattle.links.specs.Links.{link_at}
 use Rattle.rules.specs.declared.Plain.TheVariants.{Closure, Global, SetGlobal}
 use Rattle.machines.specs.Fetched.{Fetched, plain, returns, calls, branches, saves, bad, named_by, as_literal, as_global, rule_of, plainly}
 use Rattle.machines.specs.Slots.{slot_resolve}
-use Rattle.basic.specs.Basic.{Token, ended_t, plain_t_lem, carries_t, closure_t, branch_t_lem, save_t_lem}
+use Rattle.basic.specs.Basic.{Token, ended_t, plain_t, carries_t, closure_t, branch_t, save_t}
 use Rattle.basic.specs.Reading.{holding, literal_at, global_at, shaped_at, code_at, token_at}
 use Rattle.basic_program.specs.Program.{carried}
 use Rattle.basic_code.specs.Fetch.{with_read, literal_by, shaped_as, code_as, instruction_at, end_as, here_as}
@@ -30,12 +30,12 @@ module _ (s L : List ℕ) (p : ℕ) where
   -- a code and the place past it, as an instruction at p
   unfoldable pub instruction_of : Token → ℕ → Fetched
   instruction_of ended_t q = bad
-  instruction_of (plain_t_lem v ns) q =
+  instruction_of (plain_t v ns) q =
       cond (eqb v 1) returns (cond (eqb v 2) (calls (get_or ns 0 0)) (plainly (slot_resolve (λ _. 0) v (get_or ns 0 0) (get_or ns 1 0)) q))
   instruction_of (carries_t v e) q = plainly (carried v e) q
   instruction_of closure_t q = plain (Closure (link_at L p % 64)) (link_at L p / 64)
-  instruction_of branch_t_lem q = branches 0 q (link_at L p)
-  instruction_of (save_t_lem n) q = saves n q (link_at L p)
+  instruction_of branch_t q = branches 0 q (link_at L p)
+  instruction_of (save_t n) q = saves n q (link_at L p)
 
   -- what is fetched where a code is read
   unfoldable Is : Got Token → Fetched → Type 0

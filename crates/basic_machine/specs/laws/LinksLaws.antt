@@ -25,7 +25,7 @@ Linked L n f p (save m x r) =
 pub linked_length : (L : List ℕ) (n f p : ℕ) (c : Basic) → length (linked L n f p c) ≡ length L
 unfolding linked
 linked_length L n f p ended = length-set L (p / 5) f
-linked_length L n f p (plain v ns r) = linked_length L n f _ r
+linked_length L n f p (plain v ns r) = linked_length L n f (p + (5 + 8 * length ns)) r
 linked_length L n f p (carries v e r) = linked_length L n f _ r
 linked_length L n f p (closure x r) = linked_length _ _ _ _ r ∙ linked_length _ _ _ _ x ∙ length-set L (p / 5) _
 linked_length L n f p (branch x y r) = linked_length _ _ _ _ r ∙ linked_length _ _ _ _ y ∙ linked_length _ _ _ _ x ∙ length-set L (p / 5) _
@@ -37,7 +37,7 @@ link_kept L p q i h = get_or-set_other L (p / 5) i q 0 (λ e. omega arith)
 linked_kept : (L : List ℕ) (n f p : ℕ) (c : Basic) → Kept p L (linked L n f p c)
 unfolding linked
 linked_kept L n f p ended i h = link_kept L p f i h
-linked_kept L n f p (plain v ns r) i h = linked_kept L n f _ r i (omega arith)
+linked_kept L n f p (plain v ns r) i h = linked_kept L n f (p + (5 + 8 * length ns)) r i (omega arith)
 linked_kept L n f p (carries v e r) i h = linked_kept L n f _ r i (omega arith)
 linked_kept L n f p (closure x r) i h = linked_kept _ _ _ _ r i (omega arith) ∙ linked_kept _ _ _ _ x i (omega arith) ∙ link_kept L p _ i h
 linked_kept L n f p (branch x y r) i h =
@@ -48,7 +48,7 @@ linked_kept L n f p (save m x r) i h = linked_kept _ _ _ _ r i (omega arith) ∙
 still_linked : (L L' : List ℕ) (n f p : ℕ) (c : Basic) → Kept (p + bits c) L L' → Linked L n f p c → Linked L' n f p c
 unfolding Linked bits
 still_linked L L' n f p ended k h = k (p / 5) (omega arith) ∙ h
-still_linked L L' n f p (plain v ns r) k h = still_linked L L' n f _ r (λ i b. k i (omega arith)) h
+still_linked L L' n f p (plain v ns r) k h = still_linked L L' n f (p + (5 + 8 * length ns)) r (λ i b. k i (omega arith)) h
 still_linked L L' n f p (carries v e r) k h = still_linked L L' n f _ r (λ i b. k i (omega arith)) h
 still_linked L L' n f p (closure x r) k h = (
   k (p / 5) (omega arith) ∙ h.0,

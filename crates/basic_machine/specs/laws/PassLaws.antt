@@ -7,7 +7,7 @@ use Rattle.files.specs.Reading.{Got, got, refused}
 use Rattle.files.specs.Entries.{Entry, then}
 use Rattle.files.specs.laws.AllGot.{refused_got, got_value, then_led}
 use Rattle.basic.specs.Basic.{Basic, ended, plain, carries, closure, branch, save, bits}
-use Rattle.basic.specs.Basic.{Token, ended_t, plain_t_lem, carries_t, closure_t, branch_t_lem, save_t_lem, token_bits}
+use Rattle.basic.specs.Basic.{Token, ended_t, plain_t, carries_t, closure_t, branch_t, save_t, token_bits}
 use Rattle.basic.specs.Reading.{token_at, onward, list_at}
 use Rattle.basic.specs.Tabulated.{inside}
 use Rattle.basic.specs.Valid.{below}
@@ -42,10 +42,10 @@ module _ (s : List ℕ) (p : ℕ) (c : Basic) (reads : Reads s p c) where
   unfolding onward
   end_parted {q} e = rw (← (got_value (after ended_t q e)).0) end_p
 
-  pub plain_parted : {v : ℕ} {ns : List ℕ} (q : BitPlace) → token_at s 15 p ≡ got (plain_t_lem v ns) q.0 → Parted s p c (Simple q)
+  pub plain_parted : {v : ℕ} {ns : List ℕ} (q : BitPlace) → token_at s 15 p ≡ got (plain_t v ns) q.0 → Parted s p c (Simple q)
   unfolding onward token_bits
   plain_parted {v} {ns} q e =
-      then_led (list_at s 15 q.0) _ (after (plain_t_lem v ns) q.0 e)
+      then_led (list_at s 15 q.0) _ (after (plain_t v ns) q.0 e)
       (λ r z e₁ o. rw (← (got_value o).0) (plain_p q (token_facts s 15 p e).0 (whole q.0 e₁)))
 
   pub carries_parted : {v : ℕ} {x : Entry} (q : BitPlace) → token_at s 15 p ≡ got (carries_t v x) q.0 → Parted s p c (Simple q)
@@ -68,11 +68,11 @@ module _ (s : List ℕ) (p : ℕ) (c : Basic) (reads : Reads s p c) where
         let v : Reads s q.0 r = rw k.2 (whole m e₂) in
         rw (← (got_value o₂).0) (closure_p a q x.inside b u k.1 (whole a.0 k.0) v)))
 
-    pub saved_parted : (n : ℕ) (q : BitPlace) (x : Facts) → ListIs s 15 a.0 q x → token_at s 15 p ≡ got (save_t_lem n) a.0
+    pub saved_parted : (n : ℕ) (q : BitPlace) (x : Facts) → ListIs s 15 a.0 q x → token_at s 15 p ≡ got (save_t n) a.0
         → Parted s p c (Saved a q x.inside)
     unfolding onward token_bits
     saved_parted n q x w e =
-        then_led (below s 15 a.0) _ (after (save_t_lem n) a.0 e)
+        then_led (below s 15 a.0) _ (after (save_t n) a.0 e)
         (λ y m e₁ o₁. then_led (list_at s 15 m) _ o₁
         (λ r z e₂ o₂.
         let k = one w e₁ in
@@ -82,11 +82,11 @@ module _ (s : List ℕ) (p : ℕ) (c : Basic) (reads : Reads s p c) where
         let v : Reads s q.0 r = rw k.2 (whole m e₂) in
         rw (← (got_value o₂).0) (saved_p a q x.inside b u k.1 (whole a.0 k.0) v)))
 
-    pub arms_parted : (m q : BitPlace) (x y : Facts) → ListIs s 15 a.0 m x → ListIs s 15 m.0 q y → token_at s 15 p ≡ got branch_t_lem a.0
+    pub arms_parted : (m q : BitPlace) (x y : Facts) → ListIs s 15 a.0 m x → ListIs s 15 m.0 q y → token_at s 15 p ≡ got branch_t a.0
         → Parted s p c (Arms a m q x.inside y.inside)
     unfolding onward token_bits
     arms_parted m q x y w w' e =
-        then_led (below s 15 a.0) _ (after branch_t_lem a.0 e)
+        then_led (below s 15 a.0) _ (after branch_t a.0 e)
         (λ d m₁ e₁ o₁. then_led (below s 15 m₁) _ o₁
         (λ f z e₂ o₂. then_led (list_at s 15 z) _ o₂
         (λ r u e₃ o₃.
@@ -106,20 +106,20 @@ module _ (s : List ℕ) (p : ℕ) (c : Basic) (reads : Reads s p c) where
     unfolding onward
     none_parted h e = then_led (below s 15 a.0) _ (after closure_t a.0 e) (λ y m e₁ o. refused_got (sym h ∙ below_15 s a.0 m y e₁))
 
-    pub none_saved : {n z k : ℕ} {r : Parts} → list_at s 15 a.0 ≡ refused n z → token_at s 15 p ≡ got (save_t_lem k) a.0 → Parted s p c r
+    pub none_saved : {n z k : ℕ} {r : Parts} → list_at s 15 a.0 ≡ refused n z → token_at s 15 p ≡ got (save_t k) a.0 → Parted s p c r
     unfolding onward
-    none_saved {k = k} h e = then_led (below s 15 a.0) _ (after (save_t_lem k) a.0 e) (λ y m e₁ o. refused_got (sym h ∙ below_15 s a.0 m y e₁))
+    none_saved {k = k} h e = then_led (below s 15 a.0) _ (after (save_t k) a.0 e) (λ y m e₁ o. refused_got (sym h ∙ below_15 s a.0 m y e₁))
 
-    pub none_first : {n z : ℕ} {r : Parts} → list_at s 15 a.0 ≡ refused n z → token_at s 15 p ≡ got branch_t_lem a.0 → Parted s p c r
+    pub none_first : {n z : ℕ} {r : Parts} → list_at s 15 a.0 ≡ refused n z → token_at s 15 p ≡ got branch_t a.0 → Parted s p c r
     unfolding onward
-    none_first h e = then_led (below s 15 a.0) _ (after branch_t_lem a.0 e) (λ y m e₁ o. refused_got (sym h ∙ below_15 s a.0 m y e₁))
+    none_first h e = then_led (below s 15 a.0) _ (after branch_t a.0 e) (λ y m e₁ o. refused_got (sym h ∙ below_15 s a.0 m y e₁))
 
     pub none_second : {n z : ℕ} {r : Parts} (m : BitPlace) (x : Facts) → ListIs s 15 a.0 m x → list_at s 15 m.0 ≡ refused n z
-        → token_at s 15 p ≡ got branch_t_lem a.0
+        → token_at s 15 p ≡ got branch_t a.0
         → Parted s p c r
     unfolding onward
     none_second m x w h e =
-        then_led (below s 15 a.0) _ (after branch_t_lem a.0 e)
+        then_led (below s 15 a.0) _ (after branch_t a.0 e)
         (λ d m₁ e₁ o₁. then_led (below s 15 m₁) _ o₁
         (λ f z e₂ o₂. let k = one w e₁ in let j : below s 15 m.0 ≡ got f z = rw k.2 e₂ in refused_got (sym h ∙ below_15 s m.0 z f j)))
 
@@ -129,8 +129,8 @@ module _ (s : List ℕ) (p : ℕ) (c : Basic) (reads : Reads s p c) where
 
 -- ---- by what is told of a code
 module _ (g : Got Token) where
-  pub is_ending : (q : BitPlace) → Told g (Ending q) → (v : ℕ) × (ns : List ℕ) × (g ≡ got (plain_t_lem v ns) q.0)
+  pub is_ending : (q : BitPlace) → Told g (Ending q) → (v : ℕ) × (ns : List ℕ) × (g ≡ got (plain_t v ns) q.0)
   is_ending q (told_ending q' v ns h e) = (v, ns, e)
 
-  pub is_plain : (q : BitPlace) → Told g (Plain q) → (v : ℕ) × (ns : List ℕ) × (g ≡ got (plain_t_lem v ns) q.0)
+  pub is_plain : (q : BitPlace) → Told g (Plain q) → (v : ℕ) × (ns : List ℕ) × (g ≡ got (plain_t v ns) q.0)
   is_plain q (told_plain q' v ns h e) = (v, ns, e)

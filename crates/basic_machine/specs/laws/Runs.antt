@@ -24,7 +24,7 @@ use Rattle.basic.specs.Basic.{Basic, ended, plain, carries, closure, branch, sav
 use Rattle.basic.specs.Valid.{Ok}
 use Rattle.basic.specs.Tabulated.{inside}
 use Rattle.basic_program.specs.Program.{Body, body, bodies, all_bodies, no_body, look, first, plain_at, basic_at, basic_program}
-use Rattle.basic_program.specs.laws.Spots.{Spot, spot_first, spot_within, Twin, plain_t, return_t, call_t, branch_t, save_t, bad_t}
+use Rattle.basic_program.specs.laws.Spots.{Spot, spot_first, spot_within, Twin, plain_twin, return_twin, call_twin, branch_twin, save_twin, bad_t}
 use Rattle.basic_code.specs.Fetch.{here_as, fetched_at, basic_linked}
 use Rattle.basic_machine.specs.laws.LinksLaws.{Linked}
 use Rattle.basic_machine.specs.laws.Stands.{Stands}
@@ -144,7 +144,7 @@ module _ (s L table : List ℕ) (c : Basic) (whole : Good s L (body 1 0 c))
 
   gone : (t : ℕ) → (t ≡ 0 → ⊥) → Twin (Here t) (fetched_at s L t 0) (look 1 0 (plain 1 [] ended) bad 0)
   unfolding fetched_at look first plain_at
-  gone t h = rw (ne_eqb t 0 h) return_t
+  gone t h = rw (ne_eqb t 0 h) return_twin
 
   same_stands : (t p : ℕ) → Standing t p → Twin (Here t) (fetched_at s L t p) (basic_at c t p)
   unfolding basic_at Here
@@ -173,11 +173,11 @@ module _ (s L table : List ℕ) (c : Basic) (whole : Good s L (body 1 0 c))
 
   fetched : (t : ℕ) {F G : Fetched} → t < 2 ^ 8 → Twin (Here t) F G → Fetches R (same_but_places R o) ⊥ t t F G
   unfolding same_but_places Here
-  fetched t h (plain_t {p = p} {q = q} r) = plain_f refl (goes t p q h r)
-  fetched t h return_t = return_f
-  fetched t h call_t = call_f
-  fetched t h (branch_t {p₁ = p₁} {p₂ = p₂} {q₁ = q₁} {q₂ = q₂} r₁ r₂) = branch_f (λ z. absurd z) (goes t p₁ q₁ h r₁) (goes t p₂ q₂ h r₂)
-  fetched t h (save_t {n = n} {p₁ = p₁} {p₂ = p₂} {q₁ = q₁} {q₂ = q₂} l r₁ r₂) =
+  fetched t h (plain_twin {p = p} {q = q} r) = plain_f refl (goes t p q h r)
+  fetched t h return_twin = return_f
+  fetched t h call_twin = call_f
+  fetched t h (branch_twin {p₁ = p₁} {p₂ = p₂} {q₁ = q₁} {q₂ = q₂} r₁ r₂) = branch_f (λ z. absurd z) (goes t p₁ q₁ h r₁) (goes t p₂ q₂ h r₂)
+  fetched t h (save_twin {n = n} {p₁ = p₁} {p₂ = p₂} {q₁ = q₁} {q₂ = q₂} l r₁ r₂) =
       let f : p₁ < 2 ^ 24 = standing_fits t p₁ r₁.1 in
       let e : p₁ ≡ q₁ = r₁.0 in
       let v : Savable R n t p₁ t q₁ 0 =

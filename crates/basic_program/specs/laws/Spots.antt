@@ -24,11 +24,11 @@ use Rattle.basic.specs.laws.EntryLaws.{Finds}
 
 -- ---- the same instruction, and on at places that correspond
 pub data Twin (P : ℕ → ℕ → Type 0) : Fetched → Fetched → Type 0 where
-  plain_t : {i : Plain} {p q : ℕ} → P p q → Twin P (plain i p) (plain i q)
-  return_t : Twin P returns returns
-  call_t : {n : ℕ} → Twin P (calls n) (calls n)
-  branch_t : {o o' p₁ p₂ q₁ q₂ : ℕ} → P p₁ q₁ → P p₂ q₂ → Twin P (branches o p₁ p₂) (branches o' q₁ q₂)
-  save_t : {n p₁ p₂ q₁ q₂ : ℕ} → n < 256 → P p₁ q₁ → P p₂ q₂ → Twin P (saves n p₁ p₂) (saves n q₁ q₂)
+  plain_twin : {i : Plain} {p q : ℕ} → P p q → Twin P (plain i p) (plain i q)
+  return_twin : Twin P returns returns
+  call_twin : {n : ℕ} → Twin P (calls n) (calls n)
+  branch_twin : {o o' p₁ p₂ q₁ q₂ : ℕ} → P p₁ q₁ → P p₂ q₂ → Twin P (branches o p₁ p₂) (branches o' q₁ q₂)
+  save_twin : {n p₁ p₂ q₁ q₂ : ℕ} → n < 256 → P p₁ q₁ → P p₂ q₂ → Twin P (saves n p₁ p₂) (saves n q₁ q₂)
   bad_t : Twin P bad bad
 
 -- ---- instructions without entries
@@ -139,7 +139,7 @@ module _ (es : List Entry) where
       where
         by : (o : Option Plain) → Twin P (plainly o p) (plainly o q)
         by none = bad_t
-        by (some i) = plain_t h
+        by (some i) = plain_twin h
 
     unnamed : (v : ℕ) (ns : List ℕ) → 10 ≤ v → resolve [] v ns ≡ resolve es v ns
     unfolding resolve
@@ -149,8 +149,8 @@ module _ (es : List Entry) where
     plain_like : (v : ℕ) (ns : List ℕ) (d : Code) (s s' : ℕ) (F : Fetched) → PlainOk v ns → P (s + (5 + 8 * length ns)) (s' + (5 + 8 * length ns))
         → Twin P (plain_at v ns (s + (5 + 8 * length ns))) (treeFirst es s' (put (simple v ns) d) F)
     unfolding plain_at treeFirst put simple
-    plain_like v ns d s s' F return_ok h = return_t
-    plain_like v ns d s s' F (call_ok k) h = call_t
+    plain_like v ns d s s' F return_ok h = return_twin
+    plain_like v ns d s s' F (call_ok k) h = call_twin
     plain_like v ns d s s' F (neutral_ok l e k b) h =
         rw (ne_eqb v 1 (λ z. omega arith), ne_eqb v 2 (λ z. omega arith)) (plains (resolve [] v ns) (resolve es v ns) _ _ (unnamed v ns l) h)
 
@@ -180,11 +180,11 @@ module _ (es : List Entry) where
     head_like (carries v e r) n s s' F F' x =
         plains _ _ _ _ (carried_like v e x.ok.0 x.finds.0) (x.places _ _ (inr (spot_first r n _ _)))
     head_like (closure y r) n s s' F F' x =
-        rw (closure_like n x.finds.0) (plain_t (x.places _ _ (inr (spot_first r (suc n + inside y) _ _))))
+        rw (closure_like n x.finds.0) (plain_twin (x.places _ _ (inr (spot_first r (suc n + inside y) _ _))))
     head_like (branch y z r) n s s' F F' x =
-        branch_t (x.places _ _ (inr (inl (spot_first y n _ _)))) (x.places _ _ (inr (inr (inl (spot_first z (n + inside y) _ _)))))
+        branch_twin (x.places _ _ (inr (inl (spot_first y n _ _)))) (x.places _ _ (inr (inr (inl (spot_first z (n + inside y) _ _)))))
     head_like (save m y r) n s s' F F' x =
-        save_t x.ok.0 (x.places _ _ (inr (inl (spot_first y n _ _)))) (x.places _ _ (inr (inr (spot_first r (n + inside y) _ _))))
+        save_twin x.ok.0 (x.places _ _ (inr (inl (spot_first y n _ _)))) (x.places _ _ (inr (inr (spot_first r (n + inside y) _ _))))
 
     -- ---- the lists in a list
     module _ {n s s' : ℕ} {F F' : Fetched} where

@@ -11,7 +11,7 @@ use Rattle.std.proofs.Math.ListN.{length}
 use Rattle.fields.specs.Field.{field_read}
 use Rattle.fields.specs.laws.Laws.{read_cases, field_small}
 use Rattle.files.specs.Codes.{shape_of, is_neutral, operands}
-use Rattle.files.specs.Code.{Code, done, neutral, return, call, unless_false_lem, make_cont_lem, Instr, neutral_i, return_i, call_i, unless_i, cont_i, put}
+use Rattle.files.specs.Code.{Code, done, neutral, return, call, unless_false, make_cont, Instr, neutral_i, return_i, call_i, unless_i, cont_i, put}
 use Rattle.files.specs.Code.{simple, bits}
 use Rattle.files.specs.Reading.{Got, got, refused, Head, stop, item, bad, Deep, bottom, below}
 use Rattle.files.specs.Reading.{with_field, with_list, with_deep, shaped, head_at, before, after, items, deep_of, list_at}
@@ -43,8 +43,8 @@ least_bits done = omega arith
 least_bits (neutral op ns r) = omega arith
 least_bits (return r) = omega arith
 least_bits (call n r) = omega arith
-least_bits (unless_false_lem x y r) = omega arith
-least_bits (make_cont_lem n x r) = omega arith
+least_bits (unless_false x y r) = omega arith
+least_bits (make_cont n x r) = omega arith
 
 pub valid_put : (i : Instr) (c : Code) → ValidInstr i → Valid c → Valid (put i c)
 unfolding Valid ValidInstr put
@@ -213,8 +213,8 @@ flat_bits_end done = omega arith
 flat_bits_end (neutral op ns r) = simp length-append (omega (arith, flat_bits_end r))
 flat_bits_end (return r) = omega (arith, flat_bits_end r)
 flat_bits_end (call n r) = omega (arith, flat_bits_end r)
-flat_bits_end (unless_false_lem x y r) = omega (arith, flat_conditional (is_closed x) (flat x) (flat y) (flat r), flat_bits_end x, flat_bits_end y, flat_bits_end r)
-flat_bits_end (make_cont_lem n x r) = simp length-append (omega (arith, flat_bits_end x, flat_bits_end r))
+flat_bits_end (unless_false x y r) = omega (arith, flat_conditional (is_closed x) (flat x) (flat y) (flat r), flat_bits_end x, flat_bits_end y, flat_bits_end r)
+flat_bits_end (make_cont n x r) = simp length-append (omega (arith, flat_bits_end x, flat_bits_end r))
 
 pub flat_bits : (c : Code) → 5 * length (flat c) ≤ 2 * bits c
 flat_bits c = omega (arith, flat_bits_end c)

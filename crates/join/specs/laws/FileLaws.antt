@@ -11,7 +11,7 @@ use Rattle.std.proofs.Math.ListN.{length}
 use Rattle.std.proofs.lemmas.List.{length-map}
 use Rattle.cells.specs.laws.Laws.{clash}
 use Rattle.files.specs.Codes.{is_neutral, operands}
-use Rattle.files.specs.Code.{Code, done, neutral, return, call, unless_false_lem, make_cont_lem, bits}
+use Rattle.files.specs.Code.{Code, done, neutral, return, call, unless_false, make_cont, bits}
 use Rattle.files.specs.Reading.{Got, got, refused}
 use Rattle.files.specs.laws.ReadingLaws.{least_bits}
 use Rattle.files.specs.Entries.{Entry, then}

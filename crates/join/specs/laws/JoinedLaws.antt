@@ -9,7 +9,7 @@ use mathlib.Core.List.{List, [], ◌∷◌, ◌++◌}
 use Rattle.std.proofs.Math.Option.{none}
 use Rattle.std.proofs.Math.ListN.{length, length-append}
 use Rattle.cells.specs.laws.Laws.{clash}
-use Rattle.files.specs.Code.{Code, done, neutral, return, call, unless_false_lem, make_cont_lem}
+use Rattle.files.specs.Code.{Code, done, neutral, return, call, unless_false, make_cont}
 use Rattle.files.specs.Reading.{got, refused}
 use Rattle.files.specs.Entries.{Entry, constant, global, template, then}
 use Rattle.files.specs.laws.EntriesLaws.{EntryOk, EntriesOk}
@@ -170,8 +170,8 @@ open_some done e = clash (cc)
 open_some (neutral op ns r) e = refl
 open_some (return r) e = refl
 open_some (call n r) e = refl
-open_some (unless_false_lem x y r) e = refl
-open_some (make_cont_lem n x r) e = refl
+open_some (unless_false x y r) e = refl
+open_some (make_cont n x r) e = refl
 
 closed_some : (c : Code) → is_closed c ≡ true → is_empty c ≡ false
 unfolding is_closed is_empty
@@ -179,8 +179,8 @@ closed_some done e = clash (cc)
 closed_some (neutral op ns r) e = refl
 closed_some (return r) e = refl
 closed_some (call n r) e = refl
-closed_some (unless_false_lem x y r) e = refl
-closed_some (make_cont_lem n x r) e = refl
+closed_some (unless_false x y r) e = refl
+closed_some (make_cont n x r) e = refl
 
 either_some : (t : Template) (ts : List Template) → unclosed (t ∷ ts) ≡ none → is_empty t.code ≡ false
 unfolding unclosed is_prologue
@@ -200,11 +200,11 @@ each_neutral_lem ok ok' f (neutral op ns r) e =
     rw (f op (get_or ns 0 0) a.0, each_neutral_lem ok ok' f r a.1) refl
 each_neutral_lem ok ok' f (return r) e = each_neutral_lem ok ok' f r e
 each_neutral_lem ok ok' f (call n r) e = each_neutral_lem ok ok' f r e
-each_neutral_lem ok ok' f (unless_false_lem x y r) e =
+each_neutral_lem ok ok' f (unless_false x y r) e =
     let a = (and-eq-true_iff (each_neutral ok x && each_neutral ok y) (each_neutral ok r)).0 e in
     let b = (and-eq-true_iff (each_neutral ok x) (each_neutral ok y)).0 a.0 in
     rw (each_neutral_lem ok ok' f x b.0, each_neutral_lem ok ok' f y b.1, each_neutral_lem ok ok' f r a.1) refl
-each_neutral_lem ok ok' f (make_cont_lem n x r) e =
+each_neutral_lem ok ok' f (make_cont n x r) e =
     let a = (and-eq-true_iff (each_neutral ok x) (each_neutral ok r)).0 e in
     rw (each_neutral_lem ok ok' f x a.0, each_neutral_lem ok ok' f r a.1) refl
 

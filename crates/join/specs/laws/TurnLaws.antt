@@ -8,7 +8,7 @@ use Rattle.cells.specs.laws.Laws.{clash}
 use Rattle.cells.specs.declared.BitPlace.{BitPlace}
 use Rattle.fields.specs.Field.{field_at}
 use Rattle.files.specs.Codes.{shape_of}
-use Rattle.files.specs.Code.{Code, done, neutral, return, call, unless_false_lem, make_cont_lem, bits}
+use Rattle.files.specs.Code.{Code, done, neutral, return, call, unless_false, make_cont, bits}
 use Rattle.files.specs.Valid.{Valid}
 use Rattle.files.specs.Reading.{got, list_at}
 use Rattle.files.specs.laws.ReadingLaws.{least_bits}
@@ -32,8 +32,8 @@ head_shape done = 0
 head_shape (neutral op ns y) = suc (length ns)
 head_shape (return y) = 1
 head_shape (call n y) = 2
-head_shape (unless_false_lem y₁ y₂ y) = 4
-head_shape (make_cont_lem n y b) = 5
+head_shape (unless_false y₁ y₂ y) = 4
+head_shape (make_cont n y b) = 5
 
 module _ (s : List ℕ) (p : ℕ) where
   code_is : (v : ℕ) (b : List ℕ) → v < 32 → Stands s p (bits_of 5 v ++ b) → field_at s p 5 ≡ v
@@ -47,9 +47,9 @@ module _ (s : List ℕ) (p : ℕ) where
       ap shape_of (code_is op (operands_bits ns) n.fits (stands_left (bits_of 5 op ++ operands_bits ns) (list_bits y) h)) ∙ n.shape
   head_is (return y) v h = ap shape_of (code_is 1 (list_bits y) (omega arith) h)
   head_is (call n y) v h = ap shape_of (code_is 2 (bits_of 8 n) (omega arith) (stands_left (bits_of 5 2 ++ bits_of 8 n) (list_bits y) h))
-  head_is (unless_false_lem y₁ y₂ y) v h =
+  head_is (unless_false y₁ y₂ y) v h =
       ap shape_of (code_is 3 (list_bits y₁ ++ list_bits y₂) (omega arith) (stands_left (bits_of 5 3 ++ (list_bits y₁ ++ list_bits y₂)) (list_bits y) h))
-  head_is (make_cont_lem n y b) v h =
+  head_is (make_cont n y b) v h =
       ap shape_of (code_is 4 (bits_of 8 n ++ list_bits y) (omega arith) (stands_left (bits_of 5 4 ++ (bits_of 8 n ++ list_bits y)) (list_bits b) h))
 
 -- ---- what a turn answers, by the shape
@@ -59,8 +59,8 @@ turn_at_end p done e = refl
 turn_at_end p (neutral op ns y) e = absurd (omega arith)
 turn_at_end p (return y) e = absurd (omega arith)
 turn_at_end p (call n y) e = absurd (omega arith)
-turn_at_end p (unless_false_lem y₁ y₂ y) e = absurd (omega arith)
-turn_at_end p (make_cont_lem n y b) e = absurd (omega arith)
+turn_at_end p (unless_false y₁ y₂ y) e = absurd (omega arith)
+turn_at_end p (make_cont n y b) e = absurd (omega arith)
 
 few_operands : (op : ℕ) (ns : List ℕ) (y : Code) → Valid (neutral op ns y) → length ns ≤ 2
 unfolding Valid
@@ -72,8 +72,8 @@ turn_at_cont p done v e q f = absurd (omega arith)
 turn_at_cont p (neutral op ns y) v e q f = absurd (omega (arith, few_operands op ns y v))
 turn_at_cont p (return y) v e q f = absurd (omega arith)
 turn_at_cont p (call n y) v e q f = absurd (omega arith)
-turn_at_cont p (unless_false_lem y₁ y₂ y) v e q f = absurd (omega arith)
-turn_at_cont p (make_cont_lem n y b) v e q f = ap (λ (x : ℕ). Within (record { 0 = x })) f
+turn_at_cont p (unless_false y₁ y₂ y) v e q f = absurd (omega arith)
+turn_at_cont p (make_cont n y b) v e q f = ap (λ (x : ℕ). Within (record { 0 = x })) f
 
 turn_at_plain : (p k : ℕ) (c : Code) → k ≡ head_shape c → (k ≡ 0 → ⊥) → (k ≡ 4 → ⊥) → (k ≡ 5 → ⊥) → (q : BitPlace) → q.0 ≡ p + (5 + 8 * (k - 1))
     → Past q ≡ turn_of p c
@@ -82,8 +82,8 @@ turn_at_plain p k done e z a b q f = absurd (z e)
 turn_at_plain p k (neutral op ns y) e z a b q f = ap (λ (x : ℕ). Past (record { 0 = x })) (f ∙ rw e (omega arith))
 turn_at_plain p k (return y) e z a b q f = ap (λ (x : ℕ). Past (record { 0 = x })) (f ∙ rw e (omega arith))
 turn_at_plain p k (call n y) e z a b q f = ap (λ (x : ℕ). Past (record { 0 = x })) (f ∙ rw e (omega arith))
-turn_at_plain p k (unless_false_lem y₁ y₂ y) e z a b q f = absurd (a e)
-turn_at_plain p k (make_cont_lem n y c) e z a b q f = absurd (b e)
+turn_at_plain p k (unless_false y₁ y₂ y) e z a b q f = absurd (a e)
+turn_at_plain p k (make_cont n y c) e z a b q f = absurd (b e)
 
 -- where parts of an instruction stand
 part : {s : List ℕ} {p : ℕ} (a b : List ℕ) (n q : ℕ) → Stands s p (a ++ b) → length a ≡ n → p + n ≡ q → Stands s q b
@@ -107,7 +107,7 @@ module _ (s : List ℕ) (l p : ℕ) where
   arms (neutral op ns y) v d h e = absurd (omega (arith, few_operands op ns y v))
   arms (return y) v d h e = absurd (omega arith)
   arms (call n y) v d h e = absurd (omega arith)
-  arms (unless_false_lem x y r) v d h e =
+  arms (unless_false x y r) v d h e =
       let k : Stands s p (bits_of 5 3 ++ (list_bits x ++ list_bits y)) = stands_left (bits_of 5 3 ++ (list_bits x ++ list_bits y)) (list_bits r) h in
       let hx : Stands s (p + 5) (list_bits x ++ list_bits y) = part (bits_of 5 3) (list_bits x ++ list_bits y) 5 (p + 5) k (length_bits 5 3) refl in
       record {
@@ -121,7 +121,7 @@ module _ (s : List ℕ) (l p : ℕ) where
         below = omega arith;
         turn = refl;
       }
-  arms (make_cont_lem n y b) v d h e = absurd (omega arith)
+  arms (make_cont n y b) v d h e = absurd (omega arith)
 
   -- ---- what a turn says of the rest
   -- the joint of c is that of the list at q, with m levels left below it, which is so much deeper
@@ -137,8 +137,8 @@ module _ (s : List ℕ) (l p : ℕ) where
   walk_there (neutral op ns y) e = clash (cc)
   walk_there (return y) e = clash (cc)
   walk_there (call n y) e = clash (cc)
-  walk_there (unless_false_lem y₁ y₂ y) e = clash (cc)
-  walk_there (make_cont_lem n y b) e = clash (cc)
+  walk_there (unless_false y₁ y₂ y) e = clash (cc)
+  walk_there (make_cont n y b) e = clash (cc)
 
   past_is : {x y : BitPlace} → Past x ≡ Past y → x.0 ≡ y.0
   past_is {x} {y} e = let f : x ≡ y = cc in ap (λ (z : BitPlace). z.0) f
@@ -168,14 +168,14 @@ module _ (s : List ℕ) (l p : ℕ) where
   walk_past (call n y) v d h q e =
       let m : length (bits_of 5 2 ++ bits_of 8 n) ≡ 13 = length-append (bits_of 5 2) (bits_of 8 n) ∙ rw (length_bits 5 2, length_bits 8 n) refl in
       rest (call n y) y (bits_of 5 2 ++ bits_of 8 n) 13 q.0 v.1 d h m (past_is e) (omega arith) refl refl
-  walk_past (unless_false_lem x y r) v d h q e =
+  walk_past (unless_false x y r) v d h q e =
       let i = bits_of 5 3 ++ (list_bits x ++ list_bits y) in
       let n : length i ≡ 5 + bits x + bits y =
       length-append (bits_of 5 3) (list_bits x ++ list_bits y)
       ∙ rw (length_bits 5 3, length-append (list_bits x) (list_bits y), list_length x, list_length y) (omega arith) in
       let f : p + 5 + bits x + bits y ≡ q.0 = past_is e in
-      rest (unless_false_lem x y r) r i (5 + bits x + bits y) q.0 v.2 (omega arith) h n (omega arith) (omega arith) refl refl
-  walk_past (make_cont_lem n y b) v d h q e = clash (cc)
+      rest (unless_false x y r) r i (5 + bits x + bits y) q.0 v.2 (omega arith) h n (omega arith) (omega arith) refl refl
+  walk_past (make_cont n y b) v d h q e = clash (cc)
 
   pub walk_within : (c : Code) → Valid c → levels c ≤ l → Stands s p (list_bits c) → (q : BitPlace) → turn_of p c ≡ Within q
       → (1 ≤ l) × Walk c (l - 1) q.0 1
@@ -184,8 +184,8 @@ module _ (s : List ℕ) (l p : ℕ) where
   walk_within (neutral op ns y) v d h q e = clash (cc)
   walk_within (return y) v d h q e = clash (cc)
   walk_within (call n y) v d h q e = clash (cc)
-  walk_within (unless_false_lem x y r) v d h q e = clash (cc)
-  walk_within (make_cont_lem n y b) v d h q e =
+  walk_within (unless_false x y r) v d h q e = clash (cc)
+  walk_within (make_cont n y b) v d h q e =
       let k : Stands s p (bits_of 5 4 ++ (bits_of 8 n ++ list_bits y)) = stands_left (bits_of 5 4 ++ (bits_of 8 n ++ list_bits y)) (list_bits b) h in
       let hn : Stands s (p + 5) (bits_of 8 n ++ list_bits y) = part (bits_of 5 4) (bits_of 8 n ++ list_bits y) 5 (p + 5) k (length_bits 5 4) refl in
       let f : p + 13 ≡ q.0 = within_is e in

@@ -1,7 +1,7 @@
 -- What the links of a list say, once they are made: a link is never overwritten, since places only grow. Assumes nothing.
 use Rattle.std.specs.Prelude.{ℕ, ◌+◌, ◌*◌, ◌/◌, ◌≤◌, ◌≡◌, List, length, get_or}
 use Rattle.std.proofs.Common.{arith, ◌∙◌, length-set, get_or-set_same, get_or-set_other}
-use Rattle.files.specs.Code.{Code, done, neutral, return, call, unless_false_lem, make_cont_lem, bits}
+use Rattle.files.specs.Code.{Code, done, neutral, return, call, unless_false, make_cont, bits}
 use Rattle.files.specs.laws.ReadingLaws.{least_bits}
 use Rattle.lists.specs.laws.MarksLaws.{Outside}
 use Rattle.links.specs.Links.{link_at, link, linked}
@@ -12,22 +12,22 @@ Linked L p e f done = link_at L p ≡ f
 Linked L p e f (neutral op ns r) = Linked L (p + (5 + 8 * length ns)) e f r
 Linked L p e f (return r) = Linked L (p + 5) e f r
 Linked L p e f (call n r) = Linked L (p + 13) e f r
-Linked L p e f (unless_false_lem x y r) =
+Linked L p e f (unless_false x y r) =
     (link_at L p ≡ p + 5 + bits x)
     × Linked L (p + 5) (p + bits x) (p + 5 + bits x + bits y) x
     × Linked L (p + 5 + bits x) (p + bits x + bits y) (p + 5 + bits x + bits y) y
     × Linked L (p + 5 + bits x + bits y) e f r
-Linked L p e f (make_cont_lem n x r) =
+Linked L p e f (make_cont n x r) =
     (link_at L p ≡ p + 13 + bits x) × Linked L (p + 13) (p + 8 + bits x) e x × Linked L (p + 13 + bits x) e f r
 
 pub linked_length : (L : List ℕ) (p e f : ℕ) (c : Code) → length (linked L p e f c) ≡ length L
 unfolding linked
 linked_length L p e f done = length-set L (p / 5) f
-linked_length L p e f (neutral op ns r) = linked_length L _ e f r
+linked_length L p e f (neutral op ns r) = linked_length L (p + (5 + 8 * length ns)) e f r
 linked_length L p e f (return r) = linked_length L _ e f r
 linked_length L p e f (call n r) = linked_length L _ e f r
-linked_length L p e f (unless_false_lem x y r) = linked_length _ _ e f r ∙ linked_length _ _ _ _ y ∙ linked_length _ _ _ _ x ∙ length-set L (p / 5) _
-linked_length L p e f (make_cont_lem n x r) = linked_length _ _ e f r ∙ linked_length _ _ _ _ x ∙ length-set L (p / 5) _
+linked_length L p e f (unless_false x y r) = linked_length _ _ e f r ∙ linked_length _ _ _ _ y ∙ linked_length _ _ _ _ x ∙ length-set L (p / 5) _
+linked_length L p e f (make_cont n x r) = linked_length _ _ e f r ∙ linked_length _ _ _ _ x ∙ length-set L (p / 5) _
 
 -- the links of places before p
 abbrev pub Before : ℕ → ℕ → Type 0
@@ -44,14 +44,14 @@ link_other L p q m b i h = get_or-set_other L (p / 5) i m 0 (λ e. h (omega arit
 pub linked_other : (L : List ℕ) (p e f : ℕ) (c : Code) (i : ℕ) → Outside p (p + bits c) i → get_or (linked L p e f c) i 0 ≡ get_or L i 0
 unfolding linked bits
 linked_other L p e f done i h = link_other L p (p + 5) f (omega arith) i h
-linked_other L p e f (neutral op ns r) i h = linked_other L _ e f r i (λ a b. h (omega arith) (omega arith))
+linked_other L p e f (neutral op ns r) i h = linked_other L (p + (5 + 8 * length ns)) e f r i (λ a b. h (omega arith) (omega arith))
 linked_other L p e f (return r) i h = linked_other L _ e f r i (λ a b. h (omega arith) (omega arith))
 linked_other L p e f (call n r) i h = linked_other L _ e f r i (λ a b. h (omega arith) (omega arith))
-linked_other L p e f (unless_false_lem x y r) i h =
+linked_other L p e f (unless_false x y r) i h =
     let b = least_bits r in
     linked_other _ _ e f r i (λ a b. h (omega arith) (omega arith)) ∙ linked_other _ _ _ _ y i (λ a b. h (omega arith) (omega arith))
     ∙ linked_other _ _ _ _ x i (λ a b. h (omega arith) (omega arith)) ∙ link_other L p (p + (5 + bits x + bits y + bits r)) _ (omega arith) i h
-linked_other L p e f (make_cont_lem n x r) i h =
+linked_other L p e f (make_cont n x r) i h =
     linked_other _ _ e f r i (λ a b. h (omega arith) (omega arith)) ∙ linked_other _ _ _ _ x i (λ a b. h (omega arith) (omega arith))
     ∙ link_other L p (p + (13 + bits x + bits r)) _ (omega arith) i h
 
@@ -62,16 +62,16 @@ linked_kept L p e f c i h = linked_other L p e f c i (λ a b. omega arith)
 pub still_linked : (L L' : List ℕ) (p e f : ℕ) (c : Code) → Kept (p + bits c) L L' → Linked L p e f c → Linked L' p e f c
 unfolding Linked bits
 still_linked L L' p e f done k h = k (p / 5) (omega arith) ∙ h
-still_linked L L' p e f (neutral op ns r) k h = still_linked L L' _ e f r (λ i b. k i (omega arith)) h
+still_linked L L' p e f (neutral op ns r) k h = still_linked L L' (p + (5 + 8 * length ns)) e f r (λ i b. k i (omega arith)) h
 still_linked L L' p e f (return r) k h = still_linked L L' _ e f r (λ i b. k i (omega arith)) h
 still_linked L L' p e f (call n r) k h = still_linked L L' _ e f r (λ i b. k i (omega arith)) h
-still_linked L L' p e f (unless_false_lem x y r) k h = (
+still_linked L L' p e f (unless_false x y r) k h = (
   k (p / 5) (omega arith) ∙ h.0,
   still_linked L L' _ _ _ x (λ i b. k i (omega arith)) h.1,
   still_linked L L' _ _ _ y (λ i b. k i (omega arith)) h.2,
   still_linked L L' _ e f r (λ i b. k i (omega arith)) h.3,
 )
-still_linked L L' p e f (make_cont_lem n x r) k h =
+still_linked L L' p e f (make_cont n x r) k h =
     (k (p / 5) (omega arith) ∙ h.0, still_linked L L' _ _ _ x (λ i b. k i (omega arith)) h.1, still_linked L L' _ e f r (λ i b. k i (omega arith)) h.2)
 
 -- THE LAW: what is linked has its links
@@ -81,7 +81,7 @@ linked_holds L p e f done h = get_or-set_same L (p / 5) f 0 (omega arith)
 linked_holds L p e f (neutral op ns r) h = linked_holds L _ e f r (omega arith)
 linked_holds L p e f (return r) h = linked_holds L _ e f r (omega arith)
 linked_holds L p e f (call n r) h = linked_holds L _ e f r (omega arith)
-linked_holds L p e f (unless_false_lem x y r) h =
+linked_holds L p e f (unless_false x y r) h =
     let q = p + 5 + bits x + bits y in
     let L₀ = link L p (p + 5 + bits x) in
     let L₁ = linked L₀ (p + 5) (p + bits x) q x in
@@ -99,7 +99,7 @@ linked_holds L p e f (unless_false_lem x y r) h =
       still_linked L₂ L₃ _ _ _ y k₃ (linked_holds L₁ _ _ _ y (omega arith)),
       linked_holds L₂ q e f r (omega arith),
     )
-linked_holds L p e f (make_cont_lem n x r) h =
+linked_holds L p e f (make_cont n x r) h =
     let q = p + 13 + bits x in
     let L₀ = link L p q in
     let L₁ = linked L₀ (p + 13) (p + 8 + bits x) e x in

@@ -13,7 +13,7 @@ use Rattle.fields.specs.declared.Field.TheVariants.{Read}
 use Rattle.fields.specs.Field.{field_at, field_read}
 use Rattle.fields.specs.laws.Laws.{read_cases, whole}
 use Rattle.files.specs.Codes.{shapes, shape_of}
-use Rattle.files.specs.Code.{Code, done, neutral, return, call, unless_false_lem, make_cont_lem, Instr, neutral_i, return_i, call_i, unless_i, cont_i, put, simple}
+use Rattle.files.specs.Code.{Code, done, neutral, return, call, unless_false, make_cont, Instr, neutral_i, return_i, call_i, unless_i, cont_i, put, simple}
 use Rattle.files.specs.Code.{bits}
 use Rattle.files.specs.Reading.{Got, got, refused, Head, stop, item, bad}
 use Rattle.files.specs.Reading.{with_field, with_list, with_deep, shaped, head_at, before, after, items, deep_of, list_at}
@@ -37,11 +37,11 @@ ListStands s l p done = Reads s p 5 0
 ListStands s l p (neutral op ns r) = Reads s p 5 op × Takes op ns × Operands s (p + 5) ns × ListStands s l (p + (5 + 8 * length ns)) r
 ListStands s l p (return r) = Reads s p 5 1 × ListStands s l (p + 5) r
 ListStands s l p (call n r) = Reads s p 5 2 × Reads s (p + 5) 8 n × ListStands s l (p + 13) r
-ListStands s zero p (unless_false_lem x y r) = ⊥
-ListStands s (suc l) p (unless_false_lem x y r) =
+ListStands s zero p (unless_false x y r) = ⊥
+ListStands s (suc l) p (unless_false x y r) =
     Reads s p 5 3 × ListStands s l (p + 5) x × ListStands s l (p + 5 + bits x) y × ListStands s (suc l) (p + 5 + bits x + bits y) r
-ListStands s zero p (make_cont_lem n x r) = ⊥
-ListStands s (suc l) p (make_cont_lem n x r) = Reads s p 5 4 × Reads s (p + 5) 8 n × ListStands s l (p + 13) x × ListStands s (suc l) (p + 13 + bits x) r
+ListStands s zero p (make_cont n x r) = ⊥
+ListStands s (suc l) p (make_cont n x r) = Reads s p 5 4 × Reads s (p + 5) 8 n × ListStands s l (p + 13) x × ListStands s (suc l) (p + 13 + bits x) r
 
 -- ---- the same of one instruction, and of what is read
 unfoldable StandsI : List ℕ → ℕ → ℕ → Instr → Type 0

@@ -6,7 +6,7 @@ use Rattle.std.proofs.Math.Path.{refl}
 use Rattle.std.proofs.Common.{sym, ◌∙◌, get_or-set_same}
 use Rattle.std.proofs.Math.ListN.{length, length-set}
 use Rattle.std.proofs.Math.Seq.{get_or-set_other}
-use Rattle.files.specs.Code.{Code, done, neutral, return, call, unless_false_lem, make_cont_lem, bits, Instr, neutral_i, return_i, call_i, unless_i, cont_i, put}
+use Rattle.files.specs.Code.{Code, done, neutral, return, call, unless_false, make_cont, bits, Instr, neutral_i, return_i, call_i, unless_i, cont_i, put}
 use Rattle.files.specs.laws.ReadingLaws.{least_bits, bits_i}
 use Rattle.lists.specs.declared.Keep.{Keep}
 use Rattle.lists.specs.Marks.{mark_of, mark_at, mark, marked_in, marked, HasIn, Has}
@@ -27,14 +27,14 @@ module _ (k : Keep) where
   marked_length M p (neutral op ns r) = marked_length M _ r
   marked_length M p (return r) = marked_length M _ r
   marked_length M p (call n r) = marked_length M _ r
-  marked_length M p (unless_false_lem x y r) =
+  marked_length M p (unless_false x y r) =
       let m = p + 5 + bits x in
       let M₁ = marked_in k M (p + 5) x in
       let M₂ = mark M₁ (p + 5) (mark_of k x m) in
       let M₃ = marked_in k M₂ m y in
       let M₄ = mark M₃ m (mark_of k y (m + bits y)) in
       marked_length M₄ (m + bits y) r ∙ length-set M₃ (m / 5) _ ∙ marked_length M₂ m y ∙ length-set M₁ ((p + 5) / 5) _ ∙ marked_length M (p + 5) x
-  marked_length M p (make_cont_lem n x r) =
+  marked_length M p (make_cont n x r) =
       let M₁ = marked_in k M (p + 13) x in
       let M₂ = mark M₁ (p + 13) (mark_of k x (p + 13 + bits x)) in
       marked_length M₂ (p + 13 + bits x) r ∙ length-set M₁ ((p + 13) / 5) _ ∙ marked_length M (p + 13) x
@@ -53,7 +53,7 @@ module _ (k : Keep) where
   inside_kept M p (neutral op ns r) i h = inside_kept M _ r i (λ a b. h (omega arith) (omega arith))
   inside_kept M p (return r) i h = inside_kept M _ r i (λ a b. h (omega arith) (omega arith))
   inside_kept M p (call n r) i h = inside_kept M _ r i (λ a b. h (omega arith) (omega arith))
-  inside_kept M p (unless_false_lem x y r) i h =
+  inside_kept M p (unless_false x y r) i h =
       let m = p + 5 + bits x in
       let M₁ = marked_in k M (p + 5) x in
       let M₂ = mark M₁ (p + 5) (mark_of k x m) in
@@ -63,7 +63,7 @@ module _ (k : Keep) where
       let g : Outside m (m + bits y) i = λ a b. h (omega arith) (omega arith) in
       inside_kept M₄ (m + bits y) r i (λ a b. h (omega arith) (omega arith)) ∙ own_kept M₃ m y _ i g ∙ inside_kept M₂ m y i g
       ∙ own_kept M₁ (p + 5) x _ i f ∙ inside_kept M (p + 5) x i f
-  inside_kept M p (make_cont_lem n x r) i h =
+  inside_kept M p (make_cont n x r) i h =
       let f : Outside (p + 13) (p + 13 + bits x) i = λ a b. h (omega arith) (omega arith) in
       let M₁ = marked_in k M (p + 13) x in
       let M₂ = mark M₁ (p + 13) (mark_of k x (p + 13 + bits x)) in
@@ -80,17 +80,17 @@ module _ (k : Keep) where
   pub still_in : (M M' : List ℕ) (p : ℕ) (c : Code) → Same (p + 5) (p + bits c) M M' → HasIn k M p c → HasIn k M' p c
   unfolding HasIn bits
   still_in M M' p done s h = tt
-  still_in M M' p (neutral op ns r) s h = still_in M M' _ r (λ i a b. s i (omega arith) (omega arith)) h
+  still_in M M' p (neutral op ns r) s h = still_in M M' (p + (5 + 8 * length ns)) r (λ i a b. s i (omega arith) (omega arith)) h
   still_in M M' p (return r) s h = still_in M M' _ r (λ i a b. s i (omega arith) (omega arith)) h
   still_in M M' p (call n r) s h = still_in M M' _ r (λ i a b. s i (omega arith) (omega arith)) h
-  still_in M M' p (unless_false_lem x y r) s h =
+  still_in M M' p (unless_false x y r) s h =
       let f : Same (p + 5) (p + 5 + bits x) M M' = λ i a b. s i (omega arith) (omega arith) in
       let g : Same (p + 5 + bits x) (p + 5 + bits x + bits y) M M' = λ i a b. s i (omega arith) (omega arith) in (
         (own_still M M' _ x _ f h.0.0, still_in M M' _ x (λ i a b. f i (omega arith) b) h.0.1),
         (own_still M M' _ y _ g h.1.0, still_in M M' _ y (λ i a b. g i (omega arith) b) h.1.1),
         still_in M M' _ r (λ i a b. s i (omega arith) (omega arith)) h.2,
       )
-  still_in M M' p (make_cont_lem n x r) s h =
+  still_in M M' p (make_cont n x r) s h =
       let f : Same (p + 13) (p + 13 + bits x) M M' = λ i a b. s i (omega arith) (omega arith) in (
         (own_still M M' _ x _ f h.0.0, still_in M M' _ x (λ i a b. f i (omega arith) b) h.0.1),
         still_in M M' _ r (λ i a b. s i (omega arith) (omega arith)) h.1,
@@ -115,7 +115,7 @@ module _ (k : Keep) where
   marked_in_lem M p (neutral op ns r) room = marked_in_lem M _ r (omega arith)
   marked_in_lem M p (return r) room = marked_in_lem M _ r (omega arith)
   marked_in_lem M p (call n r) room = marked_in_lem M _ r (omega arith)
-  marked_in_lem M p (unless_false_lem x y r) room =
+  marked_in_lem M p (unless_false x y r) room =
       let m = p + 5 + bits x in
       let q = p + 5 + bits x + bits y in
       let M₁ = marked k M (p + 5) x in
@@ -129,7 +129,7 @@ module _ (k : Keep) where
       λ i a b. inside_kept M₂ q r i (λ a' b'. omega arith) ∙ marked_kept M₁ m y i (λ a' b'. omega arith) in
       let s₂ : Same m q M₂ M₃ = λ i a b. inside_kept M₂ q r i (λ a' b'. omega arith) in
       (still_has M₁ M₃ (p + 5) x s₁ hx, still_has M₂ M₃ m y s₂ hy, marked_in_lem M₂ q r (omega arith))
-  marked_in_lem M p (make_cont_lem n x r) room =
+  marked_in_lem M p (make_cont n x r) room =
       let q = p + 13 + bits x in
       let M₁ = marked k M (p + 13) x in
       let M₂ = marked_in k M₁ q r in

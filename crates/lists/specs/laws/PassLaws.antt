@@ -6,7 +6,7 @@ use native.Mathlib.Omega.{arith}
 use Rattle.std.proofs.Math.Path.{refl, sym}
 use Rattle.std.proofs.Math.Bool.{true, false, and-true, and-false, or-false, and_assoc}
 use Rattle.std.proofs.Math.ListN.{length, length-append}
-use Rattle.files.specs.Code.{Code, done, neutral, return, call, unless_false_lem, make_cont_lem, Instr, neutral_i, return_i, call_i, unless_i, cont_i, put}
+use Rattle.files.specs.Code.{Code, done, neutral, return, call, unless_false, make_cont, Instr, neutral_i, return_i, call_i, unless_i, cont_i, put}
 use Rattle.files.specs.Reading.{Got, got, refused}
 use Rattle.files.specs.Grammar.{is_empty, is_open, is_closed, each_neutral}
 use Rattle.files.specs.Flat.{conditional, flat, fits_offset, arms_fit, offsets_fit}
@@ -28,8 +28,8 @@ by_put P d f done = d
 by_put P d f (neutral op ns c) = f (neutral_i op ns) c (by_put P d f c)
 by_put P d f (return c) = f return_i c (by_put P d f c)
 by_put P d f (call n c) = f (call_i n) c (by_put P d f c)
-by_put P d f (unless_false_lem x y c) = f (unless_i x y) c (by_put P d f c)
-by_put P d f (make_cont_lem n x c) = f (cont_i n x) c (by_put P d f c)
+by_put P d f (unless_false x y c) = f (unless_i x y) c (by_put P d f c)
+by_put P d f (make_cont n x c) = f (cont_i n x) c (by_put P d f c)
 
 -- ---- classes
 -- no list is open and closed
@@ -88,8 +88,8 @@ sorted done = empty
 sorted (neutral op ns r) = sorted_neutral (sorted r)
 sorted (return r) = at_most_closed (is_empty r)
 sorted (call n r) = at_most_closed (is_empty r)
-sorted (unless_false_lem x y r) = rw (and_assoc (is_empty r) (is_closed x) (is_closed y)) (sorted_conditional (arms (is_open y) (is_closed y) (sorted x)) (sorted r))
-sorted (make_cont_lem n x r) = sorted_save (sorted x) (is_closed r)
+sorted (unless_false x y r) = rw (and_assoc (is_empty r) (is_closed x) (is_closed y)) (sorted_conditional (arms (is_open y) (is_closed y) (sorted x)) (sorted r))
+sorted (make_cont n x r) = sorted_save (sorted x) (is_closed r)
 
 pub empty_class : (c : Code) → is_empty c ≡ eqb (class_of c) 0
 unfolding class_of
@@ -152,7 +152,7 @@ unfolding conditional_kind
 arms_kind x y = rw (open_class x, open_class y, closed_class x, closed_class y) refl
 
 arms_class : (x y r : Code) (c : Classes)
-    → under (classes_after (conditional_kind (class_of x) (class_of y)) c) (class_of r) ≡ under c (class_of (unless_false_lem x y r))
+    → under (classes_after (conditional_kind (class_of x) (class_of y)) c) (class_of r) ≡ under c (class_of (unless_false x y r))
 unfolding class_of is_empty is_open is_closed
 arms_class x y r c =
     ap (λ (k : Kind). under (classes_after k c) (class_of r)) (arms_kind x y)

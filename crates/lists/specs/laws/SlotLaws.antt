@@ -12,7 +12,7 @@ use Rattle.cells.specs.Cells.{tag_of}
 use Rattle.cells.specs.laws.Laws.{clash}
 use Rattle.files.specs.Codes.{is_neutral}
 use Rattle.files.specs.laws.CodesLaws.{neutral_six}
-use Rattle.files.specs.Code.{Code, done, neutral, return, call, unless_false_lem, make_cont_lem}
+use Rattle.files.specs.Code.{Code, done, neutral, return, call, unless_false, make_cont}
 use Rattle.files.specs.Entries.{Entry, constant, global, template}
 use Rattle.files.specs.laws.EntriesLaws.{EntriesOk}
 use Rattle.files.specs.Grammar.{entry_of, suits, index_fits, each_neutral, indices_fit}
@@ -85,8 +85,8 @@ module _ (table : List ℕ) (own T : ℕ) (es : List Entry) (row : Row table own
   slots_named (neutral op ns r) v = ap₂ ◌&&◌ (index_named op (get_or ns 0 0) v.0 (first_byte ns v.2)) (slots_named r v.3)
   slots_named (return r) v = slots_named r v
   slots_named (call n r) v = slots_named r v.1
-  slots_named (unless_false_lem x y r) v = ap₂ ◌&&◌ (ap₂ ◌&&◌ (slots_named x v.0) (slots_named y v.1)) (slots_named r v.2)
-  slots_named (make_cont_lem n x r) v = ap₂ ◌&&◌ (slots_named x v.1) (slots_named r v.2)
+  slots_named (unless_false x y r) v = ap₂ ◌&&◌ (ap₂ ◌&&◌ (slots_named x v.0) (slots_named y v.1)) (slots_named r v.2)
+  slots_named (make_cont n x r) v = ap₂ ◌&&◌ (slots_named x v.1) (slots_named r v.2)
 
   -- ---- which templates closures name
   slot_set : (n t : ℕ) → 1 ≤ n → n < 256 → entry_of es n ≡ some (template t) → 2 ^ (get_or table (256 * own + n) 0 % 64) ≡ 2 ^ t
@@ -117,8 +117,8 @@ module _ (table : List ℕ) (own T : ℕ) (es : List Entry) (row : Row table own
   slots_close_lem (neutral op ns r) v = ap₂ unite (index_closes_lem op (get_or ns 0 0) v.0 (first_byte ns v.2)) (slots_close_lem r v.3)
   slots_close_lem (return r) v = slots_close_lem r v
   slots_close_lem (call n r) v = slots_close_lem r v.1
-  slots_close_lem (unless_false_lem x y r) v = ap₂ unite (ap₂ unite (slots_close_lem x v.0) (slots_close_lem y v.1)) (slots_close_lem r v.2)
-  slots_close_lem (make_cont_lem n x r) v = ap₂ unite (slots_close_lem x v.1) (slots_close_lem r v.2)
+  slots_close_lem (unless_false x y r) v = ap₂ unite (ap₂ unite (slots_close_lem x v.0) (slots_close_lem y v.1)) (slots_close_lem r v.2)
+  slots_close_lem (make_cont n x r) v = ap₂ unite (slots_close_lem x v.1) (slots_close_lem r v.2)
 
 -- what is in the set is what the closures name
 module _ (es : List Entry) (u : ℕ) where
@@ -139,9 +139,9 @@ module _ (es : List Entry) (u : ℕ) where
   closes_has (neutral op ns r) = has_unite _ _ u ∙ ap₂ ◌||◌ (index_closed (eqb op 7) (entry_of es (get_or ns 0 0))) (closes_has r)
   closes_has (return r) = closes_has r
   closes_has (call n r) = closes_has r
-  closes_has (unless_false_lem x y r) =
+  closes_has (unless_false x y r) =
       has_unite _ _ u ∙ ap₂ ◌||◌ (has_unite _ _ u ∙ ap₂ ◌||◌ (closes_has x) (closes_has y)) (closes_has r) ∙ or_assoc (closes es u x) _ _
-  closes_has (make_cont_lem n x r) = has_unite _ _ u ∙ ap₂ ◌||◌ (closes_has x) (closes_has r)
+  closes_has (make_cont n x r) = has_unite _ _ u ∙ ap₂ ◌||◌ (closes_has x) (closes_has r)
 
 -- ---- a row among others
 pub row_among : (front back : List ℕ) (own start : ℕ) (es : List Entry) → length front ≡ 256 * own → length es < 256

@@ -4,7 +4,7 @@ use Rattle.std.proofs.Common.{arith}
 use borrow.Author.Tests.{eq-eqb, ne_eqb, lt-ltb, le-ltb, leb-true}
 use Rattle.std.proofs.Math.Bool.{and-eq-true_iff}
 use Rattle.files.specs.Codes.{linear_bytes, operand_bytes}
-use Rattle.files.specs.Code.{Code, neutral, unless_false_lem, make_cont_lem, bits}
+use Rattle.files.specs.Code.{Code, neutral, unless_false, make_cont, bits}
 use Rattle.files.specs.Entries.{Entry}
 use Rattle.machines.specs.Fetched.{Fetched, bad, first, look, beyond, transfer}
 
@@ -26,26 +26,26 @@ module _ (es : List Entry) (s p : ℕ) where
     abbrev after : ℕ
     after = s + 5 + bits x + bits y
 
-    pub look_first_arm : p < s + 5 + bits x → look es s (unless_false_lem x y r) F p ≡ look es (s + 5) x (first es after r F) p
+    pub look_first_arm : p < s + 5 + bits x → look es s (unless_false x y r) F p ≡ look es (s + 5) x (first es after r F) p
     unfolding look beyond
-    look_first_arm l = rw (look_beyond (unless_false_lem x y r) F (omega arith), lt-ltb p (s + 5 + bits x) l)
+    look_first_arm l = rw (look_beyond (unless_false x y r) F (omega arith), lt-ltb p (s + 5 + bits x) l)
 
-    pub look_second_arm : s + 5 + bits x ≤ p → p < after → look es s (unless_false_lem x y r) F p ≡ look es (s + 5 + bits x) y (first es after r F) p
+    pub look_second_arm : s + 5 + bits x ≤ p → p < after → look es s (unless_false x y r) F p ≡ look es (s + 5 + bits x) y (first es after r F) p
     unfolding look beyond
-    look_second_arm g l = rw (look_beyond (unless_false_lem x y r) F (omega arith), le-ltb p (s + 5 + bits x) g, lt-ltb p after l)
+    look_second_arm g l = rw (look_beyond (unless_false x y r) F (omega arith), le-ltb p (s + 5 + bits x) g, lt-ltb p after l)
 
-    pub look_after_arms : after ≤ p → look es s (unless_false_lem x y r) F p ≡ look es after r F p
+    pub look_after_arms : after ≤ p → look es s (unless_false x y r) F p ≡ look es after r F p
     unfolding look beyond
-    look_after_arms g = rw (look_beyond (unless_false_lem x y r) F (omega arith), le-ltb p (s + 5 + bits x) (omega arith), le-ltb p after g)
+    look_after_arms g = rw (look_beyond (unless_false x y r) F (omega arith), le-ltb p (s + 5 + bits x) (omega arith), le-ltb p after g)
 
   module _ (n : ℕ) (x r : Code) (F : Fetched) (h : s + 13 ≤ p) where
-    pub look_saved : p < s + 13 + bits x → look es s (make_cont_lem n x r) F p ≡ look es (s + 13) x F p
+    pub look_saved : p < s + 13 + bits x → look es s (make_cont n x r) F p ≡ look es (s + 13) x F p
     unfolding look beyond
-    look_saved l = rw (look_beyond (make_cont_lem n x r) F (omega arith), lt-ltb p (s + 13 + bits x) l)
+    look_saved l = rw (look_beyond (make_cont n x r) F (omega arith), lt-ltb p (s + 13 + bits x) l)
 
-    pub look_after_saved : s + 13 + bits x ≤ p → look es s (make_cont_lem n x r) F p ≡ look es (s + 13 + bits x) r bad p
+    pub look_after_saved : s + 13 + bits x ≤ p → look es s (make_cont n x r) F p ≡ look es (s + 13 + bits x) r bad p
     unfolding look beyond
-    look_after_saved g = rw (look_beyond (make_cont_lem n x r) F (omega arith), le-ltb p (s + 13 + bits x) g)
+    look_after_saved g = rw (look_beyond (make_cont n x r) F (omega arith), le-ltb p (s + 13 + bits x) g)
 
 -- a code above 5 goes on to the next instruction
 pub transfer_other : (op next : ℕ) (w : List ℕ) (F : Fetched) → 6 ≤ op → transfer op w next F ≡ F

@@ -7,7 +7,7 @@ use Rattle.std.proofs.Math.ListN.{get_or-eq_default}
 use Rattle.files.specs.Reading.{got}
 use Rattle.files.specs.laws.AllGot.{Each}
 use Rattle.files.specs.Codes.{shapes, shape_of, is_neutral}
-use Rattle.files.specs.Code.{Code, done, neutral, return, call, unless_false_lem, make_cont_lem}
+use Rattle.files.specs.Code.{Code, done, neutral, return, call, unless_false, make_cont}
 use Rattle.files.specs.Flat.{flat, conditional, fits_offset, arms_fit, offsets_fit, offset_template}
 use Rattle.files.specs.Grammar.{is_closed, lowest}
 use Rattle.files.specs.Linear.{entries_bits, byte_of, bytes_from, bytes_of, three_bytes, template_bytes, templates_bytes, linear_file}
@@ -56,12 +56,12 @@ flat_bytes done v f = tt
 flat_bytes (neutral op ns r) v f = (neutral_byte op v.0, bytes_append ns (flat r) v.2 (flat_bytes r v.3 f))
 flat_bytes (return r) v f = (omega arith, flat_bytes r v f)
 flat_bytes (call n r) v f = (omega arith, (v.0, flat_bytes r v.1 f))
-flat_bytes (unless_false_lem x y r) v f =
+flat_bytes (unless_false x y r) v f =
     let a = (and-eq-true_iff (arms_fit (is_closed x) (length (flat x)) (length (flat y))) (offsets_fit x && (offsets_fit y && offsets_fit r))).0 f in
     let b = (and-eq-true_iff (offsets_fit x) (offsets_fit y && offsets_fit r)).0 a.1 in
     let c = (and-eq-true_iff (offsets_fit y) (offsets_fit r)).0 b.1 in
     conditional_bytes (is_closed x) (flat x) (flat y) (flat r) a.0 (flat_bytes x v.0 b.0) (flat_bytes y v.1 c.0) (flat_bytes r v.2 c.1)
-flat_bytes (make_cont_lem n x r) v f =
+flat_bytes (make_cont n x r) v f =
     let a = (and-eq-true_iff (fits_offset (length (flat r))) (offsets_fit x && offsets_fit r)).0 f in
     let b = (and-eq-true_iff (offsets_fit x) (offsets_fit r)).0 a.1 in
     let l : length (flat r) ≤ 65535 = leb-true _ _ a.0 in

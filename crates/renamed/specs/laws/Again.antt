@@ -8,7 +8,7 @@ use Rattle.std.proofs.Math.Bool.{Bool, true, false}
 use mathlib.Core.List.{List, [], ◌∷◌, map}
 use Rattle.std.proofs.Math.Option.{none, some}
 use Rattle.std.proofs.Math.ListN.{length, length-map}
-use Rattle.files.specs.Code.{Code, done, neutral, return, call, unless_false_lem, make_cont_lem}
+use Rattle.files.specs.Code.{Code, done, neutral, return, call, unless_false, make_cont}
 use Rattle.files.specs.Entries.{Entry, constant, global, template, then}
 use Rattle.files.specs.Grammar.{is_closed, entry_of, indices_fit, lowest, closed_template, indexed_template}
 use Rattle.files.specs.Linear.{entries_bits}
@@ -239,8 +239,8 @@ index_id (neutral op ns r) = rw (same (leb op 9), index_id r) refl
     same false = refl
 index_id (return r) = rw (index_id r) refl
 index_id (call n r) = rw (index_id r) refl
-index_id (unless_false_lem x y r) = rw (index_id x, index_id y, index_id r) refl
-index_id (make_cont_lem n x r) = rw (index_id x, index_id r) refl
+index_id (unless_false x y r) = rw (index_id x, index_id y, index_id r) refl
+index_id (make_cont n x r) = rw (index_id x, index_id r) refl
 
 entries_id : (g : ℕ → ℕ) (own T : ℕ) (es : List Entry) → EntriesOk own T es → ((u : ℕ) → u < T → g u ≡ u) → map (renumber g) es ≡ es
 unfolding renumber

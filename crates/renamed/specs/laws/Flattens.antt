@@ -4,7 +4,7 @@ use Rattle.std.proofs.Math.Path.{refl, ap}
 use Rattle.std.proofs.Common.{◌∙◌}
 use Rattle.std.proofs.Math.Option.{none}
 use Rattle.std.proofs.Math.ListN.{get_or, get_or-map, get_or-eq_default}
-use Rattle.files.specs.Code.{Code, done, neutral, return, call, unless_false_lem, make_cont_lem}
+use Rattle.files.specs.Code.{Code, done, neutral, return, call, unless_false, make_cont}
 use Rattle.files.specs.Entries.{then}
 use Rattle.files.specs.Flat.{offsets_fit, offset_template}
 use Rattle.files.specs.Grammar.{lowest}
@@ -34,8 +34,8 @@ same_offsets f done = refl
 same_offsets f (neutral op ns r) = same_offsets f r
 same_offsets f (return r) = same_offsets f r
 same_offsets f (call n r) = same_offsets f r
-same_offsets f (unless_false_lem x y r) = rw (same_closed f x, same_flat f x, same_flat f y, same_offsets f x, same_offsets f y, same_offsets f r) refl
-same_offsets f (make_cont_lem n x r) = rw (same_flat f r, same_offsets f x, same_offsets f r) refl
+same_offsets f (unless_false x y r) = rw (same_closed f x, same_flat f x, same_flat f y, same_offsets f x, same_offsets f y, same_offsets f r) refl
+same_offsets f (make_cont n x r) = rw (same_flat f r, same_offsets f x, same_offsets f r) refl
 
 lowest_of : (ok : Template → Bool) (n : ℕ) (ts : List Template) → ((i : ℕ) → ok (get_or ts i no_template) ≡ true) → lowest ok n ts ≡ none
 unfolding lowest

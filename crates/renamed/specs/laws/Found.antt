@@ -10,7 +10,7 @@ use Rattle.std.proofs.Math.Dec.{eqb}
 use Rattle.std.proofs.Math.ListN.{length, get_or}
 use Rattle.std.proofs.lemmas.List.{length-map}
 use Rattle.files.specs.Codes.{is_neutral, operands}
-use Rattle.files.specs.Code.{Code, done, neutral, return, call, unless_false_lem, make_cont_lem, bits}
+use Rattle.files.specs.Code.{Code, done, neutral, return, call, unless_false, make_cont, bits}
 use Rattle.files.specs.Entries.{Entry, constant, global, template}
 use Rattle.files.specs.Grammar.{entry_of, suits, index_fits, each_neutral, indices_fit}
 use Rattle.files.specs.Orphans.{is_template, closes}
@@ -30,8 +30,8 @@ module _ (f : ℕ → ℕ) where
   same_levels (neutral op ns r) = same_levels r
   same_levels (return r) = same_levels r
   same_levels (call n r) = same_levels r
-  same_levels (unless_false_lem x y r) = rw (same_levels x, same_levels y, same_levels r) refl
-  same_levels (make_cont_lem n x r) = rw (same_levels x, same_levels r) refl
+  same_levels (unless_false x y r) = rw (same_levels x, same_levels y, same_levels r) refl
+  same_levels (make_cont n x r) = rw (same_levels x, same_levels r) refl
 
   -- ---- operands
   bytes_map : (ns : List ℕ) → ((n : ℕ) → n < 256 → f n < 256) → Bytes ns → Bytes (map f ns)
@@ -53,8 +53,8 @@ module _ (f : ℕ → ℕ) where
   same_valid (neutral op ns r) h v = (v.0, v.1 ∙ sym (same_length f op ns), bytes_same op ns h v.2, same_valid r h v.3)
   same_valid (return r) h v = same_valid r h v
   same_valid (call n r) h v = (v.0, same_valid r h v.1)
-  same_valid (unless_false_lem x y r) h v = (same_valid x h v.0, same_valid y h v.1, same_valid r h v.2)
-  same_valid (make_cont_lem n x r) h v = (v.0, same_valid x h v.1, same_valid r h v.2)
+  same_valid (unless_false x y r) h v = (same_valid x h v.0, same_valid y h v.1, same_valid r h v.2)
+  same_valid (make_cont n x r) h v = (v.0, same_valid x h v.1, same_valid r h v.2)
 
   -- the first operand of a code up to 9
   first_new : (op : ℕ) (ns : List ℕ) → is_neutral op ≡ true → operands op ≡ length ns → leb op 9 ≡ true → get_or (reindexed f op ns) 0 0 ≡ f (get_or ns 0 0)
@@ -80,14 +80,14 @@ module _ (f : ℕ → ℕ) where
       (λ h. or_right (leb op 9 && eqb (get_or (reindexed f op ns) 0 0) (f n)) (names (f n) (reindex f r)) (same_names n r v.3 h))
   same_names n (return r) v e = same_names n r v e
   same_names n (call m r) v e = same_names n r v.1 e
-  same_names n (unless_false_lem x y r) v e =
+  same_names n (unless_false x y r) v e =
       or_cases (names n x) (names n y || names n r) e
       (λ h. or_left (names (f n) (reindex f x)) (names (f n) (reindex f y) || names (f n) (reindex f r)) (same_names n x v.0 h))
       (λ h. or_right (names (f n) (reindex f x)) (names (f n) (reindex f y) || names (f n) (reindex f r))
       (or_cases (names n y) (names n r) h
       (λ h. or_left (names (f n) (reindex f y)) (names (f n) (reindex f r)) (same_names n y v.1 h))
       (λ h. or_right (names (f n) (reindex f y)) (names (f n) (reindex f r)) (same_names n r v.2 h))))
-  same_names n (make_cont_lem m x r) v e =
+  same_names n (make_cont m x r) v e =
       or_cases (names n x) (names n r) e
       (λ h. or_left (names (f n) (reindex f x)) (names (f n) (reindex f r)) (same_names n x v.1 h))
       (λ h. or_right (names (f n) (reindex f x)) (names (f n) (reindex f r)) (same_names n r v.2 h))
@@ -126,7 +126,7 @@ module _ (f : ℕ → ℕ) where
     unfolding names
     rest_found op ns r h n e = h n (or_right (leb op 9 && eqb (get_or ns 0 0) n) (names n r) e)
 
-    arms_found : (x y r : Code) → Found (unless_false_lem x y r) → Found x × Found y × Found r
+    arms_found : (x y r : Code) → Found (unless_false x y r) → Found x × Found y × Found r
     unfolding names
     arms_found x y r h = (
       (λ n e. h n (or_left (names n x) (names n y || names n r) e)),
@@ -134,7 +134,7 @@ module _ (f : ℕ → ℕ) where
       (λ n e. h n (or_right (names n x) (names n y || names n r) (or_right (names n y) (names n r) e))),
     )
 
-    saved_found : (m : ℕ) (x r : Code) → Found (make_cont_lem m x r) → Found x × Found r
+    saved_found : (m : ℕ) (x r : Code) → Found (make_cont m x r) → Found x × Found r
     unfolding names
     saved_found m x r h = ((λ n e. h n (or_left (names n x) (names n r) e)), (λ n e. h n (or_right (names n x) (names n r) e)))
 
@@ -162,12 +162,12 @@ module _ (f : ℕ → ℕ) where
         go false l q = refl
     same_fits (return r) v h e = same_fits r v (plain_found r h) e
     same_fits (call m r) v h e = same_fits r v.1 (call_found m r h) e
-    same_fits (unless_false_lem x y r) v h e =
+    same_fits (unless_false x y r) v h e =
         let k = (and-eq-true_iff (indices_fit es x && indices_fit es y) (indices_fit es r)).0 e in
         let l = (and-eq-true_iff (indices_fit es x) (indices_fit es y)).0 k.0 in
         let a = arms_found x y r h in
         rw (same_fits x v.0 a.0 l.0, same_fits y v.1 a.1 l.1, same_fits r v.2 a.2 k.1) refl
-    same_fits (make_cont_lem m x r) v h e =
+    same_fits (make_cont m x r) v h e =
         let k = (and-eq-true_iff (indices_fit es x) (indices_fit es r)).0 e in
         let a = saved_found m x r h in
         rw (same_fits x v.1 a.0 k.0, same_fits r v.2 a.1 k.1) refl
@@ -189,7 +189,7 @@ module _ (f : ℕ → ℕ) where
         (same_closes u r v.3 (rest_found op ns r h) q))
     same_closes u (return r) v h e = same_closes u r v (plain_found r h) e
     same_closes u (call m r) v h e = same_closes u r v.1 (call_found m r h) e
-    same_closes u (unless_false_lem x y r) v h e =
+    same_closes u (unless_false x y r) v h e =
         let a = arms_found x y r h in
         let X = closes es' (g u) (reindex f x) in
         let Y = closes es' (g u) (reindex f y) in
@@ -197,7 +197,7 @@ module _ (f : ℕ → ℕ) where
         or_cases (closes es u x) (closes es u y || closes es u r) e (λ q. or_left X (Y || R) (same_closes u x v.0 a.0 q))
         (λ q. or_right X (Y || R)
         (or_cases (closes es u y) (closes es u r) q (λ q. or_left Y R (same_closes u y v.1 a.1 q)) (λ q. or_right Y R (same_closes u r v.2 a.2 q))))
-    same_closes u (make_cont_lem m x r) v h e =
+    same_closes u (make_cont m x r) v h e =
         let a = saved_found m x r h in
         let X = closes es' (g u) (reindex f x) in
         let R = closes es' (g u) (reindex f r) in

@@ -12,7 +12,7 @@ use Rattle.std.proofs.Math.ListN.{length, length-append}
 use Rattle.std.proofs.Math.Seq.{take-append_seam}
 use Rattle.files.specs.laws.CodesLaws.{neutral_alike}
 use Rattle.files.specs.Codes.{shape_of, is_neutral, operands}
-use Rattle.files.specs.Code.{Code, done, neutral, return, call, unless_false_lem, make_cont_lem}
+use Rattle.files.specs.Code.{Code, done, neutral, return, call, unless_false, make_cont}
 use Rattle.files.specs.Entries.{Entry}
 use Rattle.files.specs.Grammar.{is_closed, entry_of}
 use Rattle.files.specs.Flat.{flat, conditional}
@@ -55,10 +55,10 @@ same_flat f done = refl
 same_flat f (neutral op ns r) = simp length-append (omega (arith, same_length f op ns, same_flat f r))
 same_flat f (return r) = ap suc (same_flat f r)
 same_flat f (call n r) = ap (λ k. suc (suc k)) (same_flat f r)
-same_flat f (unless_false_lem x y r) =
+same_flat f (unless_false x y r) =
     rw (same_closed f x) (conditional_length (is_closed x) (flat x) (flat (reindex f x)) (flat y) (flat (reindex f y)) (flat r) (flat (reindex f r))
     (same_flat f x) (same_flat f y) (same_flat f r))
-same_flat f (make_cont_lem n x r) = simp length-append (omega (arith, same_flat f r, same_flat f x))
+same_flat f (make_cont n x r) = simp length-append (omega (arith, same_flat f r, same_flat f x))
 
 -- ---- W and W', in which a list and its renumbered form stand at the same places
 module _ (N : Renaming) (es es' : List Entry) (f : ℕ → ℕ) (W W' : List ℕ) where
@@ -117,8 +117,8 @@ module _ (N : Renaming) (Place : ℕ → ℕ → ℕ → ℕ → Type 0) (t t' :
       (here r o.2 n.1 (at_skip W (op ∷ ns) (flat r) a (omega arith)) (at_skip W' (op ∷ ns') (flat (reindex f r)) a' (omega arith))
       (omega (arith, length-append ns (flat r))) u))
 
-  at_cont : {k : Bool} (n : ℕ) (x r : Code) {q e : ℕ} → Ok k (make_cont_lem n x r) → NamedHere (make_cont_lem n x r) → At W q (flat (make_cont_lem n x r))
-      → At W' q (flat (reindex f (make_cont_lem n x r))) → q + length (flat (make_cont_lem n x r)) ≡ e → CloseAt k e → AlikeAt q
+  at_cont : {k : Bool} (n : ℕ) (x r : Code) {q e : ℕ} → Ok k (make_cont n x r) → NamedHere (make_cont n x r) → At W q (flat (make_cont n x r))
+      → At W' q (flat (reindex f (make_cont n x r))) → q + length (flat (make_cont n x r)) ≡ e → CloseAt k e → AlikeAt q
   unfolding Ok Names flat reindex
   at_cont n x r {q} o m a a' h u =
       let R : List ℕ = flat r in
@@ -201,10 +201,10 @@ module _ (N : Renaming) (Place : ℕ → ℕ → ℕ → ℕ → Type 0) (t t' :
   heads (neutral op ns r) o n a a' h u v = at_neutral op ns r o n a a' h u
   heads (return r) o n a a' h u v = rw (lin_return es W a, lin_return es' W' a') return_r
   heads (call m r) o n a a' h u v = rw (lin_call es W a, lin_call es' W' a') call_r
-  heads {k} (unless_false_lem x y r) {q} o n a a' h u v =
+  heads {k} (unless_false x y r) {q} o n a a' h u v =
       at_unless x y r (is_closed x) o.0 o.1 o.2 n.0 n.1 n.2 a
       (subst (λ b. At W' q (conditional b (flat (reindex f x)) (flat (reindex f y)) (flat (reindex f r)))) (same_closed f x) a') h u
-  heads (make_cont_lem m x r) o n a a' h u v = at_cont m x r o n a a' h u
+  heads (make_cont m x r) o n a a' h u v = at_cont m x r o n a a' h u
 
   mutual
     meets : {q : ℕ} → SpotAt q → AlikeAt q

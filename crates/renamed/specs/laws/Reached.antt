@@ -4,7 +4,7 @@ use Rattle.std.proofs.Math.Bool.{and-eq-true_iff}
 use Rattle.std.proofs.Math.Option.{Option, none, some}
 use Rattle.std.proofs.Common.{arith, le-leb, eq-eqb, eqb-true}
 use Rattle.std.proofs.Math.Dec.{eqb}
-use Rattle.files.specs.Code.{Code, done, neutral, return, call, unless_false_lem, make_cont_lem}
+use Rattle.files.specs.Code.{Code, done, neutral, return, call, unless_false, make_cont}
 use Rattle.files.specs.Entries.{Entry, constant, global, template}
 use Rattle.files.specs.laws.EntriesLaws.{EntriesOk}
 use Rattle.files.specs.Grammar.{entry_of, suits, index_fits, indices_fit, lowest, indexed_template, each_neutral}
@@ -46,14 +46,14 @@ closure_names_lem es Q (neutral op ns r) f h =
         rw (s, e, eq-eqb u u refl) refl
 closure_names_lem es Q (return r) f h = closure_names_lem es Q r f h
 closure_names_lem es Q (call m r) f h = closure_names_lem es Q r f h
-closure_names_lem es Q (unless_false_lem x y r) f h =
+closure_names_lem es Q (unless_false x y r) f h =
     let k = (and-eq-true_iff (indices_fit es x && indices_fit es y) (indices_fit es r)).0 f in
     let l = (and-eq-true_iff (indices_fit es x) (indices_fit es y)).0 k.0 in (
       closure_names_lem es Q x l.0 (λ u e. h u (or_left (closes es u x) (closes es u y || closes es u r) e)),
       closure_names_lem es Q y l.1 (λ u e. h u (or_right (closes es u x) (closes es u y || closes es u r) (or_left (closes es u y) (closes es u r) e))),
       closure_names_lem es Q r k.1 (λ u e. h u (or_right (closes es u x) (closes es u y || closes es u r) (or_right (closes es u y) (closes es u r) e))),
     )
-closure_names_lem es Q (make_cont_lem m x r) f h =
+closure_names_lem es Q (make_cont m x r) f h =
     let k = (and-eq-true_iff (indices_fit es x) (indices_fit es r)).0 f in (
       closure_names_lem es Q x k.0 (λ u e. h u (or_left (closes es u x) (closes es u r) e)),
       closure_names_lem es Q r k.1 (λ u e. h u (or_right (closes es u x) (closes es u r) e)),

@@ -8,7 +8,7 @@ use Rattle.std.proofs.Math.Option.{Option, none, some}
 use Rattle.std.proofs.Math.Dec.{leb}
 use Rattle.std.proofs.Math.ListN.{get_or, get_or-map}
 use borrow.Author.Tests.{eqb-true, leb-true, leb-false}
-use Rattle.files.specs.Code.{Code, done, neutral, return, call, unless_false_lem, make_cont_lem}
+use Rattle.files.specs.Code.{Code, done, neutral, return, call, unless_false, make_cont}
 use Rattle.files.specs.Entries.{Entry, constant, global, template}
 use Rattle.files.specs.Grammar.{entry_of}
 use Rattle.rewrite.specs.Reindex.{reindexed}
@@ -25,8 +25,8 @@ Names P done = Unit
 Names P (neutral op ns r) = (op ≤ 9 → P (get_or ns 0 0)) × Names P r
 Names P (return r) = Names P r
 Names P (call n r) = Names P r
-Names P (unless_false_lem x y r) = Names P x × Names P y × Names P r
-Names P (make_cont_lem n x r) = Names P x × Names P r
+Names P (unless_false x y r) = Names P x × Names P y × Names P r
+Names P (make_cont n x r) = Names P x × Names P r
 
 -- ---- what an instruction resolves to
 module _ (N : Renaming) where

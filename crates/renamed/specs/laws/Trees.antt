@@ -4,7 +4,7 @@ use Rattle.std.specs.Prelude.{◌≡◌, refl, Bool, true, false, cond, List, �
 use Rattle.std.proofs.Math.Option.{Option}
 use Rattle.std.proofs.Common.{arith, ltb-true, ltb-false, lt-ltb}
 use Rattle.std.proofs.Math.ListN.{length, get_or}
-use Rattle.files.specs.Code.{Code, done, neutral, return, call, unless_false_lem, make_cont_lem, bits}
+use Rattle.files.specs.Code.{Code, done, neutral, return, call, unless_false, make_cont, bits}
 use Rattle.files.specs.Entries.{Entry}
 use Rattle.files.specs.Grammar.{entry_of}
 use Rattle.files.specs.Tree.{Template}
@@ -73,9 +73,9 @@ module _ (N : Renaming) (Place : ℕ → ℕ → ℕ → ℕ → Type 0) (t t' S
       (omega (arith, same_length f op ns))
   first_like (return r) s s' h n k = return_r
   first_like (call m r) s s' h n k = call_r
-  first_like (unless_false_lem x y r) s s' h n k =
+  first_like (unless_false x y r) s s' h n k =
       rw (same_closed f x, same_bits f x) (branch_r (place (s + 5) (s' + 5) (omega arith)) (place (s + 5 + bits x) (s' + 5 + bits x) (omega arith)))
-  first_like (make_cont_lem m x r) s s' h n k =
+  first_like (make_cont m x r) s s' h n k =
       rw (same_bits f x) (save_r (place (s + 13) (s' + 13) (omega arith)) (place (s + 13 + bits x) (s' + 13 + bits x) (omega arith)))
 
   look_like : (c : Code) {F F' : Fetched} (s s' p q : ℕ) → s + S' ≡ s' + S → p + S' ≡ q + S → Named c → Alike F F'
@@ -89,7 +89,7 @@ module _ (N : Renaming) (Place : ℕ → ℕ → ℕ → ℕ → Type 0) (t t' S
       (look_like r (s + (5 + 8 * length ns)) (s' + (5 + 8 * length (reindexed f op ns))) p q (omega arith) l n.1 k)
   look_like (return r) s s' p q h l n k = by_test (at_same p q s s' l h) return_r (look_like r (s + 5) (s' + 5) p q (omega arith) l n k)
   look_like (call m r) s s' p q h l n k = by_test (at_same p q s s' l h) call_r (look_like r (s + 13) (s' + 13) p q (omega arith) l n k)
-  look_like (unless_false_lem x y r) s s' p q h l n k =
+  look_like (unless_false x y r) s s' p q h l n k =
       rw (same_closed f x, same_bits f x, same_bits f y)
       (by_test (at_same p q s s' l h)
       (branch_r (place (s + 5) (s' + 5) (omega arith)) (place (s + 5 + bits x) (s' + 5 + bits x) (omega arith)))
@@ -99,7 +99,7 @@ module _ (N : Renaming) (Place : ℕ → ℕ → ℕ → ℕ → Type 0) (t t' S
       (look_like y (s + 5 + bits x) (s' + 5 + bits x) p q (omega arith) l n.1
       (first_like r (s + 5 + bits x + bits y) (s' + 5 + bits x + bits y) (omega arith) n.2 k))
       (look_like r (s + 5 + bits x + bits y) (s' + 5 + bits x + bits y) p q (omega arith) l n.2 k))))
-  look_like (make_cont_lem m x r) s s' p q h l n k =
+  look_like (make_cont m x r) s s' p q h l n k =
       rw (same_bits f x)
       (by_test (at_same p q s s' l h)
       (save_r (place (s + 13) (s' + 13) (omega arith)) (place (s + 13 + bits x) (s' + 13 + bits x) (omega arith)))

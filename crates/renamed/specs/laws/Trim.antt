@@ -8,7 +8,7 @@ use Rattle.std.proofs.Math.Option.{Option, none, some}
 use Prim.Native.Nat.{ℕ, zero, suc, ◌+◌, ◌<◌, ◌≤◌}
 use native.Mathlib.Omega.{arith}
 use Rattle.std.proofs.Math.ListN.{length, get_or, get_or-map}
-use Rattle.files.specs.Code.{Code, done, neutral, return, call, unless_false_lem, make_cont_lem}
+use Rattle.files.specs.Code.{Code, done, neutral, return, call, unless_false, make_cont}
 use Rattle.files.specs.Entries.{Entry, constant, global, template}
 use Rattle.files.specs.Grammar.{entry_of}
 use Rattle.files.specs.Tree.{Template}
@@ -40,12 +40,12 @@ named_all (neutral op ns r) Q h = (
 )
 named_all (return r) Q h = named_all r Q h
 named_all (call m r) Q h = named_all r Q h
-named_all (unless_false_lem x y r) Q h = (
+named_all (unless_false x y r) Q h = (
   named_all x Q (λ n e. h n (or_left (names n x) (names n y || names n r) e)),
   named_all y Q (λ n e. h n (or_right (names n x) (names n y || names n r) (or_left (names n y) (names n r) e))),
   named_all r Q (λ n e. h n (or_right (names n x) (names n y || names n r) (or_right (names n y) (names n r) e))),
 )
-named_all (make_cont_lem m x r) Q h = (
+named_all (make_cont m x r) Q h = (
   named_all x Q (λ n e. h n (or_left (names n x) (names n r) e)),
   named_all r Q (λ n e. h n (or_right (names n x) (names n r) e)),
 )
@@ -56,8 +56,8 @@ both_named P Q S done f p q = tt
 both_named P Q S (neutral op ns r) f p q = ((λ l. f (get_or ns 0 0) (p.0 l) (q.0 l)), both_named P Q S r f p.1 q.1)
 both_named P Q S (return r) f p q = both_named P Q S r f p q
 both_named P Q S (call m r) f p q = both_named P Q S r f p q
-both_named P Q S (unless_false_lem x y r) f p q = (both_named P Q S x f p.0 q.0, both_named P Q S y f p.1 q.1, both_named P Q S r f p.2 q.2)
-both_named P Q S (make_cont_lem m x r) f p q = (both_named P Q S x f p.0 q.0, both_named P Q S r f p.1 q.1)
+both_named P Q S (unless_false x y r) f p q = (both_named P Q S x f p.0 q.0, both_named P Q S y f p.1 q.1, both_named P Q S r f p.2 q.2)
+both_named P Q S (make_cont m x r) f p q = (both_named P Q S x f p.0 q.0, both_named P Q S r f p.1 q.1)
 
 -- ---- entries
 abbrev renumbered : (ℕ → ℕ) → Option Entry → Option Entry

@@ -10,7 +10,7 @@ use Rattle.std.proofs.Math.ListN.{length, length-map}
 use Rattle.std.proofs.Math.Dec.{leb}
 use Rattle.cells.specs.laws.Laws.{clash}
 use Rattle.files.specs.Codes.{is_neutral, operands}
-use Rattle.files.specs.Code.{Code, done, neutral, return, call, unless_false_lem, make_cont_lem, bits}
+use Rattle.files.specs.Code.{Code, done, neutral, return, call, unless_false, make_cont, bits}
 use Rattle.files.specs.Entries.{Entry}
 use Rattle.files.specs.Grammar.{is_empty, is_open, is_closed, entry_of, suits, index_fits, each_neutral, indices_fit}
 use Rattle.files.specs.Valid.{Bytes, Valid}
@@ -36,8 +36,8 @@ module _ (f : ℕ → ℕ) where
   same_bits (neutral op ns r) = rw (same_length op ns, same_bits r) refl
   same_bits (return r) = rw (same_bits r) refl
   same_bits (call n r) = rw (same_bits r) refl
-  same_bits (unless_false_lem x y r) = rw (same_bits x, same_bits y, same_bits r) refl
-  same_bits (make_cont_lem n x r) = rw (same_bits x, same_bits r) refl
+  same_bits (unless_false x y r) = rw (same_bits x, same_bits y, same_bits r) refl
+  same_bits (make_cont n x r) = rw (same_bits x, same_bits r) refl
 
   pub same_levels : (c : Code) → levels (reindex f c) ≡ levels c
   unfolding reindex levels
@@ -45,8 +45,8 @@ module _ (f : ℕ → ℕ) where
   same_levels (neutral op ns r) = same_levels r
   same_levels (return r) = same_levels r
   same_levels (call n r) = same_levels r
-  same_levels (unless_false_lem x y r) = rw (same_levels x, same_levels y, same_levels r) refl
-  same_levels (make_cont_lem n x r) = rw (same_levels x, same_levels r) refl
+  same_levels (unless_false x y r) = rw (same_levels x, same_levels y, same_levels r) refl
+  same_levels (make_cont n x r) = rw (same_levels x, same_levels r) refl
 
   pub same_empty : (c : Code) → is_empty (reindex f c) ≡ is_empty c
   unfolding reindex is_empty
@@ -54,8 +54,8 @@ module _ (f : ℕ → ℕ) where
   same_empty (neutral op ns r) = refl
   same_empty (return r) = refl
   same_empty (call n r) = refl
-  same_empty (unless_false_lem x y r) = refl
-  same_empty (make_cont_lem n x r) = refl
+  same_empty (unless_false x y r) = refl
+  same_empty (make_cont n x r) = refl
 
   mutual
     unfolding reindex is_open is_closed
@@ -65,16 +65,16 @@ module _ (f : ℕ → ℕ) where
     same_open (neutral op ns r) = rw (same_empty r, same_open r) refl
     same_open (return r) = refl
     same_open (call n r) = refl
-    same_open (unless_false_lem x y r) = rw (same_open x, same_open y, same_empty r, same_open r) refl
-    same_open (make_cont_lem n x r) = rw (same_empty x, same_open x, same_closed r) refl
+    same_open (unless_false x y r) = rw (same_open x, same_open y, same_empty r, same_open r) refl
+    same_open (make_cont n x r) = rw (same_empty x, same_open x, same_closed r) refl
 
     pub same_closed : (c : Code) → is_closed (reindex f c) ≡ is_closed c
     same_closed done = refl
     same_closed (neutral op ns r) = same_closed r
     same_closed (return r) = same_empty r
     same_closed (call n r) = same_empty r
-    same_closed (unless_false_lem x y r) = rw (same_open x, same_open y, same_closed r, same_empty r, same_closed x, same_closed y) refl
-    same_closed (make_cont_lem n x r) = rw (same_closed x, same_closed r) refl
+    same_closed (unless_false x y r) = rw (same_open x, same_open y, same_closed r, same_empty r, same_closed x, same_closed y) refl
+    same_closed (make_cont n x r) = rw (same_closed x, same_closed r) refl
 
 -- ---- twice is once
 module _ (f g h : ℕ → ℕ) (both : (i : ℕ) → f (g i) ≡ h i) where
@@ -92,8 +92,8 @@ module _ (f g h : ℕ → ℕ) (both : (i : ℕ) → f (g i) ≡ h i) where
   reindex_twice (neutral op ns r) = rw (operands_twice (leb op 9) ns, reindex_twice r) refl
   reindex_twice (return r) = rw (reindex_twice r) refl
   reindex_twice (call n r) = rw (reindex_twice r) refl
-  reindex_twice (unless_false_lem x y r) = rw (reindex_twice x, reindex_twice y, reindex_twice r) refl
-  reindex_twice (make_cont_lem n x r) = rw (reindex_twice x, reindex_twice r) refl
+  reindex_twice (unless_false x y r) = rw (reindex_twice x, reindex_twice y, reindex_twice r) refl
+  reindex_twice (make_cont n x r) = rw (reindex_twice x, reindex_twice r) refl
 
 -- ---- of code whose indices suit the entries es
 -- they are at most E
@@ -138,11 +138,11 @@ module _ (f g : ℕ → ℕ) (es : List Entry) (agree : (i : ℕ) → i ≤ leng
       rw (operands_alike op ns v.0 v.1 a.0, same_reindex r v.3 a.1) refl
   same_reindex (return r) v e = rw (same_reindex r v e) refl
   same_reindex (call n r) v e = rw (same_reindex r v.1 e) refl
-  same_reindex (unless_false_lem x y r) v e =
+  same_reindex (unless_false x y r) v e =
       let a = (and-eq-true_iff (each_neutral (index_fits es) x && each_neutral (index_fits es) y) (each_neutral (index_fits es) r)).0 e in
       let b = (and-eq-true_iff (each_neutral (index_fits es) x) (each_neutral (index_fits es) y)).0 a.0 in
       rw (same_reindex x v.0 b.0, same_reindex y v.1 b.1, same_reindex r v.2 a.1) refl
-  same_reindex (make_cont_lem n x r) v e =
+  same_reindex (make_cont n x r) v e =
       let a = (and-eq-true_iff (each_neutral (index_fits es) x) (each_neutral (index_fits es) r)).0 e in
       rw (same_reindex x v.1 a.0, same_reindex r v.2 a.1) refl
 
@@ -171,11 +171,11 @@ module _ (f : ℕ → ℕ) (es : List Entry) (small : (i : ℕ) → i ≤ length
       (v.0, rw (same_length f op ns) v.1, operands_bytes op ns v.0 v.1 v.2 a.0, valid_reindex r v.3 a.1)
   valid_reindex (return r) v e = valid_reindex r v e
   valid_reindex (call n r) v e = (v.0, valid_reindex r v.1 e)
-  valid_reindex (unless_false_lem x y r) v e =
+  valid_reindex (unless_false x y r) v e =
       let a = (and-eq-true_iff (each_neutral (index_fits es) x && each_neutral (index_fits es) y) (each_neutral (index_fits es) r)).0 e in
       let b = (and-eq-true_iff (each_neutral (index_fits es) x) (each_neutral (index_fits es) y)).0 a.0 in
       (valid_reindex x v.0 b.0, valid_reindex y v.1 b.1, valid_reindex r v.2 a.1)
-  valid_reindex (make_cont_lem n x r) v e =
+  valid_reindex (make_cont n x r) v e =
       let a = (and-eq-true_iff (each_neutral (index_fits es) x) (each_neutral (index_fits es) r)).0 e in
       (v.0, valid_reindex x v.1 a.0, valid_reindex r v.2 a.1)
 
@@ -199,10 +199,10 @@ module _ (f : ℕ → ℕ) (es ds : List Entry) (moves : (op n : ℕ) → suits 
       go false h = refl
   indices_move (return r) e = indices_move r e
   indices_move (call n r) e = indices_move r e
-  indices_move (unless_false_lem x y r) e =
+  indices_move (unless_false x y r) e =
       let a = (and-eq-true_iff (each_neutral (index_fits es) x && each_neutral (index_fits es) y) (each_neutral (index_fits es) r)).0 e in
       let b = (and-eq-true_iff (each_neutral (index_fits es) x) (each_neutral (index_fits es) y)).0 a.0 in
       rw (indices_move x b.0, indices_move y b.1, indices_move r a.1) refl
-  indices_move (make_cont_lem n x r) e =
+  indices_move (make_cont n x r) e =
       let a = (and-eq-true_iff (each_neutral (index_fits es) x) (each_neutral (index_fits es) r)).0 e in
       rw (indices_move x a.0, indices_move r a.1) refl

@@ -6,7 +6,7 @@ use mathlib.Core.List.{List, [], ◌∷◌, ◌++◌, map, append_assoc, append-
 use borrow.Author.Tests.{leb-true, leb-false, lt-ltb, le-ltb}
 use Rattle.std.proofs.Math.ListN.{length, length-append}
 use Rattle.files.specs.Codes.{shape_of, is_neutral, operands}
-use Rattle.files.specs.Code.{Code, done, neutral, return, call, unless_false_lem, make_cont_lem, bits}
+use Rattle.files.specs.Code.{Code, done, neutral, return, call, unless_false, make_cont, bits}
 use Rattle.files.specs.Valid.{Bytes, Valid}
 use Rattle.files.specs.Linear.{bits_of}
 use Rattle.lists.specs.laws.Each.{each}
@@ -27,10 +27,10 @@ body_end done = refl
 body_end (neutral op ns r) = rw (body_end r) (sym (append_assoc (bits_of 5 op ++ operands_bits ns) (body_bits r) (bits_of 5 0)))
 body_end (return r) = rw (body_end r) (sym (append_assoc (bits_of 5 1) (body_bits r) (bits_of 5 0)))
 body_end (call n r) = rw (body_end r) (sym (append_assoc (bits_of 5 2 ++ bits_of 8 n) (body_bits r) (bits_of 5 0)))
-body_end (unless_false_lem x y r) =
+body_end (unless_false x y r) =
     ap (λ (l : List ℕ). (bits_of 5 3 ++ (list_bits x ++ list_bits y)) ++ l) (body_end r)
     ∙ sym (append_assoc (bits_of 5 3 ++ (list_bits x ++ list_bits y)) (body_bits r) (bits_of 5 0))
-body_end (make_cont_lem n x r) =
+body_end (make_cont n x r) =
     ap (λ (l : List ℕ). (bits_of 5 4 ++ (bits_of 8 n ++ list_bits x)) ++ l) (body_end r)
     ∙ sym (append_assoc (bits_of 5 4 ++ (bits_of 8 n ++ list_bits x)) (body_bits r) (bits_of 5 0))
 
@@ -45,14 +45,14 @@ tokens_bits_lem done ts = refl
 tokens_bits_lem (neutral op ns r) ts = rw (tokens_bits_lem r ts) (sym (append_assoc (bits_of 5 op ++ operands_bits ns) (body_bits r) (tokens_bits ts)))
 tokens_bits_lem (return r) ts = rw (append-nil (bits_of 5 1), tokens_bits_lem r ts) (sym (append_assoc (bits_of 5 1) (body_bits r) (tokens_bits ts)))
 tokens_bits_lem (call n r) ts = rw (append-nil (bits_of 8 n), tokens_bits_lem r ts) (sym (append_assoc (bits_of 5 2 ++ bits_of 8 n) (body_bits r) (tokens_bits ts)))
-tokens_bits_lem (unless_false_lem x y r) ts =
+tokens_bits_lem (unless_false x y r) ts =
     let b = tokens_bits ts in
     let inner : tokens_bits (tokens y (end ∷ tokens r ts)) ≡ list_bits y ++ (body_bits r ++ b) =
     tokens_bits_lem y (end ∷ tokens r ts) ∙ ended y (tokens r ts) ∙ ap (λ (l : List ℕ). list_bits y ++ l) (tokens_bits_lem r ts) in
     let all : tokens_bits (tokens x (end ∷ tokens y (end ∷ tokens r ts))) ≡ list_bits x ++ (list_bits y ++ (body_bits r ++ b)) =
     tokens_bits_lem x (end ∷ tokens y (end ∷ tokens r ts)) ∙ ended x (tokens y (end ∷ tokens r ts)) ∙ ap (λ (l : List ℕ). list_bits x ++ l) inner in
     ap (λ (l : List ℕ). (bits_of 5 3 ++ []) ++ l) all ∙ simp (append_assoc, append-nil)
-tokens_bits_lem (make_cont_lem n x r) ts =
+tokens_bits_lem (make_cont n x r) ts =
     let b = tokens_bits ts in
     let all : tokens_bits (tokens x (end ∷ tokens r ts)) ≡ list_bits x ++ (body_bits r ++ b) =
     tokens_bits_lem x (end ∷ tokens r ts) ∙ ended x (tokens r ts) ∙ ap (λ (l : List ℕ). list_bits x ++ l) (tokens_bits_lem r ts) in
@@ -87,12 +87,12 @@ tokens_ok (neutral op ns r) ts v h =
     (record { fits = n.fits; count = count_is (shape_of op) (length ns) n.shape n.few; bytes = v.2 }, tokens_ok r ts v.3 h)
 tokens_ok (return r) ts v h = (record { fits = omega arith; count = refl; bytes = tt }, tokens_ok r ts v h)
 tokens_ok (call n r) ts v h = (record { fits = omega arith; count = refl; bytes = (v.0, tt) }, tokens_ok r ts v.1 h)
-tokens_ok (unless_false_lem x y r) ts v h =
+tokens_ok (unless_false x y r) ts v h =
     let e : TokenOk end = record { fits = omega arith; count = refl; bytes = tt } in (
       record { fits = omega arith; count = refl; bytes = tt },
       tokens_ok x (end ∷ tokens y (end ∷ tokens r ts)) v.0 (e, tokens_ok y (end ∷ tokens r ts) v.1 (e, tokens_ok r ts v.2 h)),
     )
-tokens_ok (make_cont_lem n x r) ts v h =
+tokens_ok (make_cont n x r) ts v h =
     let e : TokenOk end = record { fits = omega arith; count = refl; bytes = tt } in (
       record { fits = omega arith; count = refl; bytes = (v.0, tt) },
       tokens_ok x (end ∷ tokens r ts) v.1 (e, tokens_ok r ts v.2 h),
@@ -152,9 +152,9 @@ module _ (f : ℕ → ℕ) where
   renewed_tokens (neutral op ns r) ts v = rw (new_is op ns v.0 v.1, renewed_tokens r ts v.3)
   renewed_tokens (return r) ts v = rw (renewed_tokens r ts v)
   renewed_tokens (call n r) ts v = rw (renewed_tokens r ts v.1)
-  renewed_tokens (unless_false_lem x y r) ts v =
+  renewed_tokens (unless_false x y r) ts v =
       rw (renewed_tokens x (end ∷ tokens y (end ∷ tokens r ts)) v.0, renewed_tokens y (end ∷ tokens r ts) v.1, renewed_tokens r ts v.2)
-  renewed_tokens (make_cont_lem n x r) ts v = rw (renewed_tokens x (end ∷ tokens r ts) v.1, renewed_tokens r ts v.2)
+  renewed_tokens (make_cont n x r) ts v = rw (renewed_tokens x (end ∷ tokens r ts) v.1, renewed_tokens r ts v.2)
 
   pub renewed_body : (c : Code) → Valid c → tokens_bits (renewed f (tokens c [])) ≡ body_bits (reindex f c)
   unfolding renewed tokens_bits

@@ -11,7 +11,7 @@ use Rattle.cells.specs.Cells.{widened, cell_of, Fits}
 use Rattle.cells.specs.laws.Laws.{widened_fits}
 use Rattle.cells.specs.declared.Value.{Value}
 use Rattle.files.specs.Codes.{operand_bytes}
-use Rattle.files.specs.Code.{Code, done, neutral, return, call, unless_false_lem, make_cont_lem, bits}
+use Rattle.files.specs.Code.{Code, done, neutral, return, call, unless_false, make_cont, bits}
 use Rattle.files.specs.Entries.{Entry, constant, global, template, tag_width}
 use Rattle.files.specs.laws.EntriesLaws.{EntryOk, EntriesOk}
 use Rattle.files.specs.Grammar.{entry_of}
@@ -149,8 +149,8 @@ module _ (own T : ℕ) (es : List Entry) (fit : EntriesOk own T es) where
   first_ok s (neutral op ns r) F v h f = neutral_ok op ns _ v.2
   first_ok s (return r) F v h f = tt
   first_ok s (call n r) F v h f = tt
-  first_ok s (unless_false_lem x y r) F v h f = tt
-  first_ok s (make_cont_lem n x r) F v h f = (v.0, omega arith)
+  first_ok s (unless_false x y r) F v h f = tt
+  first_ok s (make_cont n x r) F v h f = (v.0, omega arith)
 
   look_by_ok : (c : Code) (s : ℕ) (F : Fetched) (p : ℕ) → Valid c → s + bits c < 2 ^ 24 → FetchedOk F → FetchedOk (beyond es c s F p)
       → FetchedOk (look_by es (beyond es c) s c F p)
@@ -162,12 +162,12 @@ module _ (own T : ℕ) (es : List Entry) (fit : EntriesOk own T es) where
   beyond_ok (neutral op ns r) s F p v h f = look_by_ok r _ F p v.3 (omega arith) f (beyond_ok r _ F p v.3 (omega arith) f)
   beyond_ok (return r) s F p v h f = look_by_ok r _ F p v (omega arith) f (beyond_ok r _ F p v (omega arith) f)
   beyond_ok (call n r) s F p v h f = look_by_ok r _ F p v.1 (omega arith) f (beyond_ok r _ F p v.1 (omega arith) f)
-  beyond_ok (unless_false_lem x y r) s F p v h f =
+  beyond_ok (unless_false x y r) s F p v h f =
       let after : FetchedOk (first es (s + 5 + bits x + bits y) r F) = first_ok _ r F v.2 (omega arith) f in
       either FetchedOk (ltb p (s + 5 + bits x)) _ _ (look_by_ok x _ _ p v.0 (omega arith) after (beyond_ok x _ _ p v.0 (omega arith) after))
       (either FetchedOk (ltb p (s + 5 + bits x + bits y)) _ _ (look_by_ok y _ _ p v.1 (omega arith) after (beyond_ok y _ _ p v.1 (omega arith) after))
       (look_by_ok r _ F p v.2 (omega arith) f (beyond_ok r _ F p v.2 (omega arith) f)))
-  beyond_ok (make_cont_lem n x r) s F p v h f =
+  beyond_ok (make_cont n x r) s F p v h f =
       either FetchedOk (ltb p (s + 13 + bits x)) _ _ (look_by_ok x _ F p v.1 (omega arith) f (beyond_ok x _ F p v.1 (omega arith) f))
       (look_by_ok r _ bad p v.2 (omega arith) tt (beyond_ok r _ bad p v.2 (omega arith) tt))
 

@@ -3,7 +3,7 @@ use Prim.Native.Nat.{ℕ, ◌+◌, ◌*◌, ◌-◌, ◌≤◌, ◌<◌}
 use Rattle.tabulate.specs.laws.CollectLaws.{closure_far, closure_many, collect_closure, collect_end}
 use Rattle.tabulate.specs.laws.CollectLaws.{own_list_bound, collect_begin, collect_size, collect_copy, collect_entry, entry_many, closure_number}
 use Rattle.tabulate.specs.laws.WalkLaws.{step_as, step_nothing, copy_far, entry_far, closure_read}
-use Rattle.tabulate.specs.Collect.{OwnList, Collecting, many_entries_lem}
+use Rattle.tabulate.specs.Collect.{OwnList, Collecting, many_entries}
 use Rattle.basic.specs.laws.StepLaws.{list_is, list_refused}
 use Rattle.basic.specs.laws.ReadLaws.{list_facts}
 use lib.ListN.{length}
@@ -64,7 +64,7 @@ shape_of-table-then-count-gt255 c =
 pub returns-then-count-gt255 : goal.returns-then-count-gt255
 returns-then-count-gt255 c =
     record {
-      collected_is = λ w. let v = c.loop-end.invariant in let k = v.2 w in let h = ltb-true _ _ (sym c.before-in-loop-end.ensures ∙ c.loop-end-test.true) in many_entries_lem
+      collected_is = λ w. let v = c.loop-end.invariant in let k = v.2 w in let h = ltb-true _ _ (sym c.before-in-loop-end.ensures ∙ c.loop-end-test.true) in many_entries
           (entry_many k _ _ _ c.add-count.ensures (step_as c.in-Entry.is (c.step_at.ensures _ _ h k.stand)) c.if-count-gt255.true);
       table_len = c.add-count.ensures.long ∙ c.loop-end.invariant.1;
     }
@@ -127,7 +127,7 @@ pub returns-then-count-gt255-2 : goal.returns-then-count-gt255-2
 returns-then-count-gt255-2 c =
     record {
       collected_is = λ w. let v = c.loop-end.invariant in let k = v.2 w in let h = ltb-true _ _ (sym c.before-in-loop-end.ensures ∙ c.loop-end-test.true) in let st = step_as c.in-Closure.is
-          (c.step_at.ensures _ _ h k.stand) in let told = list_is _ _ _ _ _ (sym c.in-Done.is ∙ c.read_list.ensures) in many_entries_lem
+          (c.step_at.ensures _ _ h k.stand) in let told = list_is _ _ _ _ _ (sym c.in-Done.is ∙ c.read_list.ensures) in many_entries
           (closure_many k _ _ _ w.few st told _ refl c.add-count-in-Closure.ensures c.if-count-gt255-2.true);
       table_len = c.add-count-in-Closure.ensures.long ∙ c.loop-end.invariant.1;
     }

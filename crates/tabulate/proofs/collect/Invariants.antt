@@ -3,7 +3,7 @@ use Prim.Native.Nat.{ℕ, ◌+◌, ◌*◌, ◌-◌, ◌≤◌, ◌<◌}
 use Rattle.tabulate.specs.laws.CollectLaws.{closure_far, closure_many, collect_closure, collect_end}
 use Rattle.tabulate.specs.laws.CollectLaws.{own_list_bound, collect_begin, collect_size, collect_copy, collect_entry, entry_many, closure_number}
 use Rattle.tabulate.specs.laws.WalkLaws.{step_as, step_nothing, copy_far, entry_far, closure_read}
-use Rattle.tabulate.specs.Collect.{OwnList, Collecting, many_entries_lem}
+use Rattle.tabulate.specs.Collect.{OwnList, Collecting, many_entries}
 use Rattle.basic.specs.laws.StepLaws.{list_is, list_refused}
 use Rattle.basic.specs.laws.ReadLaws.{list_facts}
 use lib.ListN.{length}

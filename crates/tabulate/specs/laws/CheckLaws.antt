@@ -22,7 +22,7 @@ use Rattle.tabulate.specs.declared.Closed.TheVariants.{All, But}
 use Rattle.tabulate.specs.declared.Measured.{Measured}
 use Rattle.tabulate.specs.declared.Measured.TheVariants.{Large, Bits}
 use Rattle.tabulate.specs.declared.CheckedFile.TheVariants.{Accepted, Refused}
-use Rattle.tabulate.specs.Judge.{ListIn, FewIn, ClosedIs, all_closed, but_one, MeasuredIs, too_large_lem, measured, JudgedIn, CheckedIs, accepted}
+use Rattle.tabulate.specs.Judge.{ListIn, FewIn, ClosedIs, all_closed, but_one, MeasuredIs, too_large, measured, JudgedIn, CheckedIs, accepted}
 use Rattle.tabulate.specs.Judge.{refused_file}
 use Rattle.basic.specs.laws.WrittenLaws.{tabulated_length}
 
@@ -49,7 +49,7 @@ module _ {s : List ℕ} {e count : ℕ} (w : JudgedIn s e count) where
 
     pub many_in_one : MeasuredIs (tabulated w.whole.list) Large → CheckedIs s (Refused 26 0)
     unfolding within_limits
-    many_in_one (too_large_lem h) = refused_file 26 0 (checked_by ∙ rw (few_leb, h) refl)
+    many_in_one (too_large h) = refused_file 26 0 (checked_by ∙ rw (few_leb, h) refl)
 
     module _ (b : ℕ) (m : MeasuredIs (tabulated w.whole.list) (Bits b)) where
       bits_are : (entries_fit (tabulated w.whole.list) ≡ true) × (8 + b ≡ length (file_bits (tabulated w.whole.list)))

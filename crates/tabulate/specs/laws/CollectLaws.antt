@@ -24,7 +24,7 @@ use Rattle.tabulate.specs.declared.Collected.{Collected}
 use Rattle.tabulate.specs.declared.Collected.TheVariants.{Many, Entries}
 use Rattle.tabulate.specs.Slots.{slot_of, Fits, AllFit, slots_of, placed, Added}
 use Rattle.tabulate.specs.Walk.{StepIs, is_copy, is_entry, is_closure}
-use Rattle.tabulate.specs.Collect.{OwnList, CollectedIs, many_entries_lem, few_entries, Collecting}
+use Rattle.tabulate.specs.Collect.{OwnList, CollectedIs, many_entries, few_entries, Collecting}
 use Rattle.tabulate.specs.laws.SlotLaws.{slots_length, placed_with, fit_with, all_longer}
 
 -- ---- bounds

@@ -16,8 +16,8 @@ use Rattle.basic.specs.Forest.{own_bits}
 use Rattle.basic.specs.laws.ForestLaws.{plain_long}
 use Rattle.tabulate.specs.declared.Measured.TheVariants.{Large, Bits}
 use Rattle.tabulate.specs.declared.Collected.TheVariants.{Many, Entries}
-use Rattle.tabulate.specs.Collect.{CollectedIs, many_entries_lem, few_entries, slots_bits}
-use Rattle.tabulate.specs.Judge.{MeasuredIs, too_large_lem, measured}
+use Rattle.tabulate.specs.Collect.{CollectedIs, many_entries, few_entries, slots_bits}
+use Rattle.tabulate.specs.Judge.{MeasuredIs, too_large, measured}
 use Rattle.tabulate.specs.laws.BitsLaws.{slots_bits_lem}
 use Rattle.cells.specs.declared.BitPlace.{BitPlace}
 use Rattle.files.specs.Reading.{got}
@@ -158,8 +158,8 @@ module _ {s : List ℕ} {e own p b : ℕ} {c : Basic} (k : Measuring s e own p b
   module _ (table : List ℕ) where
     pub measure_large : CollectedIs (entries_of (own + 1) k.from.first) (own_bits k.from.first) table Many → MeasuredIs (tabulated c) Large
     unfolding entries_fit template_of
-    measure_large (many_entries_lem h) =
-        too_large_lem (k.fit ∙ rw (lt-leb (length (entries_of (own + 1) k.from.first)) 255 h) refl)
+    measure_large (many_entries h) =
+        too_large (k.fit ∙ rw (lt-leb (length (entries_of (own + 1) k.from.first)) 255 h) refl)
 
     module _ (count size : ℕ) (is : CollectedIs (entries_of (own + 1) k.from.first) (own_bits k.from.first) table (Entries count size)) where
       pub collected_few : (count ≤ 255) × (size ≡ own_bits k.from.first)

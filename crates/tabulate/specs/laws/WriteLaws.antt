@@ -21,7 +21,7 @@ use Rattle.basic.specs.laws.EntryLaws.{uses_in}
 use Rattle.tabulate.specs.declared.Collected.TheVariants.{Many, Entries}
 use Rattle.tabulate.specs.declared.Next.TheVariants.{Nothing as NoNext, List as ListNext}
 use Rattle.tabulate.specs.Walk.{NextIs}
-use Rattle.tabulate.specs.Collect.{OwnList, CollectedIs, many_entries_lem, few_entries}
+use Rattle.tabulate.specs.Collect.{OwnList, CollectedIs, many_entries, few_entries}
 use Rattle.tabulate.specs.Judge.{templates_from}
 use Rattle.tabulate.specs.Put.{PutAt, Putting, EntriesIn, Held, CodeIn, TemplateIn, TemplatesIn, Writing}
 use Rattle.tabulate.specs.laws.JudgeLaws.{own_length, from_first, from_first_all, from_end, from_next}
@@ -45,7 +45,7 @@ module _ {s : List ℕ} {p e n : ℕ} {o : List ℕ} {a : ℕ} (w : TemplateIn s
       ∙ omega (arith, length-append (bits_of 8 (length es)) (entries_bits es ++ b), length-append (entries_bits es) b, length_bits 8 (length es), l)
 
   pub no_many : {A : Type 0} {table : List ℕ} → CollectedIs (entries_of n w.own.list) (own_bits w.own.list) table Many → A
-  no_many (many_entries_lem h) = absurd (omega (arith, w.few))
+  no_many (many_entries h) = absurd (omega (arith, w.few))
 
   module _ (table : List ℕ) (count size : ℕ) (is : CollectedIs (entries_of n w.own.list) (own_bits w.own.list) table (Entries count size)) where
     pub held : Held table count (entries_of n w.own.list)

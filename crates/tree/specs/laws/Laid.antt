@@ -75,7 +75,7 @@ laid_kept : (k : Keep) (s M : List ℕ) (T own p : ℕ) (ts : List Template) →
 unfolding Laid marked_all
 laid_kept k s M T own p [] h i b = refl
 laid_kept k s M T own p (t ∷ ts) h i b =
-    laid_kept k s _ T _ _ ts h.1 i (omega (arith, h.0.begins)) ∙ marked_kept k M t.start t.code i (λ x y. omega (arith, h.0.begins))
+    laid_kept k s (marked k M t.start t.code) T _ _ ts h.1 i (omega (arith, h.0.begins)) ∙ marked_kept k M t.start t.code i (λ x y. omega (arith, h.0.begins))
 
 laid_marked : (k : Keep) (s M : List ℕ) (T own p : ℕ) (ts : List Template) (i : ℕ) (d : Template) → 8 * length s ≤ 5 * length M → Laid s T own p ts
     → i < length ts → Has k (marked_all k M ts) (get_or ts i d).start (get_or ts i d).code

@@ -11,7 +11,7 @@ use Rattle.fields.specs.declared.Field.TheVariants.{Read}
 use Rattle.fields.specs.Field.{field_read}
 use Rattle.fields.specs.laws.Laws.{whole}
 use Rattle.files.specs.Codes.{shapes, shape_of, is_neutral, operands}
-use Rattle.files.specs.Code.{Code, done, neutral, return, call, unless_false_lem, make_cont_lem, Instr, neutral_i, return_i, call_i, unless_i, cont_i, put}
+use Rattle.files.specs.Code.{Code, done, neutral, return, call, unless_false, make_cont, Instr, neutral_i, return_i, call_i, unless_i, cont_i, put}
 use Rattle.files.specs.Code.{simple, bits}
 use Rattle.files.specs.Valid.{Bytes, Valid}
 use Rattle.files.specs.Reading.{got, item, below, shaped, head_at, before, after, deep_of, list_at}
@@ -163,8 +163,8 @@ module _ (s : List ℕ) where
       let rest = list_back_lem r l (p + 13) v.1 d (part_stands (bits_of 5 2 ++ bits_of 8 n) (list_bits r) 13 (p + 13) h len refl) in
       item_back l p (call_i n) (p + 13) r (p + 13 + bits r) (call_back l p n v.0 (stands_left (bits_of 5 2 ++ bits_of 8 n) (list_bits r) h)) rest
       ∙ here refl (omega arith)
-  list_back_lem (unless_false_lem x y r) zero p v d h = absurd (omega arith)
-  list_back_lem (unless_false_lem x y r) (suc l) p v d h =
+  list_back_lem (unless_false x y r) zero p v d h = absurd (omega arith)
+  list_back_lem (unless_false x y r) (suc l) p v d h =
       let q₁ = p + 5 + bits x in
       let q = p + 5 + bits x + bits y in
       let i = bits_of 5 3 ++ (list_bits x ++ list_bits y) in
@@ -176,8 +176,8 @@ module _ (s : List ℕ) where
       let second = list_back_lem y l q₁ v.1 (omega arith) hy in
       let rest = list_back_lem r (suc l) q v.2 (omega arith) (part_stands i (list_bits r) _ q h len (omega arith)) in
       item_back (suc l) p (unless_i x y) q r (q + bits r) (conditional_back l p x y k first second) rest ∙ here refl (omega arith)
-  list_back_lem (make_cont_lem n x r) zero p v d h = absurd (omega arith)
-  list_back_lem (make_cont_lem n x r) (suc l) p v d h =
+  list_back_lem (make_cont n x r) zero p v d h = absurd (omega arith)
+  list_back_lem (make_cont n x r) (suc l) p v d h =
       let q = p + 13 + bits x in
       let i = bits_of 5 4 ++ (bits_of 8 n ++ list_bits x) in
       let len : length i ≡ 13 + bits x = simp (length-append, length_bits, list_length x) (omega arith) in

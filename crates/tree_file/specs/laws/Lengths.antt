@@ -1,7 +1,7 @@
 -- How many bits lists, instructions and templates take, and that they are bits. Assumes nothing.
 use Rattle.std.specs.Prelude.{ℕ, ◌+◌, ◌*◌, max, ◌≡◌, refl, List, [], ◌∷◌, ◌++◌, length}
 use Rattle.std.proofs.Common.{arith, length-append}
-use Rattle.files.specs.Code.{Code, done, neutral, return, call, unless_false_lem, make_cont_lem, Instr, neutral_i, return_i, call_i, unless_i, cont_i, put, bits}
+use Rattle.files.specs.Code.{Code, done, neutral, return, call, unless_false, make_cont, Instr, neutral_i, return_i, call_i, unless_i, cont_i, put, bits}
 use Rattle.files.specs.laws.ReadingLaws.{bits_i}
 use Rattle.files.specs.Linear.{entries_bits}
 use Rattle.files.specs.Tree.{Template}
@@ -22,8 +22,8 @@ list_length done = length_bits 5 _
 list_length (neutral op ns r) = simp (length-append, length_bits, operands_length ns, list_length r) (omega arith)
 list_length (return r) = simp (length-append, length_bits, list_length r) (omega arith)
 list_length (call n r) = simp (length-append, length_bits, list_length r) (omega arith)
-list_length (unless_false_lem x y r) = simp (length-append, length_bits, list_length x, list_length y, list_length r) (omega arith)
-list_length (make_cont_lem n x r) = simp (length-append, length_bits, list_length x, list_length r) (omega arith)
+list_length (unless_false x y r) = simp (length-append, length_bits, list_length x, list_length y, list_length r) (omega arith)
+list_length (make_cont n x r) = simp (length-append, length_bits, list_length x, list_length r) (omega arith)
 
 pub list_put : (i : Instr) (c : Code) → list_bits (put i c) ≡ instr_bits i ++ list_bits c
 unfolding list_bits instr_bits put
@@ -65,8 +65,8 @@ list_are done = bits_are 5 _
 list_are (neutral op ns r) = append_are (append_are (bits_are 5 _) (operands_are ns)) (list_are r)
 list_are (return r) = append_are (bits_are 5 _) (list_are r)
 list_are (call n r) = append_are (append_are (bits_are 5 _) (bits_are 8 n)) (list_are r)
-list_are (unless_false_lem x y r) = append_are (append_are (bits_are 5 _) (append_are (list_are x) (list_are y))) (list_are r)
-list_are (make_cont_lem n x r) = append_are (append_are (bits_are 5 _) (append_are (bits_are 8 n) (list_are x))) (list_are r)
+list_are (unless_false x y r) = append_are (append_are (bits_are 5 _) (append_are (list_are x) (list_are y))) (list_are r)
+list_are (make_cont n x r) = append_are (append_are (bits_are 5 _) (append_are (bits_are 8 n) (list_are x))) (list_are r)
 
 pub template_are : (t : Template) → AreBits (template_bits t)
 unfolding template_bits

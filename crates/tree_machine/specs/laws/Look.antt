@@ -9,7 +9,7 @@ use Rattle.std.proofs.Math.Option.{Option, none, some}
 use borrow.Author.Tests.{ne_eqb}
 use Rattle.fields.specs.laws.Laws.{value_of, field_small}
 use Rattle.files.specs.Codes.{shape_of}
-use Rattle.files.specs.Code.{Code, done, neutral, return, call, unless_false_lem, make_cont_lem, bits}
+use Rattle.files.specs.Code.{Code, done, neutral, return, call, unless_false, make_cont, bits}
 use Rattle.files.specs.Entries.{Entry}
 use Rattle.files.specs.Grammar.{is_closed}
 use Rattle.links.specs.Links.{link_at}
@@ -20,7 +20,7 @@ use Rattle.machines.specs.laws.FetchedLaws.{look_first, look_neutral, look_first
 use Rattle.machines.specs.Slots.{slot_at, slot_resolve}
 use Rattle.rules.specs.declared.Plain.{Plain}
 use Rattle.tree_code.specs.Fetch.{is_end, settled, with_read, shaped_as, instruction_at}
-use Rattle.tree_machine.specs.laws.Real.{fits, false_true, Arms, open_arms_lem, closed_arms_lem, arms, Saved, open_saved, closed_saved, saved, after_neutral}
+use Rattle.tree_machine.specs.laws.Real.{fits, false_true, Arms, open_arms, closed_arms, arms, Saved, open_saved, closed_saved, saved, after_neutral}
 use Rattle.tree_machine.specs.laws.Real.{Real, first_real, real_within, arms_fit_lem, saved_fits, none_real}
 
 -- what the code can see of an instruction: not whether a conditional is open
@@ -60,10 +60,10 @@ ends_at s L done l a e f st li h = let z : e ≡ a = omega arith in rw z (st, li
 ends_at s L (neutral op ns r) l a e f st li h = ends_at s L r l _ e f st.3 li (omega arith)
 ends_at s L (return r) l a e f st li h = ends_at s L r l _ e f st.1 li (omega arith)
 ends_at s L (call n r) l a e f st li h = ends_at s L r l _ e f st.2 li (omega arith)
-ends_at s L (unless_false_lem x y r) zero a e f st li h = absurd st
-ends_at s L (unless_false_lem x y r) (suc l) a e f st li h = ends_at s L r (suc l) _ e f st.3 li.3 (omega arith)
-ends_at s L (make_cont_lem n x r) zero a e f st li h = absurd st
-ends_at s L (make_cont_lem n x r) (suc l) a e f st li h = ends_at s L r (suc l) _ e f st.3 li.2 (omega arith)
+ends_at s L (unless_false x y r) zero a e f st li h = absurd st
+ends_at s L (unless_false x y r) (suc l) a e f st li h = ends_at s L r (suc l) _ e f st.3 li.3 (omega arith)
+ends_at s L (make_cont n x r) zero a e f st li h = absurd st
+ends_at s L (make_cont n x r) (suc l) a e f st li h = ends_at s L r (suc l) _ e f st.3 li.2 (omega arith)
 
 byte_small : (s : List ℕ) (p n : ℕ) → Reads s p 8 n → n < 256
 byte_small s p n c = omega (arith, (value_of s p 8 n _ c).0, field_small s p 8)
@@ -127,13 +127,13 @@ module _ (s L table : List ℕ) (t : ℕ) (es : List Entry) (P : ℕ → Type 0)
         (leads_plainly P (resolve es op ns) _ (in_List _ (inr (first_real k _ r (after_neutral k op ns r h)))))
     head_found_lem (return r) k l a e f n F st li h on in_List = found_here 1 st.0 (λ z. omega arith) (rw st.0) tt
     head_found_lem (call m r) k l a e f n F st li h on in_List = found_here 2 st.0 (λ z. omega arith) (rw (st.0, st.1)) tt
-    head_found_lem (unless_false_lem x y r) k zero a e f n F st li h on in_List = absurd st
-    head_found_lem (unless_false_lem x y r) k (suc l) a e f n F st li h on in_List =
+    head_found_lem (unless_false x y r) k zero a e f n F st li h on in_List = absurd st
+    head_found_lem (unless_false x y r) k (suc l) a e f n F st li h on in_List =
         let i = arms_fit_lem k x y r (arms k x y r h) in
         found_here 3 st.0 (λ z. omega arith) (rw (st.0, li.0))
         (in_List _ (inr (inl (first_real _ _ x i.0))), in_List _ (inr (inr (inl (first_real _ _ y i.1)))))
-    head_found_lem (make_cont_lem m x r) k zero a e f n F st li h on in_List = absurd st
-    head_found_lem (make_cont_lem m x r) k (suc l) a e f n F st li h on in_List =
+    head_found_lem (make_cont m x r) k zero a e f n F st li h on in_List = absurd st
+    head_found_lem (make_cont m x r) k (suc l) a e f n F st li h on in_List =
         let i = saved_fits k x r (saved k m x r h) in
         let z : a + 5 + 8 ≡ a + 13 = omega arith in
         found_here 4 st.0 (λ z. omega arith) (rw (st.0, st.1, li.0, z))
@@ -169,7 +169,7 @@ module _ (s L table : List ℕ) (t : ℕ) (es : List Entry) (P : ℕ → Type 0)
       }
 
     -- what follows an arm: its conditional's rest
-    module _ {k : Bool} {l a e f n : ℕ} {F : Fetched} {x y r : Code} (sits : Sits k (suc l) a e f n F (unless_false_lem x y r)) where
+    module _ {k : Bool} {l a e f n : ℕ} {F : Fetched} {x y r : Code} (sits : Sits k (suc l) a e f n F (unless_false x y r)) where
       abbrev rest : ℕ
       rest = a + 5 + bits x + bits y
 
@@ -189,8 +189,8 @@ module _ (s L table : List ℕ) (t : ℕ) (es : List Entry) (P : ℕ → Type 0)
       after_arm o = by (arms k x y r sits.fit)
         where
           by : Arms k x y r → Found (suc n) rest (first es rest r F)
-          by (open_arms_lem i g j h) = let z = conditional_rest i h in head_found_lem r k (suc l) rest e f n F z.there z.links h z.follows z.inside
-          by (closed_arms_lem i g j h) = false_true (rw i at o)
+          by (open_arms i g j h) = let z = conditional_rest i h in head_found_lem r k (suc l) rest e f n F z.there z.links h z.follows z.inside
+          by (closed_arms i g j h) = false_true (rw i at o)
 
       first_arm : Sits (not (is_closed x)) l (a + 5) (a + bits x) rest (suc n) (first es rest r F) x
       unfolding ListStands Linked Real
@@ -221,17 +221,17 @@ module _ (s L table : List ℕ) (t : ℕ) (es : List Entry) (P : ℕ → Type 0)
       in_rest p found q = by (arms k x y r sits.fit)
         where
           by : Arms k x y r → Found 16 p (look es rest r F p)
-          by (open_arms_lem i g j h) = found (conditional_rest i h) (rw i at q)
-          by (closed_arms_lem i g j h) = absurd (none_real rest r p h (rw i at q))
+          by (open_arms i g j h) = found (conditional_rest i h) (rw i at q)
+          by (closed_arms i g j h) = absurd (none_real rest r p h (rw i at q))
 
-    module _ {k : Bool} {l a e f n : ℕ} {F : Fetched} {m : ℕ} {x r : Code} (sits : Sits k (suc l) a e f n F (make_cont_lem m x r)) where
+    module _ {k : Bool} {l a e f n : ℕ} {F : Fetched} {m : ℕ} {x r : Code} (sits : Sits k (suc l) a e f n F (make_cont m x r)) where
       -- what follows a saved list: what follows the list that holds its make-cont
       after_saved : not (is_closed x) ≡ true → Found (suc n) e F
       after_saved o = by (saved k m x r sits.fit)
         where
           by : Saved k x r → Found (suc n) e F
           by (open_saved i j g h) =
-              let z = ends_at s L (make_cont_lem m x r) (suc l) a e f sits.there sits.links (sits.ends j) in found_on z.0 z.1 (sits.follows j)
+              let z = ends_at s L (make_cont m x r) (suc l) a e f sits.there sits.links (sits.ends j) in found_on z.0 z.1 (sits.follows j)
           by (closed_saved i h) = false_true (rw i at o)
 
       saved_list : Sits (not (is_closed x)) l (a + 13) (a + 8 + bits x) e (suc n) F x
@@ -269,7 +269,7 @@ module _ (s L table : List ℕ) (t : ℕ) (es : List Entry) (P : ℕ → Type 0)
     finds_neutral op ns r found k l a e f n F x p (inr q) =
         let w = real_within k _ r p q in rw (look_neutral es a p op ns r F (omega arith)) (found k l _ e f n F (neutral_rest x) p q)
 
-    finds_conditional : (x y r : Code) → Finds x → Finds y → Finds r → Finds (unless_false_lem x y r)
+    finds_conditional : (x y r : Code) → Finds x → Finds y → Finds r → Finds (unless_false x y r)
     unfolding Real ListStands
     finds_conditional x y r in-x in-y in-r k zero a e f n F z p q = absurd z.there
     finds_conditional x y r in-x in-y in-r k (suc l) a e f n F z p (inl q) = at_first p z q
@@ -283,7 +283,7 @@ module _ (s L table : List ℕ) (t : ℕ) (es : List Entry) (P : ℕ → Type 0)
         let w = real_within _ _ r p q in
         rw (look_after_arms es a p x y r F (omega arith) (omega arith)) (in_rest z p (λ o. in-r k (suc l) _ e f n F o p) q)
 
-    finds_make_cont : (m : ℕ) (x r : Code) → Finds x → Finds r → Finds (make_cont_lem m x r)
+    finds_make_cont : (m : ℕ) (x r : Code) → Finds x → Finds r → Finds (make_cont m x r)
     unfolding Real ListStands
     finds_make_cont m x r in-x in-r k zero a e f n F z p q = absurd z.there
     finds_make_cont m x r in-x in-r k (suc l) a e f n F z p (inl q) = at_first p z q
@@ -305,5 +305,5 @@ module _ (s L table : List ℕ) (t : ℕ) (es : List Entry) (P : ℕ → Type 0)
     look_found (neutral op ns r) = finds_neutral op ns r (look_found r)
     look_found (return r) = finds_first (return r) (λ k a p q. q)
     look_found (call m r) = finds_first (call m r) (λ k a p q. q)
-    look_found (unless_false_lem x y r) = finds_conditional x y r (look_found x) (look_found y) (look_found r)
-    look_found (make_cont_lem m x r) = finds_make_cont m x r (look_found x) (look_found r)
+    look_found (unless_false x y r) = finds_conditional x y r (look_found x) (look_found y) (look_found r)
+    look_found (make_cont m x r) = finds_make_cont m x r (look_found x) (look_found r)

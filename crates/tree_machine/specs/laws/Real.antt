@@ -3,7 +3,7 @@ use Rattle.std.specs.Prelude.{ℕ, ◌+◌, ◌*◌, ◌≤◌, ◌≡◌, refl,
 use Rattle.std.proofs.Common.{arith, inl, inr}
 use Rattle.std.proofs.Math.Bool.{and-eq-true_iff}
 use Rattle.cells.specs.laws.Laws.{clash}
-use Rattle.files.specs.Code.{Code, done, neutral, return, call, unless_false_lem, make_cont_lem, bits}
+use Rattle.files.specs.Code.{Code, done, neutral, return, call, unless_false, make_cont, bits}
 use Rattle.files.specs.Grammar.{is_empty, is_open, is_closed}
 use Rattle.files.specs.laws.GrammarLaws.{empty_done}
 use Rattle.files.specs.laws.ReadingLaws.{least_bits}
@@ -39,7 +39,7 @@ open_not_closed done e = refl
 open_not_closed (neutral op ns r) e = out_not_closed r (open_not_closed r) e
 open_not_closed (return r) e = false_true e
 open_not_closed (call n r) e = false_true e
-open_not_closed (unless_false_lem x y r) e =
+open_not_closed (unless_false x y r) e =
     let a = (and-eq-true_iff (is_open x && is_open y) (is_empty r || is_open r)).0 e in
     let b = (and-eq-true_iff (is_open x) (is_open y)).0 a.0 in
     rw (a.0, out_not_closed r (open_not_closed r) a.1, open_not_closed x b.0) (no_and (is_empty r) (is_closed y))
@@ -47,7 +47,7 @@ open_not_closed (unless_false_lem x y r) e =
     no_and : (a b : Bool) → a && false && b ≡ false
     no_and true b = refl
     no_and false b = refl
-open_not_closed (make_cont_lem n x r) e =
+open_not_closed (make_cont n x r) e =
     let a = (and-eq-true_iff (is_empty x || is_open x) (is_closed r)).0 e in
     rw (out_not_closed x (open_not_closed x) a.0)
 
@@ -58,32 +58,32 @@ fits_not_closed c e = out_not_closed c (open_not_closed c) e
 -- ---- the lists in a list
 -- the arms and the rest of a conditional
 pub data Arms (k : Bool) (x y r : Code) : Type 0 where
-  open_arms_lem : is_closed x ≡ false → fits true x ≡ true → fits true y ≡ true → fits k r ≡ true → Arms k x y r
-  closed_arms_lem : is_closed x ≡ true → k ≡ false → fits false y ≡ true → is_empty r ≡ true → Arms k x y r
+  open_arms : is_closed x ≡ false → fits true x ≡ true → fits true y ≡ true → fits k r ≡ true → Arms k x y r
+  closed_arms : is_closed x ≡ true → k ≡ false → fits false y ≡ true → is_empty r ≡ true → Arms k x y r
 
-pub arms : (k : Bool) (x y r : Code) → fits k (unless_false_lem x y r) ≡ true → Arms k x y r
+pub arms : (k : Bool) (x y r : Code) → fits k (unless_false x y r) ≡ true → Arms k x y r
 unfolding fits is_empty is_open is_closed
 arms true x y r e =
     let a = (and-eq-true_iff (is_open x && is_open y) (is_empty r || is_open r)).0 e in
     let b = (and-eq-true_iff (is_open x) (is_open y)).0 a.0 in
-    open_arms_lem (open_not_closed x b.0) (or_right (is_empty x) (is_open x) b.0) (or_right (is_empty y) (is_open y) b.1) a.1
+    open_arms (open_not_closed x b.0) (or_right (is_empty x) (is_open x) b.0) (or_right (is_empty y) (is_open y) b.1) a.1
 arms false x y r e =
     or_one (is_open x && is_open y && is_closed r) (is_empty r && is_closed x && is_closed y) e
     (λ e.
     let a = (and-eq-true_iff (is_open x && is_open y) (is_closed r)).0 e in
     let b = (and-eq-true_iff (is_open x) (is_open y)).0 a.0 in
-    open_arms_lem (open_not_closed x b.0) (or_right (is_empty x) (is_open x) b.0) (or_right (is_empty y) (is_open y) b.1) a.1)
+    open_arms (open_not_closed x b.0) (or_right (is_empty x) (is_open x) b.0) (or_right (is_empty y) (is_open y) b.1) a.1)
     (λ e.
     let a = (and-eq-true_iff (is_empty r && is_closed x) (is_closed y)).0 e in
     let b = (and-eq-true_iff (is_empty r) (is_closed x)).0 a.0 in
-    closed_arms_lem b.1 refl a.1 b.0)
+    closed_arms b.1 refl a.1 b.0)
 
 -- the saved list and the rest of a make-cont
 pub data Saved (k : Bool) (x r : Code) : Type 0 where
   open_saved : is_closed x ≡ false → k ≡ true → fits true x ≡ true → is_closed r ≡ true → Saved k x r
   closed_saved : is_closed x ≡ true → is_closed r ≡ true → Saved k x r
 
-pub saved : (k : Bool) (n : ℕ) (x r : Code) → fits k (make_cont_lem n x r) ≡ true → Saved k x r
+pub saved : (k : Bool) (n : ℕ) (x r : Code) → fits k (make_cont n x r) ≡ true → Saved k x r
 unfolding fits is_empty is_open is_closed
 saved true n x r e =
     let a = (and-eq-true_iff (is_empty x || is_open x) (is_closed r)).0 e in open_saved (out_not_closed x (open_not_closed x) a.0) refl a.0 a.1
@@ -101,10 +101,10 @@ Real k a done p = (k ≡ true) × (p ≡ a)
 Real k a (neutral op ns r) p = (p ≡ a) ⊎ Real k (a + (5 + 8 * length ns)) r p
 Real k a (return r) p = p ≡ a
 Real k a (call n r) p = p ≡ a
-Real k a (unless_false_lem x y r) p =
+Real k a (unless_false x y r) p =
     (p ≡ a) ⊎
     (Real (not (is_closed x)) (a + 5) x p ⊎ (Real (not (is_closed x)) (a + 5 + bits x) y p ⊎ Real (cond (is_closed x) false k) (a + 5 + bits x + bits y) r p))
-Real k a (make_cont_lem n x r) p = (p ≡ a) ⊎ (Real (not (is_closed x)) (a + 13) x p ⊎ Real false (a + 13 + bits x) r p)
+Real k a (make_cont n x r) p = (p ≡ a) ⊎ (Real (not (is_closed x)) (a + 13) x p ⊎ Real false (a + 13 + bits x) r p)
 
 -- a list that is as it must be begins with a real place
 pub first_real : (k : Bool) (a : ℕ) (c : Code) → fits k c ≡ true → Real k a c a
@@ -114,8 +114,8 @@ first_real false a done e = false_true e
 first_real k a (neutral op ns r) e = inl refl
 first_real k a (return r) e = refl
 first_real k a (call n r) e = refl
-first_real k a (unless_false_lem x y r) e = inl refl
-first_real k a (make_cont_lem n x r) e = inl refl
+first_real k a (unless_false x y r) e = inl refl
+first_real k a (make_cont n x r) e = inl refl
 
 -- a list's real places are its own
 abbrev Within : ℕ → ℕ → ℕ → Type 0
@@ -125,22 +125,22 @@ pub real_within : (k : Bool) (a : ℕ) (c : Code) (p : ℕ) → Real k a c p →
 unfolding Real bits
 real_within k a done p h = omega arith
 real_within k a (neutral op ns r) p (inl e) = omega (arith, least_bits r)
-real_within k a (neutral op ns r) p (inr h) = omega (arith, real_within k _ r p h)
+real_within k a (neutral op ns r) p (inr h) = omega (arith, real_within k (a + (5 + 8 * length ns)) r p h)
 real_within k a (return r) p e = omega (arith, least_bits r)
 real_within k a (call n r) p e = omega (arith, least_bits r)
-real_within k a (unless_false_lem x y r) p (inl e) = omega (arith, least_bits r)
-real_within k a (unless_false_lem x y r) p (inr (inl h)) = omega (arith, real_within _ _ x p h)
-real_within k a (unless_false_lem x y r) p (inr (inr (inl h))) = omega (arith, real_within _ _ y p h)
-real_within k a (unless_false_lem x y r) p (inr (inr (inr h))) = omega (arith, real_within _ _ r p h)
-real_within k a (make_cont_lem n x r) p (inl e) = omega (arith, least_bits r)
-real_within k a (make_cont_lem n x r) p (inr (inl h)) = omega (arith, real_within _ _ x p h)
-real_within k a (make_cont_lem n x r) p (inr (inr h)) = omega (arith, real_within _ _ r p h)
+real_within k a (unless_false x y r) p (inl e) = omega (arith, least_bits r)
+real_within k a (unless_false x y r) p (inr (inl h)) = omega (arith, real_within _ _ x p h)
+real_within k a (unless_false x y r) p (inr (inr (inl h))) = omega (arith, real_within _ _ y p h)
+real_within k a (unless_false x y r) p (inr (inr (inr h))) = omega (arith, real_within _ _ r p h)
+real_within k a (make_cont n x r) p (inl e) = omega (arith, least_bits r)
+real_within k a (make_cont n x r) p (inr (inl h)) = omega (arith, real_within _ _ x p h)
+real_within k a (make_cont n x r) p (inr (inr h)) = omega (arith, real_within _ _ r p h)
 
 -- ---- what the lists in a list must be like
 pub arms_fit_lem : (k : Bool) (x y r : Code) → Arms k x y r → (fits (not (is_closed x)) x ≡ true) × (fits (not (is_closed x)) y ≡ true)
 unfolding fits
-arms_fit_lem k x y r (open_arms_lem e f g h) = rw e (f, g)
-arms_fit_lem k x y r (closed_arms_lem e f g h) = let z : is_closed x ≡ true = e in rw e (z, g)
+arms_fit_lem k x y r (open_arms e f g h) = rw e (f, g)
+arms_fit_lem k x y r (closed_arms e f g h) = let z : is_closed x ≡ true = e in rw e (z, g)
 
 pub saved_fits : (k : Bool) (x r : Code) → Saved k x r → (fits (not (is_closed x)) x ≡ true) × (fits false r ≡ true)
 unfolding fits
@@ -153,5 +153,5 @@ none_real a done p e h = false_true h.0
 none_real a (neutral op ns r) p e h = false_true e
 none_real a (return r) p e h = false_true e
 none_real a (call n r) p e h = false_true e
-none_real a (unless_false_lem x y r) p e h = false_true e
-none_real a (make_cont_lem n x r) p e h = false_true e
+none_real a (unless_false x y r) p e h = false_true e
+none_real a (make_cont n x r) p e h = false_true e

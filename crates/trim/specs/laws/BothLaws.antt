@@ -9,7 +9,7 @@ use Rattle.std.proofs.Math.Option.{Option, none, some}
 use Rattle.std.proofs.Math.ListN.{get_or}
 use Rattle.std.proofs.lemmas.List.{length-map}
 use Rattle.cells.specs.laws.Laws.{clash}
-use Rattle.files.specs.Code.{Code, done, neutral, return, call, unless_false_lem, make_cont_lem, bits}
+use Rattle.files.specs.Code.{Code, done, neutral, return, call, unless_false, make_cont, bits}
 use Rattle.files.specs.Entries.{Entry, constant, global, template}
 use Rattle.files.specs.Grammar.{entry_of, suits, index_fits, each_neutral, indices_fit}
 use Rattle.files.specs.Linear.{bits_of, entries_bits}
@@ -57,14 +57,14 @@ closes_named es n u (neutral op ns r) f e q =
     (λ h. or_right (eqb op 7 && is_template u (entry_of es (get_or ns 0 0))) (closes es u r) (closes_named es n u r k.1 h q))
 closes_named es n u (return r) f e q = closes_named es n u r f e q
 closes_named es n u (call m r) f e q = closes_named es n u r f e q
-closes_named es n u (unless_false_lem x y r) f e q =
+closes_named es n u (unless_false x y r) f e q =
     let k = (and-eq-true_iff (indices_fit es x && indices_fit es y) (indices_fit es r)).0 f in
     let l = (and-eq-true_iff (indices_fit es x) (indices_fit es y)).0 k.0 in
     or_cases (names n x) (names n y || names n r) e (λ h. or_left (closes es u x) (closes es u y || closes es u r) (closes_named es n u x l.0 h q))
     (λ h. or_right (closes es u x) (closes es u y || closes es u r)
     (or_cases (names n y) (names n r) h (λ h. or_left (closes es u y) (closes es u r) (closes_named es n u y l.1 h q))
     (λ h. or_right (closes es u y) (closes es u r) (closes_named es n u r k.1 h q))))
-closes_named es n u (make_cont_lem m x r) f e q =
+closes_named es n u (make_cont m x r) f e q =
     let k = (and-eq-true_iff (indices_fit es x) (indices_fit es r)).0 f in
     or_cases (names n x) (names n r) e (λ h. or_left (closes es u x) (closes es u r) (closes_named es n u x k.0 h q))
     (λ h. or_right (closes es u x) (closes es u r) (closes_named es n u r k.1 h q))

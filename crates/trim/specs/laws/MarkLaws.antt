@@ -13,7 +13,7 @@ use Rattle.std.proofs.lemmas.List.{length-replicate}
 use Rattle.fields.specs.Field.{field_at}
 use Rattle.cells.specs.laws.Laws.{clash}
 use Rattle.files.specs.Codes.{shape_of, is_neutral, operands}
-use Rattle.files.specs.Code.{Code, done, neutral, return, call, unless_false_lem, make_cont_lem, bits}
+use Rattle.files.specs.Code.{Code, done, neutral, return, call, unless_false, make_cont, bits}
 use Rattle.files.specs.Entries.{Entry, constant, global, template}
 use Rattle.files.specs.Grammar.{entry_of, suits, index_fits, each_neutral, indices_fit}
 use Rattle.files.specs.Valid.{Bytes, Valid}
@@ -342,13 +342,13 @@ names_tokens n (neutral op ns r) ts v =
     ∙ sym (or_assoc (leb op 9 && eqb (get_or ns 0 0) n) (names n r) (named_in n ts))
 names_tokens n (return r) ts v = names_tokens n r ts v
 names_tokens n (call m r) ts v = names_tokens n r ts v.1
-names_tokens n (unless_false_lem x y r) ts v =
+names_tokens n (unless_false x y r) ts v =
     names_tokens n x (end ∷ tokens y (end ∷ tokens r ts)) v.0
     ∙ ap (λ (b : Bool). names n x || b)
     (names_tokens n y (end ∷ tokens r ts) v.1 ∙ ap (λ (b : Bool). names n y || b) (names_tokens n r ts v.2)
     ∙ sym (or_assoc (names n y) (names n r) (named_in n ts)))
     ∙ sym (or_assoc (names n x) (names n y || names n r) (named_in n ts))
-names_tokens n (make_cont_lem m x r) ts v =
+names_tokens n (make_cont m x r) ts v =
     names_tokens n x (end ∷ tokens r ts) v.1
     ∙ ap (λ (b : Bool). names n x || b) (names_tokens n r ts v.2)
     ∙ sym (or_assoc (names n x) (names n r) (named_in n ts))
@@ -392,12 +392,12 @@ names_within es n (neutral op ns r) f e =
     (λ h. names_within es n r k.1 h)
 names_within es n (return r) f e = names_within es n r f e
 names_within es n (call m r) f e = names_within es n r f e
-names_within es n (unless_false_lem x y r) f e =
+names_within es n (unless_false x y r) f e =
     let k = (and-eq-true_iff (indices_fit es x && indices_fit es y) (indices_fit es r)).0 f in
     let l = (and-eq-true_iff (indices_fit es x) (indices_fit es y)).0 k.0 in
     or_cases (names n x) (names n y || names n r) e (λ h. names_within es n x l.0 h)
     (λ h. or_cases (names n y) (names n r) h (λ h. names_within es n y l.1 h) (λ h. names_within es n r k.1 h))
-names_within es n (make_cont_lem m x r) f e =
+names_within es n (make_cont m x r) f e =
     let k = (and-eq-true_iff (indices_fit es x) (indices_fit es r)).0 f in
     or_cases (names n x) (names n r) e (λ h. names_within es n x k.0 h) (λ h. names_within es n r k.1 h)
 

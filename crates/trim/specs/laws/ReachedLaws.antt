@@ -12,7 +12,7 @@ use Rattle.std.proofs.Math.ListN.{length, get_or}
 use Rattle.std.proofs.lemmas.List.{length-replicate}
 use Rattle.std.proofs.Math.Seq.{get_or-set_other}
 use borrow.Author.Tests.{eqb-true, eq-eqb, ne_eqb}
-use Rattle.files.specs.Code.{Code, done, neutral, return, call, unless_false_lem, make_cont_lem}
+use Rattle.files.specs.Code.{Code, done, neutral, return, call, unless_false, make_cont}
 use Rattle.files.specs.Entries.{Entry, constant, global, template}
 use Rattle.files.specs.laws.EntriesLaws.{EntriesOk}
 use Rattle.files.specs.Grammar.{entry_of}
@@ -72,10 +72,10 @@ module _ (own T : ℕ) where
       (λ h. found_up es (get_or ns 0 0) u k ((and-eq-true_iff (eqb op 7) (is_template u (entry_of es (get_or ns 0 0)))).0 h).1) (λ h. closes_up es r u k h)
   closes_up es (return r) u k e = closes_up es r u k e
   closes_up es (call m r) u k e = closes_up es r u k e
-  closes_up es (unless_false_lem x y r) u k e =
+  closes_up es (unless_false x y r) u k e =
       or_cases (closes es u x) (closes es u y || closes es u r) e (λ h. closes_up es x u k h)
       (λ h. or_cases (closes es u y) (closes es u r) h (λ h. closes_up es y u k h) (λ h. closes_up es r u k h))
-  closes_up es (make_cont_lem m x r) u k e = or_cases (closes es u x) (closes es u r) e (λ h. closes_up es x u k h) (λ h. closes_up es r u k h)
+  closes_up es (make_cont m x r) u k e = or_cases (closes es u x) (closes es u r) e (λ h. closes_up es x u k h) (λ h. closes_up es r u k h)
 
 -- ---- marks
 abbrev pub Up : ℕ → Template → Type 0

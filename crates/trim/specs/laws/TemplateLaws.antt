@@ -11,7 +11,7 @@ use Rattle.std.proofs.Math.Dec.{ltb, eqb}
 use Rattle.std.proofs.Math.ListN.{length}
 use Rattle.std.proofs.lemmas.List.{length-map}
 use Rattle.files.specs.Codes.{shape_of, is_neutral, operands}
-use Rattle.files.specs.Code.{Code, done, neutral, return, call, unless_false_lem, make_cont_lem, bits}
+use Rattle.files.specs.Code.{Code, done, neutral, return, call, unless_false, make_cont, bits}
 use Rattle.files.specs.Entries.{Entry}
 use Rattle.files.specs.Linear.{bits_of, entries_bits}
 use Rattle.files.specs.Tree.{Template}
@@ -65,13 +65,13 @@ module _ (f g : ℕ → ℕ) where
       ) refl
   reindex_same (return r) v h = rw (reindex_same r v h) refl
   reindex_same (call m r) v h = rw (reindex_same r v.1 h) refl
-  reindex_same (unless_false_lem x y r) v h =
+  reindex_same (unless_false x y r) v h =
       rw (
         reindex_same x v.0 (λ n e. h n (or_left (names n x) (names n y || names n r) e)),
         reindex_same y v.1 (λ n e. h n (or_right (names n x) (names n y || names n r) (or_left (names n y) (names n r) e))),
         reindex_same r v.2 (λ n e. h n (or_right (names n x) (names n y || names n r) (or_right (names n y) (names n r) e))),
       ) refl
-  reindex_same (make_cont_lem m x r) v h =
+  reindex_same (make_cont m x r) v h =
       rw (reindex_same x v.1 (λ n e. h n (or_left (names n x) (names n r) e)), reindex_same r v.2 (λ n e. h n (or_right (names n x) (names n r) e))) refl
 
 -- ---- a row says what is named

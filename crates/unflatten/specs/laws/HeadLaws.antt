@@ -283,9 +283,9 @@ module _ (s : List ℕ) (d : ℕ) (k : Bool) (p e n : ℕ) (le : e ≤ length s)
             nothing_here (λ ok. found_far_second ok d k _ _ n rest (sym size) enough m last jumps some_before g
             (rw second (omega (arith, part_length s turn e le))))
 
-        pub open_arms_lem : 1 ≤ m → m ≤ e - turn → HeadIs s (suc d) k p e (Split (record { closed = false; mid = turn - 3; turn = turn; end = turn + m }))
+        pub open_arms : 1 ≤ m → m ≤ e - turn → HeadIs s (suc d) k p e (Split (record { closed = false; mid = turn - 3; turn = turn; end = turn + m }))
         unfolding head_found head_item head_rest
-        open_arms_lem g h =
+        open_arms g h =
             let a : take m (drop n rest) ≡ part turn (turn + m) s = ap (take m) second ∙ part_take s m turn e (omega arith) in
             let b : drop m (drop n rest) ≡ part (turn + m) e s = ap (drop m) second ∙ part_drop s m turn e in
             record {
@@ -318,7 +318,7 @@ module _ (s : List ℕ) (d : ℕ) (k : Bool) (p e n : ℕ) (le : e ≤ length s)
               open_far (ltb-false (turn - p) 7 f) (omega arith) (ltb-true (e - turn) (offset_at s (turn - 2)) h)
           go false false false f g h =
               let z = eqb-false (offset_at s (turn - 2)) 0 g in
-              open_arms_lem (ltb-false (turn - p) 7 f) (omega arith) (ltb-false (e - turn) (offset_at s (turn - 2)) h)
+              open_arms (ltb-false (turn - p) 7 f) (omega arith) (ltb-false (e - turn) (offset_at s (turn - 2)) h)
 
       pub open_told : {h : Head} → h ≡ open_head s p turn e → HeadIs s (suc d) k p e h
       open_told {h} z = subst (λ (h : Head). HeadIs s (suc d) k p e h) (sym z) open_head_lem

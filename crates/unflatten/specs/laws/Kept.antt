@@ -9,7 +9,7 @@ use mathlib.Core.List.{List, [], ◌∷◌}
 use Rattle.std.proofs.Math.Option.{Option, none, some}
 use borrow.Author.Tests.{le-leb, lt-leb}
 use Rattle.files.specs.Codes.{is_neutral, operands}
-use Rattle.files.specs.Code.{Code, done, neutral, return, call, unless_false_lem, make_cont_lem, Instr, neutral_i, return_i, call_i, unless_i, cont_i, put, simple}
+use Rattle.files.specs.Code.{Code, done, neutral, return, call, unless_false, make_cont, Instr, neutral_i, return_i, call_i, unless_i, cont_i, put, simple}
 use Rattle.files.specs.Grammar.{each_neutral}
 use Rattle.back.specs.Unflat.{ends_in_jump, last_offset, before_jump, on, test, neutral_back, open_arms, closed_arms, arms_back, unless_back, cont_back, end_back}
 use Rattle.back.specs.Unflat.{first_back, view}
@@ -42,7 +42,7 @@ module _ (ok : ℕ → ℕ → Bool) where
   keep_plain op ns none = rw (on_test, test_none) refl
   keep_plain op ns (some c) = simp (on_test, test_and)
 
-  keep_arms : (x y r : Option Code) → on (on x (λ x. on y (λ y. on r (λ r. some (unless_false_lem x y r))))) (kept ok)
+  keep_arms : (x y r : Option Code) → on (on x (λ x. on y (λ y. on r (λ r. some (unless_false x y r))))) (kept ok)
       ≡ on (on (on x (kept ok)) (λ x. on (on y (kept ok)) (λ y. some (unless_i x y)))) (λ i. on (on r (kept ok)) (λ c. some (put i c)))
   unfolding on kept each_neutral put
   keep_arms none y r = refl
@@ -50,7 +50,7 @@ module _ (ok : ℕ → ℕ → Bool) where
   keep_arms (some x) (some y) none = simp (on_test, test_none)
   keep_arms (some x) (some y) (some r) = simp (on_test, test_and)
 
-  keep_saved : (a : ℕ) (x r : Option Code) → on (on x (λ x. on r (λ r. some (make_cont_lem a x r)))) (kept ok)
+  keep_saved : (a : ℕ) (x r : Option Code) → on (on x (λ x. on r (λ r. some (make_cont a x r)))) (kept ok)
       ≡ on (on (on x (kept ok)) (λ x. some (cont_i a x))) (λ i. on (on r (kept ok)) (λ c. some (put i c)))
   unfolding on kept each_neutral put
   keep_saved a none r = refl

@@ -23,7 +23,7 @@ use Rattle.bit_writer.specs.Put.{put_bits}
 use Rattle.bit_writer.specs.laws.Laws.{put_next, put_length}
 use Rattle.tree_file.specs.File.{operands_bits, list_bits, instr_bits}
 use Rattle.tree_file.specs.laws.Lengths.{operands_length, list_length, list_are, instr_length}
-use Rattle.tree_file.specs.laws.Lengths.{list_put as bits_of}
+use Rattle.tree_file.specs.laws.Lengths.{list_put as list_bits_put}
 use Rattle.back.specs.Unflat.{on, test}
 use Rattle.unflatten.specs.declared.Arms.{Arms}
 use Rattle.unflatten.specs.declared.Left.{Left}
@@ -145,7 +145,7 @@ module _ (n m a : ℕ) (o o₁ : List ℕ) (i : Instr) (a₁ : ℕ) (at : a₁ �
   puts_on (list_put {c = c} {a' = a₂} {o' = o₂} b f g) =
       let l : length (instr_bits i) ≡ bits_i i = instr_length i in
       list_put {c = put i c} {a' = a₂} (omega (arith, bits_put i c)) (omega (arith, bits_put i c))
-      (put_next o o₁ o₂ a a₁ (instr_bits i) (list_bits c) (instr_are i) (omega arith) is (omega arith) g ∙ ap (put_bits o a) (sym (bits_of i c)))
+      (put_next o o₁ o₂ a a₁ (instr_bits i) (list_bits c) (instr_are i) (omega arith) is (omega arith) g ∙ ap (put_bits o a) (sym (list_bits_put i c)))
 
 pub stepped_none : {n end a : ℕ} {o o' : List ℕ} {whole : Option Code} {rest : Left → Option Code} {r : Item} → Stepped n end o a whole rest r o' → r ≡ NoItem
     → whole ≡ none
