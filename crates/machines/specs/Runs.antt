@@ -1,7 +1,7 @@
 -- A whole run (document 01, 'Cells' and 'Rules'): what is refused at the start, and what a run returns and leaves.
 use Rattle.std.specs.Prelude.{ℕ, ◌+◌, Bool, cond, ◌&&◌, List, [], ◌∷◌, leb, eqb, length, replicate}
 use Rattle.std.proofs.Math.Option.{Option, none, some}
-use Rattle.std.specs.Borrow.{Bor}
+use Rattle.std.specs.Borrow.{MutBor}
 use Rattle.cells.specs.Cells.{starting_global, undefined_cell, unspecified_cell, value_of, cell_of}
 use Rattle.cells.specs.Numbers.{budget_spent, wrong_length, large_budget, unknown_owner, unfit_global}
 use Rattle.files.specs.Reading.{Got, got, refused}
@@ -28,7 +28,7 @@ abbrev pub memory : List ℕ → List ℕ → List ℕ → List ℕ → Memory
 memory g s t f = record { globals = g; stack = s; store = t; frames = f }
 
 -- what four lent slices hold
-abbrev pub lent : Bor (List ℕ) → Bor (List ℕ) → Bor (List ℕ) → Bor (List ℕ) → Memory
+abbrev pub lent : MutBor (List ℕ) → MutBor (List ℕ) → MutBor (List ℕ) → MutBor (List ℕ) → Memory
 lent g s t f = memory g.now s.now t.now f.now
 
 -- fresh memory, all globals undefined

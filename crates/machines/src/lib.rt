@@ -1,6 +1,6 @@
 // The two machines (document 01, 'Rules').
 ghost use Rattle.std.specs.Prelude.{◌≡◌, length};
-ghost use Rattle.machines.specs.Runs.{lent, lowest_unfit};
+ghost use Rattle.machines.specs.Runs.{memory, lowest_unfit};
 ghost use Rattle.machines.specs.Fetched.{as_literal};
 ghost use Rattle.machines.specs.Slots.{slot_names, slot_at, slot_resolve, resolved_as, marked_as};
 ghost use Rattle.machines.specs.Start.{zeros, refusal, globals_refusal, start_refusal};
@@ -59,7 +59,7 @@ pub fn start_refusal(
     most: u64,
     owner: u64,
 ) -> Start
-    ensures { result ≡ start_refusal most budget owner (lent globals.entry stack.entry store.entry frames.entry) }
+    ensures { result ≡ start_refusal most budget owner (memory globals.now stack.now store.now frames.now) }
 {
     if globals.len() != 256 {
         return Start::Refused(20, 0);
