@@ -10,8 +10,6 @@ use mathlib.Core.Path.{◌≡◌, refl, sym, ap, ◌∙◌}
 use native.Mathlib.Omega.{arith}
 use borrow.Author.Rules.{rules}
 use Prim.Native.Nat.{ℕ, ◌+◌, ◌*◌, ◌-◌, ◌≤◌, ◌<◌}
-use Rattle.basic.proofs.+read_branch_read_closure_read_item_read_list_read_saved.{
-use Rattle.basic.proofs.+read_branch_read_closure_read_item_read_list_read_saved.Tie.{
 use Rattle.basic.proofs.+read_branch_read_closure_read_item_read_list_read_saved.Goals as goal
 
 read_closure_add_t11 :
@@ -26,7 +24,6 @@ read_closure_add_t11 t c =
     let w = inside_few pre.1 (list_is _ _ _ _ _ (sym c.before.before.past.given.1 ∙ read-list'.ensures)) in
     omega (arith, w)
 
-
 read_closure_returns :
     (t : ℕ) →
     read-closure-lts.Need-returns
@@ -36,7 +33,6 @@ read_closure_returns :
 read_closure_returns t c =
     let read-list' = c.before.before.before.before.read-list in
     λ p e. closure_step _ _ p _ e _ _ (list_is _ _ _ _ _ (sym c.before.before.past.given.1 ∙ read-list'.ensures))
-
 
 pub read_branch-overflow_add-result : goal.read_branch-overflow_add-result
 read_branch-overflow_add-result t c =

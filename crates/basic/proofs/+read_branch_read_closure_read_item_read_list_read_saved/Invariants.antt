@@ -10,12 +10,8 @@ use mathlib.Core.Path.{◌≡◌, refl, sym, ap, ◌∙◌}
 use native.Mathlib.Omega.{arith}
 use borrow.Author.Rules.{rules}
 use Prim.Native.Nat.{ℕ, ◌+◌, ◌*◌, ◌-◌, ◌≤◌, ◌<◌}
-use Rattle.basic.proofs.+read_branch_read_closure_read_item_read_list_read_saved.{
-use Rattle.basic.proofs.+read_branch_read_closure_read_item_read_list_read_saved.Tie.{
 use Rattle.basic.proofs.+read_branch_read_closure_read_item_read_list_read_saved.Given as goal
 
-  close,
-}
 abbrev pub decreases-read_branch : goal.decreases-read_branch
 decreases-read_branch l = 3 * l.levels + 3
 

@@ -55,66 +55,66 @@ put_start-requires t c =
 pub overflow_mul-number : goal.overflow_mul-number
 overflow_mul-number t c =
     let w = turn_closure _ _ _ _ _ _ _ _ _ _ _ _ (c.loop-links.invariant.0 c.requires.2.code c.requires.2.reads) _ _ _
-    (parted_as _ _ (c.list-1 .given .1) (c.parts_at.ensures (c.loop-links.invariant.0 c.requires.2.code c.requires.2.reads).rest
+    (parted_as _ _ (c.in-Closure.is) (c.parts_at.ensures (c.loop-links.invariant.0 c.requires.2.code c.requires.2.reads).rest
     (c.loop-links.invariant.0 c.requires.2.code c.requires.2.reads).reads)) in
     omega (arith, c.number-in-Closure.ensures, w.below_64, w.within, c.requires.0)
 
 pub overflow_add-number : goal.overflow_add-number
 overflow_add-number t c =
     let w = turn_closure _ _ _ _ _ _ _ _ _ _ _ _ (c.loop-links.invariant.0 c.requires.2.code c.requires.2.reads) _ _ _
-    (parted_as _ _ (c.list-1 .given .1) (c.parts_at.ensures (c.loop-links.invariant.0 c.requires.2.code c.requires.2.reads).rest
+    (parted_as _ _ (c.in-Closure.is) (c.parts_at.ensures (c.loop-links.invariant.0 c.requires.2.code c.requires.2.reads).rest
     (c.loop-links.invariant.0 c.requires.2.code c.requires.2.reads).reads)) in
     omega (arith, c.number-in-Closure.ensures, w.below_64, w.within, c.requires.0)
 
 pub put_link-requires-in-Closure : goal.put_link-requires-in-Closure
 put_link-requires-in-Closure t c =
     let w = turn_closure _ _ _ _ _ _ _ _ _ _ _ _ (c.loop-links.invariant.0 c.requires.2.code c.requires.2.reads) _ _ _
-    (parted_as _ _ (c.list-1 .given .1) (c.parts_at.ensures (c.loop-links.invariant.0 c.requires.2.code c.requires.2.reads).rest
+    (parted_as _ _ (c.in-Closure.is) (c.parts_at.ensures (c.loop-links.invariant.0 c.requires.2.code c.requires.2.reads).rest
     (c.loop-links.invariant.0 c.requires.2.code c.requires.2.reads).reads)) in
     omega (arith, c.number-in-Closure.ensures, w.below_64, w.within, c.requires.0)
 
 pub overflow_add-number-in-Closure : goal.overflow_add-number-in-Closure
 overflow_add-number-in-Closure t c =
     let w = turn_closure _ _ _ _ _ _ _ _ _ _ _ _ (c.loop-links.invariant.0 c.requires.2.code c.requires.2.reads) _ _ _
-    (parted_as _ _ (c.list-1 .given .1) (c.parts_at.ensures (c.loop-links.invariant.0 c.requires.2.code c.requires.2.reads).rest
+    (parted_as _ _ (c.in-Closure.is) (c.parts_at.ensures (c.loop-links.invariant.0 c.requires.2.code c.requires.2.reads).rest
     (c.loop-links.invariant.0 c.requires.2.code c.requires.2.reads).reads)) in
     omega (arith, w.below_64)
 
 pub link_list-requires : goal.link_list-requires
 link_list-requires t c =
     let w = turn_closure _ _ _ _ _ _ _ _ _ _ _ _ (c.loop-links.invariant.0 c.requires.2.code c.requires.2.reads) _ _ _
-    (parted_as _ _ (c.list-1 .given .1) (c.parts_at.ensures (c.loop-links.invariant.0 c.requires.2.code c.requires.2.reads).rest
+    (parted_as _ _ (c.in-Closure.is) (c.parts_at.ensures (c.loop-links.invariant.0 c.requires.2.code c.requires.2.reads).rest
     (c.loop-links.invariant.0 c.requires.2.code c.requires.2.reads).reads)) in
     (omega (arith, w.on, w.past, w.within, c.requires.0, c.loop-links.invariant.4, c.decreases), (c.requires.0, omega arith, w.fresh))
 
 pub overflow_add-number-in-Closure-2 : goal.overflow_add-number-in-Closure-2
 overflow_add-number-in-Closure-2 t c =
     let w = turn_closure _ _ _ _ _ _ _ _ _ _ _ _ (c.loop-links.inv.0 c.requires.2.code c.requires.2.reads) _ _ _
-    (parted_as _ _ (c.list-1 .given .1) (c.parts_at.ensures (c.loop-links.inv.0 c.requires.2.code c.requires.2.reads).rest
+    (parted_as _ _ (c.in-Closure.is) (c.parts_at.ensures (c.loop-links.inv.0 c.requires.2.code c.requires.2.reads).rest
     (c.loop-links.inv.0 c.requires.2.code c.requires.2.reads).reads)) in
     omega (arith, w.below_64)
 
 pub overflow_add-number-in-Closure-3 : goal.overflow_add-number-in-Closure-3
 overflow_add-number-in-Closure-3 t c =
     let w = turn_closure _ _ _ _ _ _ _ _ _ _ _ _ (c.loop-links.inv.0 c.requires.2.code c.requires.2.reads) _ _ _
-    (parted_as _ _ (c.list-1 .given .1) (c.parts_at.ensures (c.loop-links.inv.0 c.requires.2.code c.requires.2.reads).rest
+    (parted_as _ _ (c.in-Closure.is) (c.parts_at.ensures (c.loop-links.inv.0 c.requires.2.code c.requires.2.reads).rest
     (c.loop-links.inv.0 c.requires.2.code c.requires.2.reads).reads)) in
     omega (arith, w.below_64)
 
 pub loop-links-smaller-in-Closure : goal.loop-links-smaller-in-Closure
 loop-links-smaller-in-Closure t c =
     let w = turn_closure _ _ _ _ _ _ _ _ _ _ _ _ (c.loop-links.inv.0 c.requires.2.code c.requires.2.reads) _ _ _
-    (parted_as _ _ (c.list-1 .given .1) (c.parts_at.ensures (c.loop-links.inv.0 c.requires.2.code c.requires.2.reads).rest
+    (parted_as _ _ (c.in-Closure.is) (c.parts_at.ensures (c.loop-links.inv.0 c.requires.2.code c.requires.2.reads).rest
     (c.loop-links.inv.0 c.requires.2.code c.requires.2.reads).reads)) in
     omega (arith, w.past, w.within)
 
 pub loop-links-preserved-in-Closure : goal.loop-links-preserved-in-Closure
 loop-links-preserved-in-Closure t c =
     let w = turn_closure _ _ _ _ _ _ _ _ _ _ _ _ (c.loop-links.inv.0 c.requires.2.code c.requires.2.reads) _ _ _
-    (parted_as _ _ (c.list-1 .given .1) (c.parts_at.ensures (c.loop-links.inv.0 c.requires.2.code c.requires.2.reads).rest
+    (parted_as _ _ (c.in-Closure.is) (c.parts_at.ensures (c.loop-links.inv.0 c.requires.2.code c.requires.2.reads).rest
     (c.loop-links.inv.0 c.requires.2.code c.requires.2.reads).reads)) in (
       (λ d h. (turn_closure _ _ _ _ _ _ _ _ _ _ _ _ (c.loop-links.inv.0 d h) _ _ _
-          (parted_as _ _ (c.list-1 .given .1) (c.parts_at.ensures (c.loop-links.inv.0 d h).rest (c.loop-links.inv.0 d h).reads))).left _ _ _ _
+          (parted_as _ _ (c.in-Closure.is) (c.parts_at.ensures (c.loop-links.inv.0 d h).rest (c.loop-links.inv.0 d h).reads))).left _ _ _ _
           (c.put_link-in-Closure.ensures ∙ ap (λ n. link c.loop-links.links c.loop-links.here.0 (64 * n + c.loop-links.number)) c.number-in-Closure.ensures) c.put_start.ensures
           c.link_list.ensures),
       search rules,

@@ -27,9 +27,19 @@ unfolding linked
 linked_length L n f p ended = length-set L (p / 5) f
 linked_length L n f p (plain v ns r) = linked_length L n f (p + (5 + 8 * length ns)) r
 linked_length L n f p (carries v e r) = linked_length L n f _ r
-linked_length L n f p (closure x r) = linked_length _ _ _ _ r ∙ linked_length _ _ _ _ x ∙ length-set L (p / 5) _
-linked_length L n f p (branch x y r) = linked_length _ _ _ _ r ∙ linked_length _ _ _ _ y ∙ linked_length _ _ _ _ x ∙ length-set L (p / 5) _
-linked_length L n f p (save m x r) = linked_length _ _ _ _ r ∙ linked_length _ _ _ _ x ∙ length-set L (p / 5) _
+linked_length L n f p (closure x r) =
+    let a = link L p (64 * (p + 5 + bits x) + n) in
+    let b = linked a (suc n) 0 (p + 5) x in
+    linked_length b (suc n + inside x) f (p + 5 + bits x) r ∙ linked_length a (suc n) 0 (p + 5) x ∙ length-set L (p / 5) _
+linked_length L n f p (branch x y r) =
+    let a = link L p (p + 5 + bits x) in
+    let b = linked a n (onward r f (p + 5 + bits x + bits y)) (p + 5) x in
+    let d = linked b (n + inside x) (onward r f (p + 5 + bits x + bits y)) (p + 5 + bits x) y in
+    linked_length d (n + inside x + inside y) f (p + 5 + bits x + bits y) r ∙ linked_length b (n + inside x) (onward r f (p + 5 + bits x + bits y)) (p + 5 + bits x) y ∙ linked_length a n (onward r f (p + 5 + bits x + bits y)) (p + 5) x ∙ length-set L (p / 5) _
+linked_length L n f p (save m x r) =
+    let a = link L p (p + 13 + bits x) in
+    let b = linked a n f (p + 13) x in
+    linked_length b (n + inside x) 0 (p + 13 + bits x) r ∙ linked_length a n f (p + 13) x ∙ length-set L (p / 5) _
 
 link_kept : (L : List ℕ) (p q : ℕ) → Kept p L (link L p q)
 link_kept L p q i h = get_or-set_other L (p / 5) i q 0 (λ e. omega arith)
@@ -39,10 +49,19 @@ unfolding linked
 linked_kept L n f p ended i h = link_kept L p f i h
 linked_kept L n f p (plain v ns r) i h = linked_kept L n f (p + (5 + 8 * length ns)) r i (omega arith)
 linked_kept L n f p (carries v e r) i h = linked_kept L n f _ r i (omega arith)
-linked_kept L n f p (closure x r) i h = linked_kept _ _ _ _ r i (omega arith) ∙ linked_kept _ _ _ _ x i (omega arith) ∙ link_kept L p _ i h
+linked_kept L n f p (closure x r) i h =
+    let a = link L p (64 * (p + 5 + bits x) + n) in
+    let b = linked a (suc n) 0 (p + 5) x in
+    linked_kept b (suc n + inside x) f (p + 5 + bits x) r i (omega arith) ∙ linked_kept a (suc n) 0 (p + 5) x i (omega arith) ∙ link_kept L p _ i h
 linked_kept L n f p (branch x y r) i h =
-    linked_kept _ _ _ _ r i (omega arith) ∙ linked_kept _ _ _ _ y i (omega arith) ∙ linked_kept _ _ _ _ x i (omega arith) ∙ link_kept L p _ i h
-linked_kept L n f p (save m x r) i h = linked_kept _ _ _ _ r i (omega arith) ∙ linked_kept _ _ _ _ x i (omega arith) ∙ link_kept L p _ i h
+    let a = link L p (p + 5 + bits x) in
+    let b = linked a n (onward r f (p + 5 + bits x + bits y)) (p + 5) x in
+    let d = linked b (n + inside x) (onward r f (p + 5 + bits x + bits y)) (p + 5 + bits x) y in
+    linked_kept d (n + inside x + inside y) f (p + 5 + bits x + bits y) r i (omega arith) ∙ linked_kept b (n + inside x) (onward r f (p + 5 + bits x + bits y)) (p + 5 + bits x) y i (omega arith) ∙ linked_kept a n (onward r f (p + 5 + bits x + bits y)) (p + 5) x i (omega arith) ∙ link_kept L p _ i h
+linked_kept L n f p (save m x r) i h =
+    let a = link L p (p + 13 + bits x) in
+    let b = linked a n f (p + 13) x in
+    linked_kept b (n + inside x) 0 (p + 13 + bits x) r i (omega arith) ∙ linked_kept a n f (p + 13) x i (omega arith) ∙ link_kept L p _ i h
 
 -- what later lists do not touch stays
 still_linked : (L L' : List ℕ) (n f p : ℕ) (c : Basic) → Kept (p + bits c) L L' → Linked L n f p c → Linked L' n f p c
@@ -52,19 +71,19 @@ still_linked L L' n f p (plain v ns r) k h = still_linked L L' n f (p + (5 + 8 *
 still_linked L L' n f p (carries v e r) k h = still_linked L L' n f _ r (λ i b. k i (omega arith)) h
 still_linked L L' n f p (closure x r) k h = (
   k (p / 5) (omega arith) ∙ h.0,
-  still_linked L L' _ _ _ x (λ i b. k i (omega arith)) h.1,
-  still_linked L L' _ _ _ r (λ i b. k i (omega arith)) h.2,
+  still_linked L L' (suc n) 0 (p + 5) x (λ i b. k i (omega arith)) h.1,
+  still_linked L L' (suc n + inside x) f (p + 5 + bits x) r (λ i b. k i (omega arith)) h.2,
 )
 still_linked L L' n f p (branch x y r) k h = (
   k (p / 5) (omega arith) ∙ h.0,
-  still_linked L L' _ _ _ x (λ i b. k i (omega arith)) h.1,
-  still_linked L L' _ _ _ y (λ i b. k i (omega arith)) h.2,
-  still_linked L L' _ _ _ r (λ i b. k i (omega arith)) h.3,
+  still_linked L L' n (onward r f (p + 5 + bits x + bits y)) (p + 5) x (λ i b. k i (omega arith)) h.1,
+  still_linked L L' (n + inside x) (onward r f (p + 5 + bits x + bits y)) (p + 5 + bits x) y (λ i b. k i (omega arith)) h.2,
+  still_linked L L' (n + inside x + inside y) f (p + 5 + bits x + bits y) r (λ i b. k i (omega arith)) h.3,
 )
 still_linked L L' n f p (save m x r) k h = (
   k (p / 5) (omega arith) ∙ h.0,
-  still_linked L L' _ _ _ x (λ i b. k i (omega arith)) h.1,
-  still_linked L L' _ _ _ r (λ i b. k i (omega arith)) h.2,
+  still_linked L L' n f (p + 13) x (λ i b. k i (omega arith)) h.1,
+  still_linked L L' (n + inside x) 0 (p + 13 + bits x) r (λ i b. k i (omega arith)) h.2,
 )
 
 -- an instruction with one list x before the rest r: its link to q is kept

@@ -36,7 +36,6 @@ write_conditional-overflow_add-end t c =
 
 pub write_conditional-overflow_add-end-2 : goal.write_conditional-overflow_add-end-2
 write_conditional-overflow_add-end-2 t c =
-    let c.write_list-mid = c.write_list-mid in
     omega (
       arith,
       arms_room c.requires.2 _ _ c.measure-first.ensures c.gap-jump.ensures
@@ -73,7 +72,6 @@ write_conditional-write_list-mid-requires t c =
 
 pub write_conditional-put_jump-requires : goal.write_conditional-put_jump-requires
 write_conditional-put_jump-requires t c =
-    let c.write_list-mid = c.write_list-mid in
     (
       omega (
         arith,
@@ -91,7 +89,6 @@ write_conditional-put_jump-requires t c =
 
 pub write_conditional-overflow_add-turn-3 : goal.write_conditional-overflow_add-turn-3
 write_conditional-overflow_add-turn-3 t c =
-    let c.write_list-mid = c.write_list-mid in
     omega (
       arith,
       arms_room c.requires.2 _ _ c.measure-first.ensures c.gap-jump.ensures
@@ -103,7 +100,7 @@ write_conditional-overflow_add-turn-3 t c =
 
 pub write_conditional-write_list-next-requires : goal.write_conditional-write_list-next-requires
 write_conditional-write_list-next-requires t c =
-    let c.write_list-mid = c.write_list-mid in (
+    (
       omega (arith, c.decreases),
       (
         c.requires.0,
@@ -127,7 +124,6 @@ write_conditional-shape_of-out t c = c.write_list-next.auto.out ∙ c.put_jump.a
 
 pub write_conditional-returns : goal.write_conditional-returns
 write_conditional-returns t c =
-    let c.write_list-mid = c.write_list-mid in
     λ w. arms_done w _ _ c.measure-first.ensures c.gap-jump.ensures (c.write_list-mid.ensures (first_to_write w _ _ c.measure-first.ensures c.gap-jump.ensures)).0 _
     c.measure-second.ensures _ c.put_offset.ensures (c.write_list-mid.ensures (first_to_write w _ _ c.measure-first.ensures c.gap-jump.ensures)).1 c.put_jump.ensures
     (c.write_list-next.ensures

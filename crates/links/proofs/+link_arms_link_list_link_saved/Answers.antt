@@ -12,9 +12,10 @@ use Rattle.links.specs.declared.Parts.{Parts}
 use borrow.Author.Rules.{rules}
 use Prim.Native.Nat.{ℕ, ◌<◌}
 use Rattle.links.proofs.+link_arms_link_list_link_saved.Goals as goal
+use Rattle.links.proofs.+link_arms_link_list_link_saved.Goals.{link_list-After-parts_at}
 
 -- what is left to do, by what stands here
-at_turn : (t : ℕ) (k : goal.link_list-After-parts_at t) (x : Parts) →
+at_turn : (t : ℕ) (k : link_list-After-parts_at t) (x : Parts) →
     k.parts_at.result ≡ x
     → Outcome k.args.s.now k.args.levels k.loop-links.here.0 k.loop-links.links k.args.end.0 k.args.follow.0 x
 at_turn t k x e = outcome _ _ _ k.loop-links.invariant.1 _ _ x (sym (k.parts_at.ensures _ k.loop-links.invariant.1) ∙ e)

@@ -26,8 +26,15 @@ linked_length L p e f done = length-set L (p / 5) f
 linked_length L p e f (neutral op ns r) = linked_length L (p + (5 + 8 * length ns)) e f r
 linked_length L p e f (return r) = linked_length L _ e f r
 linked_length L p e f (call n r) = linked_length L _ e f r
-linked_length L p e f (unless_false x y r) = linked_length _ _ e f r ∙ linked_length _ _ _ _ y ∙ linked_length _ _ _ _ x ∙ length-set L (p / 5) _
-linked_length L p e f (make_cont n x r) = linked_length _ _ e f r ∙ linked_length _ _ _ _ x ∙ length-set L (p / 5) _
+linked_length L p e f (unless_false x y r) =
+    let a = link L p (p + 5 + bits x) in
+    let b = linked a (p + 5) (p + bits x) (p + 5 + bits x + bits y) x in
+    let d = linked b (p + 5 + bits x) (p + bits x + bits y) (p + 5 + bits x + bits y) y in
+    linked_length d (p + 5 + bits x + bits y) e f r ∙ linked_length b (p + 5 + bits x) (p + bits x + bits y) (p + 5 + bits x + bits y) y ∙ linked_length a (p + 5) (p + bits x) (p + 5 + bits x + bits y) x ∙ length-set L (p / 5) _
+linked_length L p e f (make_cont n x r) =
+    let a = link L p (p + 13 + bits x) in
+    let b = linked a (p + 13) (p + 8 + bits x) e x in
+    linked_length b (p + 13 + bits x) e f r ∙ linked_length a (p + 13) (p + 8 + bits x) e x ∙ length-set L (p / 5) _
 
 -- the links of places before p
 abbrev pub Before : ℕ → ℕ → Type 0
@@ -48,11 +55,16 @@ linked_other L p e f (neutral op ns r) i h = linked_other L (p + (5 + 8 * length
 linked_other L p e f (return r) i h = linked_other L _ e f r i (λ a b. h (omega arith) (omega arith))
 linked_other L p e f (call n r) i h = linked_other L _ e f r i (λ a b. h (omega arith) (omega arith))
 linked_other L p e f (unless_false x y r) i h =
-    let b = least_bits r in
-    linked_other _ _ e f r i (λ a b. h (omega arith) (omega arith)) ∙ linked_other _ _ _ _ y i (λ a b. h (omega arith) (omega arith))
-    ∙ linked_other _ _ _ _ x i (λ a b. h (omega arith) (omega arith)) ∙ link_other L p (p + (5 + bits x + bits y + bits r)) _ (omega arith) i h
+    let least = least_bits r in
+    let a = link L p (p + 5 + bits x) in
+    let b = linked a (p + 5) (p + bits x) (p + 5 + bits x + bits y) x in
+    let d = linked b (p + 5 + bits x) (p + bits x + bits y) (p + 5 + bits x + bits y) y in
+    linked_other d (p + 5 + bits x + bits y) e f r i (λ k j. h (omega arith) (omega arith)) ∙ linked_other b (p + 5 + bits x) (p + bits x + bits y) (p + 5 + bits x + bits y) y i (λ k j. h (omega arith) (omega arith))
+    ∙ linked_other a (p + 5) (p + bits x) (p + 5 + bits x + bits y) x i (λ k j. h (omega arith) (omega arith)) ∙ link_other L p (p + (5 + bits x + bits y + bits r)) _ (omega arith) i h
 linked_other L p e f (make_cont n x r) i h =
-    linked_other _ _ e f r i (λ a b. h (omega arith) (omega arith)) ∙ linked_other _ _ _ _ x i (λ a b. h (omega arith) (omega arith))
+    let a = link L p (p + 13 + bits x) in
+    let b = linked a (p + 13) (p + 8 + bits x) e x in
+    linked_other b (p + 13 + bits x) e f r i (λ k j. h (omega arith) (omega arith)) ∙ linked_other a (p + 13) (p + 8 + bits x) e x i (λ k j. h (omega arith) (omega arith))
     ∙ link_other L p (p + (13 + bits x + bits r)) _ (omega arith) i h
 
 pub linked_kept : (L : List ℕ) (p e f : ℕ) (c : Code) → Kept p L (linked L p e f c)

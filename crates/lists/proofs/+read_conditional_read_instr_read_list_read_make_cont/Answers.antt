@@ -22,28 +22,29 @@ use Rattle.lists.specs.laws.PassLaws.{listed_begun}
 use Rattle.lists.specs.laws.RunLaws.{run_listed, run_marking, run_bits, run_sizes}
 use Rattle.lists.specs.laws.ReadLaws.{line_read, read_below, simple_anywhere, deep_anywhere, deep_last, listed_done, listed_refused, listed_size, turn_end, turn_more, turn_bad, turn_bits, tail_size}
 use Rattle.lists.proofs.+read_conditional_read_instr_read_list_read_make_cont.Goals as goal
+use Rattle.lists.proofs.+read_conditional_read_instr_read_list_read_make_cont.Goals.{read_instr-After-past-next, read_instr-After-shape_by_words-shape, read_list-After-run_after-so_far}
 
 -- the code is read, and the instruction by its shape
-code_there : (t : ℕ) (k : goal.read_instr-After-past-next t) →
+code_there : (t : ℕ) (k : read_instr-After-past-next t) →
     field_read k.args.s.now k.args.at.0 5 ≡ Read (k.line_at-line.result / 65536) k.past-next.result
 code_there t k =
-    line_read _ _ _ k.line_at-line.ensures.0 (leb-true _ _ (sym k.within.ensures ∙ not-false _ k.if-not-within.false)) _
+    line_read _ _ _ k.line_at-line.ensures.0 (leb-true _ _ (sym k.within.ensures ∙ k.if-not-within.false)) _
     k.past-next.ensures
 
-at_code : (t : ℕ) (k : goal.read_instr-After-shape_by_words-shape t) →
+at_code : (t : ℕ) (k : read_instr-After-shape_by_words-shape t) →
     head_at k.args.s.now (deep_of k.args.s.now k.args.levels) k.args.at.0
     ≡ shaped k.args.s.now (deep_of k.args.s.now k.args.levels) k.args.at.0 (k.line_at-line.result / 65536) k.past-next.result.0
     k.shape_by_words-shape.result
 at_code t k = code_read _ _ _ _ _ _ (code_there t k.After-past-next) (sym k.shape_by_words-shape.ensures)
 
 -- past a run of neutral instructions
-read_list_so_far : (t : ℕ) (k : goal.read_list-After-run_after-so_far t) →
+read_list_so_far : (t : ℕ) (k : read_list-After-run_after-so_far t) →
     listed k.args.table.now k.args.own (list_at k.args.s.now k.args.levels k.args.at.0)
     ≡ listed_from k.args.table.now k.args.own k.run_after-so_far.result (list_at k.args.s.now k.args.levels k.read_run-run.result.past.0)
 read_list_so_far t k =
     k.loop-next.invariant.0 ∙ run_listed _ _ _ _ k.read_run-run.ensures _ _ ∙ rw k.run_after-so_far.ensures refl
 
-read_list_sizes : (t : ℕ) (k : goal.read_list-After-run_after-so_far t) →
+read_list_sizes : (t : ℕ) (k : read_list-After-run_after-so_far t) →
     let st = k.run_after-so_far.result in
     (5 * st.size ≤ 2 * k.read_run-run.result.past.0) × (5 * st.size ≤ 16 * length k.args.s.now) × (st.tail ≤ st.size)
 read_list_sizes t k =
@@ -72,33 +73,28 @@ pub read_conditional-returns-in-Refused-read_list : goal.read_conditional-return
 unfolding itemed head_marked
 read_conditional-returns-in-Refused-read_list t c =
     let x = listed_done _ _ _ _ _ (sym c.read_list.ensures.value ∙ c.in-Done.is) in
-    let all = rw (second_arm_refused _ _ _ _ _ _ _ _ _ x.1 (listed_refused _ _ _ _ _ (sym c.read_list-in-Done.ensures.value ∙ c.in-Refused-read_list.is))) (refl, tt) in
-    record { value = all.0; head_marked = all.1 }
+    rw (second_arm_refused _ _ _ _ _ _ _ _ _ x.1 (listed_refused _ _ _ _ _ (sym c.read_list-in-Done.ensures.value ∙ c.in-Refused-read_list.is))) (record { value = refl; head_marked = tt })
 
 pub read_conditional-shape_of-marks-in-Refused : goal.read_conditional-shape_of-marks-in-Refused
 read_conditional-shape_of-marks-in-Refused t c = c.read_list.auto.marks
 
 pub read_conditional-returns-in-Refused : goal.read_conditional-returns-in-Refused
 unfolding itemed head_marked
-read_conditional-returns-in-Refused t c =
-    let all = rw (first_arm_refused _ _ _ _ _ _ _ (listed_refused _ _ _ _ _ (sym c.read_list.ensures.value ∙ c.in-Refused.is))) (refl, tt) in
-    record { value = all.0; head_marked = all.1 }
+read_conditional-returns-in-Refused t c = rw (first_arm_refused _ _ _ _ _ _ _ (listed_refused _ _ _ _ _ (sym c.read_list.ensures.value ∙ c.in-Refused.is))) (record { value = refl; head_marked = tt })
 
 pub read_instr-returns-then-not-within : goal.read_instr-returns-then-not-within
 unfolding itemed head_marked
-read_instr-returns-then-not-within t c =
-    let all = rw (code_cut _ _ _ (sym (cut _ _ 5 (leb-false _ _ (sym c.within.ensures ∙ not-true _ c.if-not-within.true))))) (refl, tt) in
-    record { value = all.0; head_marked = all.1 }
+read_instr-returns-then-not-within t c = rw (code_cut _ _ _ (sym (cut _ _ 5 (leb-false _ _ (sym c.within.ensures ∙ c.if-not-within.true))))) (refl, tt)
 
 pub read_instr-line_at-line-requires : goal.read_instr-line_at-line-requires
 read_instr-line_at-line-requires t c =
-    let here : c.args.at.0 + 5 ≤ 8 * length c.args.s.now = leb-true _ _ (sym c.within.ensures ∙ not-false _ c.if-not-within.false) in
+    let here : c.args.at.0 + 5 ≤ 8 * length c.args.s.now = leb-true _ _ (sym c.within.ensures ∙ c.if-not-within.false) in
     (omega (arith, c.requires.0), omega (arith, here))
 
 pub read_instr-past-next-requires : goal.read_instr-past-next-requires
 read_instr-past-next-requires t c =
     let here : c.args.at.0 + 5 ≤ 8 * length c.args.s.now =
-    leb-true _ _ (sym c.within.ensures ∙ not-false _ c.if-not-within.false) in
+    leb-true _ _ (sym c.within.ensures ∙ c.if-not-within.false) in
     omega (arith, here, c.requires.0)
 
 pub read_instr-shape_by_words-shape-requires : goal.read_instr-shape_by_words-shape-requires
@@ -106,20 +102,16 @@ read_instr-shape_by_words-shape-requires t c = omega (arith, c.line_at-line.ensu
 
 pub read_instr-read_simple-requires : goal.read_instr-read_simple-requires
 read_instr-read_simple-requires t c =
-    let here = leb-true _ _ (sym c.within.ensures ∙ not-false _ c.if-not-within.false) in
+    let here = leb-true _ _ (sym c.within.ensures ∙ c.if-not-within.false) in
     (c.requires.0, c.requires.1, c.requires.2, c.line_at-line.ensures.0, here, sym c.shape_by_words-shape.ensures, omega arith, omega arith)
 
 pub read_instr-returns-then-levels-eq0 : goal.read_instr-returns-then-levels-eq0
 unfolding itemed head_marked
-read_instr-returns-then-levels-eq0 t c =
-    let all = rw (at_code t (goal.at.read_instr-returns-then-levels-eq0 t c).After-shape_by_words-shape ∙ deep_last _ _ _ _ _ _ (omega arith) (omega arith) (omega arith)) (refl, tt) in
-    record { value = all.0; head_marked = all.1 }
+read_instr-returns-then-levels-eq0 t c = rw (at_code t (goal.at.read_instr-returns-then-levels-eq0 t c).After-shape_by_words-shape ∙ deep_last _ _ _ _ _ _ (omega arith) (omega arith) (omega arith)) (record { value = refl; head_marked = tt })
 
 pub read_instr-returns-in-0 : goal.read_instr-returns-in-0
 unfolding itemed shaped head_marked
-read_instr-returns-in-0 t c =
-    let all = rw (at_code t (goal.at.read_instr-returns-in-0 t c).After-shape_by_words-shape, c.in-0.is) (refl, refl) in
-    record { value = all.0; head_marked = all.1 }
+read_instr-returns-in-0 t c = rw (at_code t (goal.at.read_instr-returns-in-0 t c).After-shape_by_words-shape, c.in-0.is) (record { value = refl; head_marked = refl })
 
 pub read_instr-returns-in-1 : goal.read_instr-returns-in-1
 read_instr-returns-in-1 t c =
@@ -143,9 +135,7 @@ read_instr-returns-else-shape-eq4 t c = let e = at_code t (goal.at.read_instr-re
 
 pub read_instr-returns-in_default : goal.read_instr-returns-in_default
 unfolding itemed head_marked
-read_instr-returns-in_default t c =
-    let all = rw (at_code t (goal.at.read_instr-returns-in_default t c).After-shape_by_words-shape ∙ no_code _ _ _ _ _ _ (omega arith)) (refl, tt) in
-    record { value = all.0; head_marked = all.1 }
+read_instr-returns-in_default t c = rw (at_code t (goal.at.read_instr-returns-in_default t c).After-shape_by_words-shape ∙ no_code _ _ _ _ _ _ (omega arith)) (record { value = refl; head_marked = tt })
 
 pub read_list-loop-next-init : goal.read_list-loop-next-init
 unfolding begun
@@ -215,9 +205,7 @@ read_list-returns-in-Bad t c =
 
 pub read_make_cont-returns-in_default : goal.read_make_cont-returns-in_default
 unfolding itemed head_marked
-read_make_cont-returns-in_default t c =
-    let all = rw (count_cut _ _ _ _ _ (sym c.read_field.ensures ∙ c.in_default.is)) (refl, tt) in
-    record { value = all.0; head_marked = all.1 }
+read_make_cont-returns-in_default t c = rw (count_cut _ _ _ _ _ (sym c.read_field.ensures ∙ c.in_default.is)) (record { value = refl; head_marked = tt })
 
 pub read_make_cont-save_added-requires : goal.read_make_cont-save_added-requires
 read_make_cont-save_added-requires t c = listed_size _ _ _ _ _ _ _ c.requires.0 (sym c.read_list.ensures.value ∙ c.in-Done.is)
@@ -237,6 +225,5 @@ read_make_cont-shape_of-marks-in-Refused t c = c.read_list.auto.marks
 pub read_make_cont-returns-in-Refused : goal.read_make_cont-returns-in-Refused
 unfolding itemed head_marked
 read_make_cont-returns-in-Refused t c =
-    let all = rw (saved_refused _ _ _ _ _ _ _ _ _ (sym c.read_field.ensures ∙ c.in-Read.is)
-    (listed_refused _ _ _ _ _ (sym c.read_list.ensures.value ∙ c.in-Refused.is))) (refl, tt) in
-    record { value = all.0; head_marked = all.1 }
+    rw (saved_refused _ _ _ _ _ _ _ _ _ (sym c.read_field.ensures ∙ c.in-Read.is)
+    (listed_refused _ _ _ _ _ (sym c.read_list.ensures.value ∙ c.in-Refused.is))) (record { value = refl; head_marked = tt })

@@ -8,9 +8,10 @@ use Rattle.lists.specs.Pass.{run_shape, Neutrals, none}
 use Rattle.lists.specs.laws.RunLaws.{run_bits, Window, window_at, window_line, run_line}
 use borrow.Author.Rules.{rules}
 use Rattle.lists.proofs.read_run.Goals as goal
+use Rattle.lists.proofs.read_run.Goals.{Else-shape-eq0}
 
 -- a turn that goes on: its code is neutral, and its line lies within the file
-going_on : (k : goal.Else-shape-eq0) →
+going_on : (k : Else-shape-eq0) →
     let n = k.run_shape-shape.result in
     let here = k.loop-line.here.0 in
     let bytes = length k.args.s.now in

@@ -11,10 +11,10 @@ use Rattle.machines.proofs.globals_refusal.Goals as goal
 
 pub returns-then-not-starting_global : goal.returns-then-not-starting_global
 unfolding globals_refusal
-returns-then-not-starting_global c = ap globals_refusal (unfit_here _ _ c.loop-i.invariant.1 _ c.loop-i-test.true c.starting_global.ensures (not-true _ c.if-not-starting_global.true))
+returns-then-not-starting_global c = ap globals_refusal (unfit_here _ _ c.loop-i.invariant.1 _ c.loop-i-test.true c.starting_global.ensures c.if-not-starting_global.true)
 
 pub loop-i-preserved : goal.loop-i-preserved
-loop-i-preserved c = (search rules, unfit_later _ _ c.loop-i.invariant.1 _ c.loop-i-test.true c.starting_global.ensures (not-false _ c.if-not-starting_global.false))
+loop-i-preserved c = (search rules, unfit_later _ _ c.loop-i.invariant.1 _ c.loop-i-test.true c.starting_global.ensures c.if-not-starting_global.false)
 
 pub returns : goal.returns
 unfolding globals_refusal

@@ -42,7 +42,7 @@ returns-then-not-is_owner c =
       eq-eqb _ _ c.if-store-ne2048.false,
       eq-eqb _ _ c.if-frames-ne2048.false,
       le-leb _ _ c.if-budget-most.false,
-      sym c.is_owner.ensures ∙ not-true _ c.if-not-is_owner.true,
+      sym c.is_owner.ensures ∙ c.if-not-is_owner.true,
     )
 
 pub returns : goal.returns
@@ -54,5 +54,5 @@ returns c =
       eq-eqb _ _ c.if-store-ne2048.false,
       eq-eqb _ _ c.if-frames-ne2048.false,
       le-leb _ _ c.if-budget-most.false,
-      sym c.is_owner.ensures ∙ not-false _ c.if-not-is_owner.false,
+      sym c.is_owner.ensures ∙ c.if-not-is_owner.false,
     ) c.globals_refusal.ensures

@@ -12,7 +12,7 @@ unfolding zeros
 pull_read-requires c =
     let f = accepted_fit _ _ _ c.requires in
     let was = sym c.read_linear.ensures.value ∙ c.in-Read.is in
-    (f.few, f.room_for, record { count = _; (goal.at.pull_read-requires c).After-read_linear = was; filled = c.read_linear.ensures.table_after }, f.small)
+    (f.few, f.room_for, record { count = _; read = was; filled = c.read_linear.ensures.table_after }, f.small)
 
 pub returns-in-Read : goal.returns-in-Read
 returns-in-Read c =

@@ -14,5 +14,5 @@ returns-in-Accepted c =
 
 pub returns-in-Refused : goal.returns-in-Refused
 returns-in-Refused c =
-    clips_refused _ _ _ _ _ _ _ c.check_clips.ensures c.inlet all = -Refused.is in
+    let all = clips_refused _ _ _ _ _ _ _ c.check_clips.ensures c.in-Refused.is in
     record { value = all.0; list_after = all.1.0; longest = all.1.1 }

@@ -8,8 +8,7 @@ use Rattle.pull.proofs.put_line.Goals as goal
 pub put_end-requires : goal.put_end-requires
 put_end-requires c =
     let p = c.put_number-next.ensures.put in
-    let all = omega (arith, number_after _ c.requires.k_bound p, put_length p, c.requires) in
-    record { in_bounds = all.0; at_in_bounds = all.1 }
+    omega (arith, number_after _ c.requires.k_bound p, put_length p, c.requires)
 
 pub returns : goal.returns
 returns c =

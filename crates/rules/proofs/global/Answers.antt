@@ -10,8 +10,8 @@ use Rattle.rules.proofs.global.Goals as goal
 
 pub returns-then-not-may_read : goal.returns-then-not-may_read
 unfolding told may_do
-returns-then-not-may_read c = λ s t. ap (told _) (barred _ _ _ _ _ c.may_read.ensures (not-true _ c.if-not-may_read.true))
+returns-then-not-may_read c = λ s t. ap (told _) (barred _ _ _ _ _ c.may_read.ensures c.if-not-may_read.true)
 
 pub returns : goal.returns
 unfolding may_do plain_rule global_rule
-returns c = λ s t. c.held.ensures _ ∙ ap (told _) (allowed _ _ _ _ _ c.may_read.ensures (not-false _ c.if-not-may_read.false))
+returns c = λ s t. c.held.ensures _ ∙ ap (told _) (allowed _ _ _ _ _ c.may_read.ensures c.if-not-may_read.false)

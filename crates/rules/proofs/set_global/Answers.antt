@@ -10,8 +10,8 @@ use Rattle.rules.proofs.set_global.Goals as goal
 
 pub returns-then-not-may_set : goal.returns-then-not-may_set
 unfolding told may_do
-returns-then-not-may_set c = λ s t. ap (told _) (barred _ _ _ _ _ c.may_set.ensures (not-true _ c.if-not-may_set.true))
+returns-then-not-may_set c = λ s t. ap (told _) (barred _ _ _ _ _ c.may_set.ensures c.if-not-may_set.true)
 
 pub returns : goal.returns
 unfolding told may_do plain_rule set_global_rule
-returns c = λ s t. rw c.valued.ensures (ap (told _) (allowed _ _ _ _ _ c.may_set.ensures (not-false _ c.if-not-may_set.false)))
+returns c = λ s t. rw c.valued.ensures (ap (told _) (allowed _ _ _ _ _ c.may_set.ensures c.if-not-may_set.false))

@@ -6,7 +6,7 @@ use mathlib.Core.List.{List, [], ◌∷◌, append-nil}
 use Rattle.std.proofs.Math.ListN.{length, length-append}
 use Rattle.std.proofs.lemmas.Bool.{lt-leb}
 use Rattle.files.specs.Entries.{Entry}
-use Rattle.files.specs.Code.{bits as codeBits}
+use Rattle.files.specs.Code.{bits as code_bits}
 use Rattle.files.specs.Linear.{entries_bits}
 use Rattle.tree_file.specs.File.{template_bits, templates_bits}
 use Rattle.tree_file.specs.laws.Lengths.{template_length}
@@ -82,7 +82,7 @@ module _ {s : List ℕ} {e own p m : ℕ} (f : From s e own p m) where
   pub from_read : (q : ℕ) × (list_at s 15 p ≡ got f.first q)
   from_read = go f.stand
     where
-      go : Lists s e p (f.first ∷ f.others) → (q : ℕ) × (list_at s 15 p ≡ got f.first q)
+      go : {e' p' : ℕ} {x : Basic} {xs : List Basic} → Lists s e' p' (x ∷ xs) → (q : ℕ) × (list_at s 15 p' ≡ got x q)
       go (next_list q h w) = (q, h)
 
 -- ---- 6
@@ -112,13 +112,13 @@ number_small {s} h w = let f = list_facts s 15 0 w.read in omega (arith, inside_
 pub from_low : {s : List ℕ} {e own p m : ℕ} (f : From s e own p m) → (own ≤ m) × (p + 5 ≤ e)
 from_low {s} {e} {own} {p} {m} f = go f.stand
   where
-    go : Lists s e p (f.first ∷ f.others) → (own ≤ m) × (p + 5 ≤ e)
-    go (next_list q h w) =
-        let k = list_facts s 15 p h in (omega (arith, f.number), omega (arith, k.0, list_least s f.first, lists_end s e q f.others w))
+    go : {e' p' : ℕ} {x : Basic} {xs : List Basic} → Lists s e' p' (x ∷ xs) → (own ≤ m) × (p' + 5 ≤ e')
+    go {e'} {p'} {x} {xs} (next_list q h w) =
+        let k = list_facts s 15 p' h in (omega (arith, f.number), omega (arith, k.0, list_least s x, lists_end s e' q xs w))
 
 -- ---- entries and bits
-pub own_length : (c : Basic) → Ok c → (es : List Entry) (n : ℕ) → codeBits (indexed es n c) ≡ own_bits c
-unfolding indexed own_bits codeBits Ok
+pub own_length : (c : Basic) → Ok c → (es : List Entry) (n : ℕ) → code_bits (indexed es n c) ≡ own_bits c
+unfolding indexed own_bits code_bits Ok
 own_length ended ok es n = refl
 own_length (plain v ns r) ok es n = plain_long v ns ok.0 (indexed es n r) ∙ ap (λ (k : ℕ). 5 + 8 * length ns + k) (own_length r ok.1 es n)
 own_length (carries v e r) ok es n = omega (arith, own_length r ok.1 es n)

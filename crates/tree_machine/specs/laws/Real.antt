@@ -129,12 +129,12 @@ real_within k a (neutral op ns r) p (inr h) = omega (arith, real_within k (a + (
 real_within k a (return r) p e = omega (arith, least_bits r)
 real_within k a (call n r) p e = omega (arith, least_bits r)
 real_within k a (unless_false x y r) p (inl e) = omega (arith, least_bits r)
-real_within k a (unless_false x y r) p (inr (inl h)) = omega (arith, real_within _ _ x p h)
-real_within k a (unless_false x y r) p (inr (inr (inl h))) = omega (arith, real_within _ _ y p h)
-real_within k a (unless_false x y r) p (inr (inr (inr h))) = omega (arith, real_within _ _ r p h)
+real_within k a (unless_false x y r) p (inr (inl h)) = omega (arith, real_within (not (is_closed x)) (a + 5) x p h)
+real_within k a (unless_false x y r) p (inr (inr (inl h))) = omega (arith, real_within (not (is_closed x)) (a + 5 + bits x) y p h)
+real_within k a (unless_false x y r) p (inr (inr (inr h))) = omega (arith, real_within (cond (is_closed x) false k) (a + 5 + bits x + bits y) r p h)
 real_within k a (make_cont n x r) p (inl e) = omega (arith, least_bits r)
-real_within k a (make_cont n x r) p (inr (inl h)) = omega (arith, real_within _ _ x p h)
-real_within k a (make_cont n x r) p (inr (inr h)) = omega (arith, real_within _ _ r p h)
+real_within k a (make_cont n x r) p (inr (inl h)) = omega (arith, real_within (not (is_closed x)) (a + 13) x p h)
+real_within k a (make_cont n x r) p (inr (inr h)) = omega (arith, real_within false (a + 13 + bits x) r p h)
 
 -- ---- what the lists in a list must be like
 pub arms_fit_lem : (k : Bool) (x y r : Code) → Arms k x y r → (fits (not (is_closed x)) x ≡ true) × (fits (not (is_closed x)) y ≡ true)

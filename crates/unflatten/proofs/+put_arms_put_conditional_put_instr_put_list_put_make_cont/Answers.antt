@@ -9,8 +9,6 @@ use Rattle.unflatten.specs.laws.PutLaws.{puts_none, puts_some, two_first, two_fr
 use Rattle.unflatten.specs.laws.PutLaws.{head_as, head_none, going_begun, going_no_end, going_end, going_none, going_on}
 use borrow.Author.Rules.{rules}
 use Prim.Native.Nat.{ℕ, ◌<◌}
-use Rattle.unflatten.proofs.+put_arms_put_conditional_put_instr_put_list_put_make_cont.{
-use Rattle.unflatten.proofs.+put_arms_put_conditional_put_instr_put_list_put_make_cont.Tie.{
 use Rattle.unflatten.proofs.+put_arms_put_conditional_put_instr_put_list_put_make_cont.Goals as goal
 
 put_arms_add_put_list :
@@ -18,24 +16,20 @@ put_arms_add_put_list :
     put-arms-lts.Need-overflow-add-put-list (put_list_below t, put-list.Post) (put_arms_at t) put-arms.Post
 put_arms_add_put_list t c = let h = c.before.before.before.requires.1 in omega (arith, h.0, h.4.first, h.4.order, h.4.second, h.4.inside)
 
-
 put_arms_enum_told :
     (t : ℕ) →
     put-arms-lts.Need-enum-told (put_list_below t, put-list.Post) (put_arms_at t) put-arms.Post
 put_arms_enum_told t c = search rules
-
 
 put_arms_same_length :
     (t : ℕ) →
     put-arms-lts.Need-same-length (put_list_below t, put-list.Post) (put_arms_at t) put-arms.Post
 put_arms_same_length t c = c.before.before.before.before.put-list.auto.1.1.1.1.1.1.1.0
 
-
 put_arms_returns :
     (t : ℕ) →
     put-arms-lts.Need-returns (put_list_below t, put-list.Post) (put_arms_at t) put-arms.Post
 put_arms_returns t c = two_first (puts_none c.before.before.before.before.put-list.ensures c.enum_told.given.1)
-
 
 put_arms_returns_2 :
     (t : ℕ) →
@@ -46,7 +40,6 @@ put_arms_returns_2 t c =
     let mid = c.before.before.before.before.before.mid in
     let h = pre.1 in
     two_from _ _ (omega (arith, h.4.room)) (puts_some put-list'.ensures mid.given.1) c.before.before.put-list2.ensures
-
 
 put_make_cont_shared_slice_read_put_field :
     (t : ℕ) → put-make-cont-lts.Need-shared-slice-read-put-field (
@@ -59,7 +52,6 @@ put_make_cont_shared_slice_read_put_field t c =
     let pre = c.before.before.before.before.before.before.before.before.before.requires in
     let h = pre.1 in
     omega (arith, h.3, h.6.within.0, h.6.within.1)
-
 
 pub put_arms-put_list-requires : goal.put_arms-put_list-requires
 put_arms-put_list-requires t c = (omega (arith, c.decreases), (c.requires.0, c.requires.1, c.requires.2, c.requires.4.first, omega (arith, c.requires.4.order, c.requires.4.second, c.requires.4.inside), c.requires.3, omega (arith, c.requires.4.room)))

@@ -9,12 +9,8 @@ use Rattle.unflatten.specs.laws.PutLaws.{puts_none, puts_some, two_first, two_fr
 use Rattle.unflatten.specs.laws.PutLaws.{head_as, head_none, going_begun, going_no_end, going_end, going_none, going_on}
 use borrow.Author.Rules.{rules}
 use Prim.Native.Nat.{ℕ, ◌<◌}
-use Rattle.unflatten.proofs.+put_arms_put_conditional_put_instr_put_list_put_make_cont.{
-use Rattle.unflatten.proofs.+put_arms_put_conditional_put_instr_put_list_put_make_cont.Tie.{
 use Rattle.unflatten.proofs.+put_arms_put_conditional_put_instr_put_list_put_make_cont.Given as goal
 
-  close,
-}
 abbrev pub decreases-put_arms : goal.decreases-put_arms
 decreases-put_arms l = 4 * l.levels + 4
 

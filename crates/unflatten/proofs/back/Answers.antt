@@ -10,5 +10,5 @@ back_read-requires c = (accepted_file _ c.check_linear.ensures c.in-Accepted.is,
 
 pub returns-in-Refused : goal.returns-in-Refused
 returns-in-Refused c =
-    refused_file _ c.check_linear.ensures c.inlet all = -Refused.is _ _ in
+    let all = refused_file _ c.check_linear.ensures c.in-Refused.is _ _ in
     record { value = all.0; out_after = all.1 }

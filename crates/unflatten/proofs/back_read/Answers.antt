@@ -52,7 +52,7 @@ returns-in-Stuck c =
     let b = c.bits_at-count.ensures in
     let w = templates_in c.args.s.now h.0 _ _ c.args.table.now c.args.tree.now _ b.0
     (bytes_all c.args.s.now (λ i. omega (arith, c.shared_slice_known-1.given i))) h.1 h.2 f.1 f.0 in
-    back_stuck c.args.s.now h.0 (c.put_templates.ensures w) (length c.args.out.now) c.args.out.now c.inlet all = -Stuck.is in
+    let all = back_stuck c.args.s.now h.0 (c.put_templates.ensures w) (length c.args.out.now) c.args.out.now c.in-Stuck.is in
     record { value = all.0; out_after = all.1 }
 
 pub returns-in-Past : goal.returns-in-Past
