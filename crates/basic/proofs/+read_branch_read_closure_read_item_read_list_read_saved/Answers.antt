@@ -12,28 +12,6 @@ use borrow.Author.Rules.{rules}
 use Prim.Native.Nat.{ℕ, ◌+◌, ◌*◌, ◌-◌, ◌≤◌, ◌<◌}
 use Rattle.basic.proofs.+read_branch_read_closure_read_item_read_list_read_saved.Goals as goal
 
-read_closure_add_t11 :
-    (t : ℕ) →
-    read-closure-lts.Need-overflow-add-t11
-    (read_list_below t, read-list.Post)
-    (read_closure_at t)
-    read-closure.Post
-read_closure_add_t11 t c =
-    let pre = c.before.before.before.before.before.before.requires in
-    let read-list' = c.before.before.before.before.read-list in
-    let w = inside_few pre.1 (list_is _ _ _ _ _ (sym c.before.before.past.given.1 ∙ read-list'.ensures)) in
-    omega (arith, w)
-
-read_closure_returns :
-    (t : ℕ) →
-    read-closure-lts.Need-returns
-    (read_list_below t, read-list.Post)
-    (read_closure_at t)
-    read-closure.Post
-read_closure_returns t c =
-    let read-list' = c.before.before.before.before.read-list in
-    λ p e. closure_step _ _ p _ e _ _ (list_is _ _ _ _ _ (sym c.before.before.past.given.1 ∙ read-list'.ensures))
-
 pub read_branch-overflow_add-result : goal.read_branch-overflow_add-result
 read_branch-overflow_add-result t c =
     let w = inside_few c.requires (list_is _ _ _ _ _ (sym c.in-Done.is ∙ c.read_list.ensures)) in
@@ -53,6 +31,14 @@ read_branch-returns-in-Refused-read_list t c =
 
 pub read_branch-returns-in-Refused : goal.read_branch-returns-in-Refused
 read_branch-returns-in-Refused t c = λ p e. branch_bad _ _ p _ e _ _ (list_refused _ _ _ _ _ (sym c.in-Refused.is ∙ c.read_list.ensures))
+
+pub read_closure-overflow_add-result : goal.read_closure-overflow_add-result
+read_closure-overflow_add-result t c =
+    let w = inside_few c.requires (list_is _ _ _ _ _ (sym c.in-Done.is ∙ c.read_list.ensures)) in
+    omega (arith, w)
+
+pub read_closure-returns-in-Done : goal.read_closure-returns-in-Done
+read_closure-returns-in-Done t c = λ p e. closure_step _ _ p _ e _ _ (list_is _ _ _ _ _ (sym c.in-Done.is ∙ c.read_list.ensures))
 
 pub read_closure-returns-in-Refused : goal.read_closure-returns-in-Refused
 read_closure-returns-in-Refused t c = λ p e. closure_bad _ _ p _ e _ _ (list_refused _ _ _ _ _ (sym c.in-Refused.is ∙ c.read_list.ensures))

@@ -89,38 +89,38 @@ link_list-requires t c =
 
 pub overflow_add-number-in-Closure-2 : goal.overflow_add-number-in-Closure-2
 overflow_add-number-in-Closure-2 t c =
-    let w = turn_closure _ _ _ _ _ _ _ _ _ _ _ _ (c.loop-links.inv.0 c.requires.2.code c.requires.2.reads) _ _ _
-    (parted_as _ _ (c.in-Closure.is) (c.parts_at.ensures (c.loop-links.inv.0 c.requires.2.code c.requires.2.reads).rest
-    (c.loop-links.inv.0 c.requires.2.code c.requires.2.reads).reads)) in
+    let w = turn_closure _ _ _ _ _ _ _ _ _ _ _ _ (c.loop-links.invariant.0 c.requires.2.code c.requires.2.reads) _ _ _
+    (parted_as _ _ (c.in-Closure.is) (c.parts_at.ensures (c.loop-links.invariant.0 c.requires.2.code c.requires.2.reads).rest
+    (c.loop-links.invariant.0 c.requires.2.code c.requires.2.reads).reads)) in
     omega (arith, w.below_64)
 
 pub overflow_add-number-in-Closure-3 : goal.overflow_add-number-in-Closure-3
 overflow_add-number-in-Closure-3 t c =
-    let w = turn_closure _ _ _ _ _ _ _ _ _ _ _ _ (c.loop-links.inv.0 c.requires.2.code c.requires.2.reads) _ _ _
-    (parted_as _ _ (c.in-Closure.is) (c.parts_at.ensures (c.loop-links.inv.0 c.requires.2.code c.requires.2.reads).rest
-    (c.loop-links.inv.0 c.requires.2.code c.requires.2.reads).reads)) in
+    let w = turn_closure _ _ _ _ _ _ _ _ _ _ _ _ (c.loop-links.invariant.0 c.requires.2.code c.requires.2.reads) _ _ _
+    (parted_as _ _ (c.in-Closure.is) (c.parts_at.ensures (c.loop-links.invariant.0 c.requires.2.code c.requires.2.reads).rest
+    (c.loop-links.invariant.0 c.requires.2.code c.requires.2.reads).reads)) in
     omega (arith, w.below_64)
 
 pub loop-links-smaller-in-Closure : goal.loop-links-smaller-in-Closure
 loop-links-smaller-in-Closure t c =
-    let w = turn_closure _ _ _ _ _ _ _ _ _ _ _ _ (c.loop-links.inv.0 c.requires.2.code c.requires.2.reads) _ _ _
-    (parted_as _ _ (c.in-Closure.is) (c.parts_at.ensures (c.loop-links.inv.0 c.requires.2.code c.requires.2.reads).rest
-    (c.loop-links.inv.0 c.requires.2.code c.requires.2.reads).reads)) in
+    let w = turn_closure _ _ _ _ _ _ _ _ _ _ _ _ (c.loop-links.invariant.0 c.requires.2.code c.requires.2.reads) _ _ _
+    (parted_as _ _ (c.in-Closure.is) (c.parts_at.ensures (c.loop-links.invariant.0 c.requires.2.code c.requires.2.reads).rest
+    (c.loop-links.invariant.0 c.requires.2.code c.requires.2.reads).reads)) in
     omega (arith, w.past, w.within)
 
 pub loop-links-preserved-in-Closure : goal.loop-links-preserved-in-Closure
 loop-links-preserved-in-Closure t c =
-    let w = turn_closure _ _ _ _ _ _ _ _ _ _ _ _ (c.loop-links.inv.0 c.requires.2.code c.requires.2.reads) _ _ _
-    (parted_as _ _ (c.in-Closure.is) (c.parts_at.ensures (c.loop-links.inv.0 c.requires.2.code c.requires.2.reads).rest
-    (c.loop-links.inv.0 c.requires.2.code c.requires.2.reads).reads)) in (
-      (λ d h. (turn_closure _ _ _ _ _ _ _ _ _ _ _ _ (c.loop-links.inv.0 d h) _ _ _
-          (parted_as _ _ (c.in-Closure.is) (c.parts_at.ensures (c.loop-links.inv.0 d h).rest (c.loop-links.inv.0 d h).reads))).left _ _ _ _
+    let w = turn_closure _ _ _ _ _ _ _ _ _ _ _ _ (c.loop-links.invariant.0 c.requires.2.code c.requires.2.reads) _ _ _
+    (parted_as _ _ (c.in-Closure.is) (c.parts_at.ensures (c.loop-links.invariant.0 c.requires.2.code c.requires.2.reads).rest
+    (c.loop-links.invariant.0 c.requires.2.code c.requires.2.reads).reads)) in (
+      (λ d h. (turn_closure _ _ _ _ _ _ _ _ _ _ _ _ (c.loop-links.invariant.0 d h) _ _ _
+          (parted_as _ _ (c.in-Closure.is) (c.parts_at.ensures (c.loop-links.invariant.0 d h).rest (c.loop-links.invariant.0 d h).reads))).left _ _ _ _
           (c.put_link-in-Closure.ensures ∙ ap (λ n. link c.loop-links.links c.loop-links.here.0 (64 * n + c.loop-links.number)) c.number-in-Closure.ensures) c.put_start.ensures
           c.link_list.ensures),
       search rules,
       search rules,
-      c.loop-links.inv.3,
-      omega (arith, w.past, c.loop-links.inv.4),
+      c.loop-links.invariant.3,
+      omega (arith, w.past, c.loop-links.invariant.4),
     )
 
 pub put_link-requires-in-Arms : goal.put_link-requires-in-Arms
@@ -141,53 +141,53 @@ link_list-requires-in-Arms t c =
 
 pub overflow_add-number-in-Arms : goal.overflow_add-number-in-Arms
 overflow_add-number-in-Arms t c =
-    let w = turn_arms _ _ _ _ _ _ _ _ _ _ _ _ (c.loop-links.inv.0 c.requires.2.code c.requires.2.reads) _ _ _ _ _
-    (parted_as _ _ c.in-Arms.is (c.parts_at.ensures (c.loop-links.inv.0 c.requires.2.code c.requires.2.reads).rest
-    (c.loop-links.inv.0 c.requires.2.code c.requires.2.reads).reads)) in
+    let w = turn_arms _ _ _ _ _ _ _ _ _ _ _ _ (c.loop-links.invariant.0 c.requires.2.code c.requires.2.reads) _ _ _ _ _
+    (parted_as _ _ c.in-Arms.is (c.parts_at.ensures (c.loop-links.invariant.0 c.requires.2.code c.requires.2.reads).rest
+    (c.loop-links.invariant.0 c.requires.2.code c.requires.2.reads).reads)) in
     omega (arith, w.below_64)
 
 pub link_list-requires-in-Arms-2 : goal.link_list-requires-in-Arms-2
 link_list-requires-in-Arms-2 t c =
-    let w = turn_arms _ _ _ _ _ _ _ _ _ _ _ _ (c.loop-links.inv.0 c.requires.2.code c.requires.2.reads) _ _ _ _ _
-    (parted_as _ _ c.in-Arms.is (c.parts_at.ensures (c.loop-links.inv.0 c.requires.2.code c.requires.2.reads).rest
-    (c.loop-links.inv.0 c.requires.2.code c.requires.2.reads).reads)) in (
-      omega (arith, w.middle, w.past, w.within, c.requires.0, c.loop-links.inv.4, c.decreases),
-      (c.requires.0, w.small _ 524288 c.follow_of-after.ensures c.loop-links.inv.3 (omega (arith, c.requires.0)), w.second_fresh),
+    let w = turn_arms _ _ _ _ _ _ _ _ _ _ _ _ (c.loop-links.invariant.0 c.requires.2.code c.requires.2.reads) _ _ _ _ _
+    (parted_as _ _ c.in-Arms.is (c.parts_at.ensures (c.loop-links.invariant.0 c.requires.2.code c.requires.2.reads).rest
+    (c.loop-links.invariant.0 c.requires.2.code c.requires.2.reads).reads)) in (
+      omega (arith, w.middle, w.past, w.within, c.requires.0, c.loop-links.invariant.4, c.decreases),
+      (c.requires.0, w.small _ 524288 c.follow_of-after.ensures c.loop-links.invariant.3 (omega (arith, c.requires.0)), w.second_fresh),
     )
 
 pub overflow_add-number-in-Arms-2 : goal.overflow_add-number-in-Arms-2
 overflow_add-number-in-Arms-2 t c =
-    let w = turn_arms _ _ _ _ _ _ _ _ _ _ _ _ (c.loop-links.inv.0 c.requires.2.code c.requires.2.reads) _ _ _ _ _
-    (parted_as _ _ c.in-Arms.is (c.parts_at.ensures (c.loop-links.inv.0 c.requires.2.code c.requires.2.reads).rest
-    (c.loop-links.inv.0 c.requires.2.code c.requires.2.reads).reads)) in
+    let w = turn_arms _ _ _ _ _ _ _ _ _ _ _ _ (c.loop-links.invariant.0 c.requires.2.code c.requires.2.reads) _ _ _ _ _
+    (parted_as _ _ c.in-Arms.is (c.parts_at.ensures (c.loop-links.invariant.0 c.requires.2.code c.requires.2.reads).rest
+    (c.loop-links.invariant.0 c.requires.2.code c.requires.2.reads).reads)) in
     omega (arith, w.below_64)
 
 pub overflow_add-number-in-Arms-3 : goal.overflow_add-number-in-Arms-3
 overflow_add-number-in-Arms-3 t c =
-    let w = turn_arms _ _ _ _ _ _ _ _ _ _ _ _ (c.loop-links.inv.0 c.requires.2.code c.requires.2.reads) _ _ _ _ _
-    (parted_as _ _ c.in-Arms.is (c.parts_at.ensures (c.loop-links.inv.0 c.requires.2.code c.requires.2.reads).rest
-    (c.loop-links.inv.0 c.requires.2.code c.requires.2.reads).reads)) in
+    let w = turn_arms _ _ _ _ _ _ _ _ _ _ _ _ (c.loop-links.invariant.0 c.requires.2.code c.requires.2.reads) _ _ _ _ _
+    (parted_as _ _ c.in-Arms.is (c.parts_at.ensures (c.loop-links.invariant.0 c.requires.2.code c.requires.2.reads).rest
+    (c.loop-links.invariant.0 c.requires.2.code c.requires.2.reads).reads)) in
     omega (arith, w.below_64)
 
 pub loop-links-smaller-in-Arms : goal.loop-links-smaller-in-Arms
 loop-links-smaller-in-Arms t c =
-    let w = turn_arms _ _ _ _ _ _ _ _ _ _ _ _ (c.loop-links.inv.0 c.requires.2.code c.requires.2.reads) _ _ _ _ _
-    (parted_as _ _ c.in-Arms.is (c.parts_at.ensures (c.loop-links.inv.0 c.requires.2.code c.requires.2.reads).rest
-    (c.loop-links.inv.0 c.requires.2.code c.requires.2.reads).reads)) in
+    let w = turn_arms _ _ _ _ _ _ _ _ _ _ _ _ (c.loop-links.invariant.0 c.requires.2.code c.requires.2.reads) _ _ _ _ _
+    (parted_as _ _ c.in-Arms.is (c.parts_at.ensures (c.loop-links.invariant.0 c.requires.2.code c.requires.2.reads).rest
+    (c.loop-links.invariant.0 c.requires.2.code c.requires.2.reads).reads)) in
     omega (arith, w.past, w.within)
 
 pub loop-links-preserved-in-Arms : goal.loop-links-preserved-in-Arms
 loop-links-preserved-in-Arms t c =
-    let w = turn_arms _ _ _ _ _ _ _ _ _ _ _ _ (c.loop-links.inv.0 c.requires.2.code c.requires.2.reads) _ _ _ _ _
-    (parted_as _ _ c.in-Arms.is (c.parts_at.ensures (c.loop-links.inv.0 c.requires.2.code c.requires.2.reads).rest
-    (c.loop-links.inv.0 c.requires.2.code c.requires.2.reads).reads)) in (
-      (λ d h. (turn_arms _ _ _ _ _ _ _ _ _ _ _ _ (c.loop-links.inv.0 d h) _ _ _ _ _
-          (parted_as _ _ c.in-Arms.is (c.parts_at.ensures (c.loop-links.inv.0 d h).rest (c.loop-links.inv.0 d h).reads))).left _ c.follow_of-after.ensures _ _ _ _ _
+    let w = turn_arms _ _ _ _ _ _ _ _ _ _ _ _ (c.loop-links.invariant.0 c.requires.2.code c.requires.2.reads) _ _ _ _ _
+    (parted_as _ _ c.in-Arms.is (c.parts_at.ensures (c.loop-links.invariant.0 c.requires.2.code c.requires.2.reads).rest
+    (c.loop-links.invariant.0 c.requires.2.code c.requires.2.reads).reads)) in (
+      (λ d h. (turn_arms _ _ _ _ _ _ _ _ _ _ _ _ (c.loop-links.invariant.0 d h) _ _ _ _ _
+          (parted_as _ _ c.in-Arms.is (c.parts_at.ensures (c.loop-links.invariant.0 d h).rest (c.loop-links.invariant.0 d h).reads))).left _ c.follow_of-after.ensures _ _ _ _ _
           (c.put_link-in-Arms.ensures ∙ ap (λ n. link c.loop-links.links c.loop-links.here.0 n) c.number-in-Arms.ensures) c.link_list-in-Arms.ensures c.link_list-in-Arms-2.ensures),
-      c.link_list-in-Arms-2.auto.links ∙ c.link_list-in-Arms.auto.links ∙ c.put_link-in-Arms.kept.0 ∙ c.loop-links.inv.1,
-      c.link_list-in-Arms-2.auto.table ∙ c.link_list-in-Arms.auto.table ∙ c.loop-links.inv.2,
-      c.loop-links.inv.3,
-      omega (arith, w.past, c.loop-links.inv.4),
+      c.link_list-in-Arms-2.auto.links ∙ c.link_list-in-Arms.auto.links ∙ c.put_link-in-Arms.auto.links ∙ c.loop-links.invariant.1,
+      c.link_list-in-Arms-2.auto.table ∙ c.link_list-in-Arms.auto.table ∙ c.loop-links.invariant.2,
+      c.loop-links.invariant.3,
+      omega (arith, w.past, c.loop-links.invariant.4),
     )
 
 pub put_link-requires-in-Saved : goal.put_link-requires-in-Saved

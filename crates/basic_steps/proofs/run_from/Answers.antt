@@ -16,60 +16,60 @@ loop-left-init c = (search rules, search rules, search rules, at_first _ _ _ _)
 pub shape_of-globals-in-Halted : goal.shape_of-globals-in-Halted
 shape_of-globals-in-Halted c =
     let pre = c.requires in
-    search (rules, pre.1, c.loop-left.inv.0)
+    search (rules, pre.1, c.loop-left.invariant.0)
 
 pub shape_of-stack-in-Halted : goal.shape_of-stack-in-Halted
 shape_of-stack-in-Halted c =
     let pre = c.requires in
-    search (rules, pre.1, c.loop-left.inv.0)
+    search (rules, pre.1, c.loop-left.invariant.0)
 
 pub shape_of-store-in-Halted : goal.shape_of-store-in-Halted
 shape_of-store-in-Halted c =
     let pre = c.requires in
-    search (rules, pre.1, c.loop-left.inv.0)
+    search (rules, pre.1, c.loop-left.invariant.0)
 
 pub shape_of-frames-in-Halted : goal.shape_of-frames-in-Halted
 shape_of-frames-in-Halted c =
     let pre = c.requires in
-    search (rules, pre.1, c.loop-left.inv.0)
+    search (rules, pre.1, c.loop-left.invariant.0)
 
 pub returns-in-Halted : goal.returns-in-Halted
 returns-in-Halted c =
-    halted_turn _ _ _ c.loop-left.left c.args.budget _ _ c.loop-left.r c.loop-left.c _ c.loop-left-test.taken c.loop-left.inv.1 c.take_step.ensures c.loop-left.inv.3 _ _
+    halted_turn _ _ _ c.loop-left.left c.args.budget _ _ c.loop-left.r c.loop-left.c _ c.loop-left-test.true c.loop-left.invariant.1 c.take_step.ensures c.loop-left.invariant.3 _ _
     c.in-Halted.is c.value_of.ensures c.ended.ensures
 
 pub shape_of-globals-in-Wrong : goal.shape_of-globals-in-Wrong
 shape_of-globals-in-Wrong c =
     let pre = c.requires in
-    search (rules, pre.1, c.loop-left.inv.0)
+    search (rules, pre.1, c.loop-left.invariant.0)
 
 pub shape_of-stack-in-Wrong : goal.shape_of-stack-in-Wrong
 shape_of-stack-in-Wrong c =
     let pre = c.requires in
-    search (rules, pre.1, c.loop-left.inv.0)
+    search (rules, pre.1, c.loop-left.invariant.0)
 
 pub shape_of-store-in-Wrong : goal.shape_of-store-in-Wrong
 shape_of-store-in-Wrong c =
     let pre = c.requires in
-    search (rules, pre.1, c.loop-left.inv.0)
+    search (rules, pre.1, c.loop-left.invariant.0)
 
 pub shape_of-frames-in-Wrong : goal.shape_of-frames-in-Wrong
 shape_of-frames-in-Wrong c =
     let pre = c.requires in
-    search (rules, pre.1, c.loop-left.inv.0)
+    search (rules, pre.1, c.loop-left.invariant.0)
 
 pub returns-in-Wrong : goal.returns-in-Wrong
 returns-in-Wrong c =
-    wrong_turn _ _ _ c.loop-left.left c.args.budget _ _ c.loop-left.r c.loop-left.c _ c.loop-left-test.taken c.loop-left.inv.1 c.take_step.ensures c.loop-left.inv.3 _ _
+    wrong_turn _ _ _ c.loop-left.left c.args.budget _ _ c.loop-left.r c.loop-left.c _ c.loop-left-test.true c.loop-left.invariant.1 c.take_step.ensures c.loop-left.invariant.3 _ _
     c.in-Wrong.is c.ended-in-Wrong.ensures
 
 pub loop-left-preserved : goal.loop-left-preserved
 loop-left-preserved c = (
-  next_ready _ _ _ c.loop-left.left c.args.budget _ _ c.loop-left.r c.loop-left.c _ c.loop-left-test.taken c.loop-left.inv.1 c.take_step.ensures c.loop-left.inv.3 _ _ _ _ c.in-Next.is
-      c.loop-left.inv.2 c.loop-left.inv.0 (search rules) (search rules) (search rules) (search rules),
+  next_ready _ _ _ c.loop-left.left c.args.budget _ _ c.loop-left.r c.loop-left.c _ c.loop-left-test.true c.loop-left.invariant.1 c.take_step.ensures c.loop-left.invariant.3 _ _ _ _ c.in-Next.is
+      c.loop-left.invariant.2 c.loop-left.invariant.0 (search rules) (search rules) (search rules) (search rules),
   search rules,
-  next_place _ _ _ c.loop-left.left c.args.budget _ _ c.loop-left.r c.loop-left.c _ c.loop-left-test.taken c.loop-left.inv.1 c.take_step.ensures c.loop-left.inv.3 _ _ c.in-Next.is,
-  next_turn _ _ _ c.loop-left.left c.args.budget _ _ c.loop-left.r c.loop-left.c _ c.loop-left-test.taken c.loop-left.inv.1 c.take_step.ensures c.loop-left.inv.3 _ _ c.in-Next.is,
+  next_place _ _ _ c.loop-left.left c.args.budget _ _ c.loop-left.r c.loop-left.c _ c.loop-left-test.true c.loop-left.invariant.1 c.take_step.ensures c.loop-left.invariant.3 _ _ c.in-Next.is,
+  next_turn _ _ _ c.loop-left.left c.args.budget _ _ c.loop-left.r c.loop-left.c _ c.loop-left-test.true c.loop-left.invariant.1 c.take_step.ensures c.loop-left.invariant.3 _ _ c.in-Next.is,
 )
 
 pub shape_of-globals : goal.shape_of-globals

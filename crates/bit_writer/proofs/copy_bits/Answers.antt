@@ -38,7 +38,7 @@ put_field-requires-2 c =
 pub returns : goal.returns
 returns c =
     let h = c.requires in
-    let l = c.if-n-gap.left in
+    let l = c.if-n-gap.false in
     let g = c.to_byte-gap.ensures in
     let e₁ = c.put_field-aligned.ensures in
     let x = c.bits_at-2.ensures.0 in

@@ -120,7 +120,7 @@ write_conditional-write_list-next-requires t c =
     )
 
 pub write_conditional-shape_of-out : goal.write_conditional-shape_of-out
-write_conditional-shape_of-out t c = c.write_list-next.auto.out ∙ c.put_jump.auto.out ∙ c.write_list-mid.auto.out ∙ c.put_offset.kept.0
+write_conditional-shape_of-out t c = c.write_list-next.auto.out ∙ c.put_jump.auto.out ∙ c.write_list-mid.auto.out ∙ c.put_offset.auto.out
 
 pub write_conditional-returns : goal.write_conditional-returns
 write_conditional-returns t c =

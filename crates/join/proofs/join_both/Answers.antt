@@ -105,14 +105,14 @@ write_joined-requires c =
     let pre = c.requires in
     let m = length-take-le _ c.args.out.now c.if-out-size.false in
     let w = write_bounds (both pre.2) _ _ (both_x pre.2 (c.first_template-x.ensures pre.2.prologue.operand))
-    (both_y pre.2 (c.first_template-y.ensures pre.2.file)) (omega (arith, c.if-x-y-gt255.left)) _ c.find_joint-joint.ensures _ c.levels_left.ensures c.if-levels_left.true _
+    (both_y pre.2 (c.first_template-y.ensures pre.2.file)) (omega (arith, c.if-x-y-gt255.false)) _ c.find_joint-joint.ensures _ c.levels_left.ensures c.if-levels_left.true _
     _ _ _ (both_end pre.2 (c.last_end-end.ensures pre.2.file)) c.since.ensures c.since-then-levels_left.ensures refl c.if-size-gt65536.false in record {
       a_len_bound = (operand_short pre.2.prologue.operand, operand_short pre.2.file, rw m (omega (arith, c.if-size-gt65536.false)), c.move_indices.auto.indices);
       le_start = w.0;
       le_start_2 = w.1;
-      entries_bound = (c.if-x-y-gt255.left, rw m w.2);
+      entries_bound = (c.if-x-y-gt255.false, rw m w.2);
       tokens_at = tokens_y (both pre.2) _ _ (both_x pre.2 (c.first_template-x.ensures pre.2.prologue.operand))
-          (both_y pre.2 (c.first_template-y.ensures pre.2.file)) (omega (arith, c.if-x-y-gt255.left)) _ c.find_joint-joint.ensures _ c.levels_left.ensures c.if-levels_left.true _ _ _
+          (both_y pre.2 (c.first_template-y.ensures pre.2.file)) (omega (arith, c.if-x-y-gt255.false)) _ c.find_joint-joint.ensures _ c.levels_left.ensures c.if-levels_left.true _ _ _
           _ (both_end pre.2 (c.last_end-end.ensures pre.2.file)) c.since.ensures c.since-then-levels_left.ensures refl c.if-size-gt65536.false;
     }
 
@@ -120,7 +120,7 @@ pub returns-then-levels_left : goal.returns-then-levels_left
 returns-then-levels_left c =
     let pre = c.requires in
     let all = join_written (both pre.2) _ _ (both_x pre.2 (c.first_template-x.ensures pre.2.prologue.operand))
-    (both_y pre.2 (c.first_template-y.ensures pre.2.file)) (omega (arith, c.if-x-y-gt255.left)) _ c.find_joint-joint.ensures _ c.levels_left.ensures c.if-levels_left.true _ _ _
+    (both_y pre.2 (c.first_template-y.ensures pre.2.file)) (omega (arith, c.if-x-y-gt255.false)) _ c.find_joint-joint.ensures _ c.levels_left.ensures c.if-levels_left.true _ _ _
     _ (both_end pre.2 (c.last_end-end.ensures pre.2.file)) c.since.ensures c.since-then-levels_left.ensures refl c.if-size-gt65536.false _ c.move_indices.ensures _ _ c.if-out-size.false
     c.write_joined.ensures _ refl in
     record { value = all.0; out_after = all.1 }

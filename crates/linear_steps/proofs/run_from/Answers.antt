@@ -25,32 +25,32 @@ take_step-requires c = (c.loop-left.invariant.2, refl, c.loop-left.invariant.0)
 
 pub returns-in-Halted : goal.returns-in-Halted
 returns-in-Halted c =
-    halted_turn _ _ _ c.loop-left.left c.args.budget _ _ (regs c.loop-left.v c.loop-left.env c.loop-left.sp c.loop-left.st) (control c.loop-left.template (Linear c.loop-left.at) c.loop-left.fr) _ c.loop-left-test.taken
-    c.loop-left.inv.1 c.take_step.ensures c.loop-left.inv.3 _ _ c.in-Halted.is c.value_of.ensures c.ended.ensures
+    halted_turn _ _ _ c.loop-left.left c.args.budget _ _ (regs c.loop-left.v c.loop-left.env c.loop-left.sp c.loop-left.st) (control c.loop-left.template (Linear c.loop-left.at) c.loop-left.fr) _ c.loop-left-test.true
+    c.loop-left.invariant.1 c.take_step.ensures c.loop-left.invariant.3 _ _ c.in-Halted.is c.value_of.ensures c.ended.ensures
 
 pub returns-in-Wrong : goal.returns-in-Wrong
 returns-in-Wrong c =
-    wrong_turn _ _ _ c.loop-left.left c.args.budget _ _ (regs c.loop-left.v c.loop-left.env c.loop-left.sp c.loop-left.st) (control c.loop-left.template (Linear c.loop-left.at) c.loop-left.fr) _ c.loop-left-test.taken
-    c.loop-left.inv.1 c.take_step.ensures c.loop-left.inv.3 _ _ c.in-Wrong.is c.ended-in-Wrong.ensures
+    wrong_turn _ _ _ c.loop-left.left c.args.budget _ _ (regs c.loop-left.v c.loop-left.env c.loop-left.sp c.loop-left.st) (control c.loop-left.template (Linear c.loop-left.at) c.loop-left.fr) _ c.loop-left-test.true
+    c.loop-left.invariant.1 c.take_step.ensures c.loop-left.invariant.3 _ _ c.in-Wrong.is c.ended-in-Wrong.ensures
 
 pub code_after-code-requires : goal.code_after-code-requires
-code_after-code-requires c = c.loop-left.inv.2
+code_after-code-requires c = c.loop-left.invariant.2
 
 pub byte_place-at-requires : goal.byte_place-at-requires
 byte_place-at-requires c =
-    next_place _ _ _ c.loop-left.left c.args.budget _ _ (regs c.loop-left.v c.loop-left.env c.loop-left.sp c.loop-left.st) (control c.loop-left.template (Linear c.loop-left.at) c.loop-left.fr) _ c.loop-left-test.taken
-    c.loop-left.inv.1 c.take_step.ensures c.loop-left.inv.3 _ _ c.in-Next.is
+    next_place _ _ _ c.loop-left.left c.args.budget _ _ (regs c.loop-left.v c.loop-left.env c.loop-left.sp c.loop-left.st) (control c.loop-left.template (Linear c.loop-left.at) c.loop-left.fr) _ c.loop-left-test.true
+    c.loop-left.invariant.1 c.take_step.ensures c.loop-left.invariant.3 _ _ c.in-Next.is
 
 pub loop-left-preserved : goal.loop-left-preserved
 unfolding form_of
 loop-left-preserved c =
     let r = regs c.loop-left.v c.loop-left.env c.loop-left.sp c.loop-left.st in
     let k = control c.loop-left.template (Linear c.loop-left.at) c.loop-left.fr in
-    let there = next_place _ _ _ c.loop-left.left c.args.budget _ _ r k _ c.loop-left-test.taken c.loop-left.inv.1 c.take_step.ensures c.loop-left.inv.3 _ _ c.in-Next.is in
-    let ready = next_ready _ _ _ c.loop-left.left c.args.budget _ _ r k _ c.loop-left-test.taken c.loop-left.inv.1 c.take_step.ensures c.loop-left.inv.3 _ _ _ _ c.in-Next.is
-    refl c.loop-left.inv.0 (c.globals-1.given ∙ c.loop-left.inv.0.globals_long) (c.stack-1.given ∙ c.loop-left.inv.0.stack_long)
-    (c.store-1.given ∙ c.loop-left.inv.0.store_long) (c.frames-1.given ∙ c.loop-left.inv.0.frames_long) in
-    let turn = next_turn _ _ _ c.loop-left.left c.args.budget _ _ r k _ c.loop-left-test.taken c.loop-left.inv.1 c.take_step.ensures c.loop-left.inv.3 _ _ c.in-Next.is in
+    let there = next_place _ _ _ c.loop-left.left c.args.budget _ _ r k _ c.loop-left-test.true c.loop-left.invariant.1 c.take_step.ensures c.loop-left.invariant.3 _ _ c.in-Next.is in
+    let ready = next_ready _ _ _ c.loop-left.left c.args.budget _ _ r k _ c.loop-left-test.true c.loop-left.invariant.1 c.take_step.ensures c.loop-left.invariant.3 _ _ _ _ c.in-Next.is
+    refl c.loop-left.invariant.0 (c.globals-1.given ∙ c.loop-left.invariant.0.globals_long) (c.stack-1.given ∙ c.loop-left.invariant.0.stack_long)
+    (c.store-1.given ∙ c.loop-left.invariant.0.store_long) (c.frames-1.given ∙ c.loop-left.invariant.0.frames_long) in
+    let turn = next_turn _ _ _ c.loop-left.left c.args.budget _ _ r k _ c.loop-left-test.true c.loop-left.invariant.1 c.take_step.ensures c.loop-left.invariant.3 _ _ c.in-Next.is in
     (placed_ready _ _ c.byte_place-at.ensures _ _ _ _ there ready, search rules, c.code_after-code.ensures, placed_turn _ _ c.byte_place-at.ensures _ _ _ _ _ _ turn)
 
 pub returns : goal.returns
@@ -61,12 +61,12 @@ returns c =
 pub shape_of-globals-in-Halted : goal.shape_of-globals-in-Halted
 shape_of-globals-in-Halted c =
     let pre = c.requires in
-    c.globals-1.given ∙ c.loop-left.inv.0.globals_long ∙ sym pre.globals_long
+    c.globals-1.given ∙ c.loop-left.invariant.0.globals_long ∙ sym pre.globals_long
 
 pub shape_of-globals-in-Wrong : goal.shape_of-globals-in-Wrong
 shape_of-globals-in-Wrong c =
     let pre = c.requires in
-    c.globals-1.given ∙ c.loop-left.inv.0.globals_long ∙ sym pre.globals_long
+    c.globals-1.given ∙ c.loop-left.invariant.0.globals_long ∙ sym pre.globals_long
 
 pub shape_of-globals : goal.shape_of-globals
 shape_of-globals c =
@@ -76,12 +76,12 @@ shape_of-globals c =
 pub shape_of-stack-in-Halted : goal.shape_of-stack-in-Halted
 shape_of-stack-in-Halted c =
     let pre = c.requires in
-    c.stack-1.given ∙ c.loop-left.inv.0.stack_long ∙ sym pre.stack_long
+    c.stack-1.given ∙ c.loop-left.invariant.0.stack_long ∙ sym pre.stack_long
 
 pub shape_of-stack-in-Wrong : goal.shape_of-stack-in-Wrong
 shape_of-stack-in-Wrong c =
     let pre = c.requires in
-    c.stack-1.given ∙ c.loop-left.inv.0.stack_long ∙ sym pre.stack_long
+    c.stack-1.given ∙ c.loop-left.invariant.0.stack_long ∙ sym pre.stack_long
 
 pub shape_of-stack : goal.shape_of-stack
 shape_of-stack c =
@@ -91,12 +91,12 @@ shape_of-stack c =
 pub shape_of-store-in-Halted : goal.shape_of-store-in-Halted
 shape_of-store-in-Halted c =
     let pre = c.requires in
-    c.store-1.given ∙ c.loop-left.inv.0.store_long ∙ sym pre.store_long
+    c.store-1.given ∙ c.loop-left.invariant.0.store_long ∙ sym pre.store_long
 
 pub shape_of-store-in-Wrong : goal.shape_of-store-in-Wrong
 shape_of-store-in-Wrong c =
     let pre = c.requires in
-    c.store-1.given ∙ c.loop-left.inv.0.store_long ∙ sym pre.store_long
+    c.store-1.given ∙ c.loop-left.invariant.0.store_long ∙ sym pre.store_long
 
 pub shape_of-store : goal.shape_of-store
 shape_of-store c =
@@ -106,12 +106,12 @@ shape_of-store c =
 pub shape_of-frames-in-Halted : goal.shape_of-frames-in-Halted
 shape_of-frames-in-Halted c =
     let pre = c.requires in
-    c.frames-1.given ∙ c.loop-left.inv.0.frames_long ∙ sym pre.frames_long
+    c.frames-1.given ∙ c.loop-left.invariant.0.frames_long ∙ sym pre.frames_long
 
 pub shape_of-frames-in-Wrong : goal.shape_of-frames-in-Wrong
 shape_of-frames-in-Wrong c =
     let pre = c.requires in
-    c.frames-1.given ∙ c.loop-left.inv.0.frames_long ∙ sym pre.frames_long
+    c.frames-1.given ∙ c.loop-left.invariant.0.frames_long ∙ sym pre.frames_long
 
 pub shape_of-frames : goal.shape_of-frames
 shape_of-frames c =

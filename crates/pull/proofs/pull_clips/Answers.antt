@@ -29,11 +29,11 @@ loop-k-preserved c =
     let i = c.loop-k.invariant in (
       omega (arith, c.loop-k-test, i),
       i.1,
-      omega (arith, c.pull_clip-at.auto.clips, i),
-      omega (arith, c.pull_clip-at.auto.clips, i),
-      omega (arith, c.pull_clip-at.auto.clips, i),
-      omega (arith, c.pull_clip-at.auto.clips, i),
-      omega (arith, c.pull_clip-at.auto.clips, i),
+      omega (arith, c.pull_clip-at.auto, i),
+      omega (arith, c.pull_clip-at.auto, i),
+      omega (arith, c.pull_clip-at.auto, i),
+      omega (arith, c.pull_clip-at.auto, i),
+      omega (arith, c.pull_clip-at.auto, i),
       omega (arith, c.pull_clip-at.ensures.upper_bound, i),
       one_line_more _ _ _ _ i.8 c.pull_clip-at.ensures.put,
     )

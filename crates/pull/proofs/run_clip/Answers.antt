@@ -10,7 +10,7 @@ pub run_again-run-requires : goal.run_again-run-requires
 run_again-run-requires c =
     let p = c.requires in record {
       table_of = p.in_bounds.1;
-      frames_value = may_run _ 0 _ _ _ _ (omega (arith, c.set_globals.auto.clip, p.globals_len.0)) p.globals_len.1 p.globals_len.2 p.globals_len.3 p.in_bounds.2 (omega arith)
+      frames_value = may_run _ 0 _ _ _ _ (omega (arith, c.set_globals.auto.globals, p.globals_len.0)) p.globals_len.1 p.globals_len.2 p.globals_len.3 p.in_bounds.2 (omega arith)
           c.set_globals.ensures.all_fit;
     }
 

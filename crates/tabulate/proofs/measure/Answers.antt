@@ -112,13 +112,13 @@ returns-in-Nothing c =
     }
 
 pub overflow_add-own-in-List : goal.overflow_add-own-in-List
-overflow_add-own-in-List c = omega (arith, c.loop-past.inv.3)
+overflow_add-own-in-List c = omega (arith, c.loop-past.invariant.3)
 
 pub loop-past-smaller : goal.loop-past-smaller
 loop-past-smaller c =
     let pre = c.requires in
     let w = pre.2 in
-    let k = c.loop-past.inv.1 w in
+    let k = c.loop-past.invariant.1 w in
     omega (arith, (from_low k.from).0, w.few)
 
 pub loop-past-preserved : goal.loop-past-preserved
@@ -126,20 +126,20 @@ unfolding own_list
 loop-past-preserved c =
     let pre = c.requires in
     let w₀ = pre.2 in
-    let f = collected_few (c.loop-past.inv.1 w₀) _ _ _
+    let f = collected_few (c.loop-past.invariant.1 w₀) _ _ _
     (collected_as c.in-Entries.is (c.collect.ensures.collected_is
-    (own_list (c.loop-past.inv.1 w₀).from w₀.few _ _ (list_is _ _ _ _ _ (sym c.in-Done.is ∙ c.read_list.ensures))))) in
-    let b = own_list_bound pre.0 (own_list (c.loop-past.inv.1 w₀).from w₀.few _ _ (list_is _ _ _ _ _ (sym c.in-Done.is ∙ c.read_list.ensures))) in
-    let n = measure_next (c.loop-past.inv.1 w₀) _ _ _
+    (own_list (c.loop-past.invariant.1 w₀).from w₀.few _ _ (list_is _ _ _ _ _ (sym c.in-Done.is ∙ c.read_list.ensures))))) in
+    let b = own_list_bound pre.0 (own_list (c.loop-past.invariant.1 w₀).from w₀.few _ _ (list_is _ _ _ _ _ (sym c.in-Done.is ∙ c.read_list.ensures))) in
+    let n = measure_next (c.loop-past.invariant.1 w₀) _ _ _
     (collected_as c.in-Entries.is (c.collect.ensures.collected_is
-    (own_list (c.loop-past.inv.1 w₀).from w₀.few _ _ (list_is _ _ _ _ _ (sym c.in-Done.is ∙ c.read_list.ensures))))) _ c.entries_bits.ensures.0 _
-    (next_as c.in-List.is (c.next_closure.ensures (from_walk (c.loop-past.inv.1 w₀).from) _)) in
+    (own_list (c.loop-past.invariant.1 w₀).from w₀.few _ _ (list_is _ _ _ _ _ (sym c.in-Done.is ∙ c.read_list.ensures))))) _ c.entries_bits.ensures.0 _
+    (next_as c.in-List.is (c.next_closure.ensures (from_walk (c.loop-past.invariant.1 w₀).from) _)) in
     let l = from_low n.from in (
       c.collect.ensures.table_len,
-      λ w. measure_next (c.loop-past.inv.1 w) _ _ _
+      λ w. measure_next (c.loop-past.invariant.1 w) _ _ _
           (collected_as c.in-Entries.is (c.collect.ensures.collected_is
-          (own_list (c.loop-past.inv.1 w).from w.few _ _ (list_is _ _ _ _ _ (sym c.in-Done.is ∙ c.read_list.ensures))))) _ c.entries_bits.ensures.0 _
-          (next_as c.in-List.is (c.next_closure.ensures (from_walk (c.loop-past.inv.1 w).from) _)),
-      omega (arith, f.0, f.1, b.0, c.entries_bits.ensures.1, c.loop-past.inv.2),
+          (own_list (c.loop-past.invariant.1 w).from w.few _ _ (list_is _ _ _ _ _ (sym c.in-Done.is ∙ c.read_list.ensures))))) _ c.entries_bits.ensures.0 _
+          (next_as c.in-List.is (c.next_closure.ensures (from_walk (c.loop-past.invariant.1 w).from) _)),
+      omega (arith, f.0, f.1, b.0, c.entries_bits.ensures.1, c.loop-past.invariant.2),
       omega (arith, l.0, w₀.few),
     )

@@ -44,14 +44,14 @@ read_end-requires c = (
 
 pub returns-in-Zero : goal.returns-in-Zero
 returns-in-Zero c =
-    let all = also (file_read _ _ c.if-s-gt65536.left (field_read_lem _ _ _ c.read_field.ensures c.in-Read.is) c.if-count-lt1.false c.if-count-gt64.false c.read_templates.ensures.value
+    let all = also (file_read _ _ c.if-s-gt65536.false (field_read_lem _ _ _ c.read_field.ensures c.in-Read.is) c.if-count-lt1.false c.if-count-gt64.false c.read_templates.ensures.value
     c.read_templates.ensures.table_after c.in-Done.is c.read_end.ensures c.in-Zero.is)
     (tree_marked _ _ _ _ (field_read_lem _ _ _ c.read_field.ensures c.in-Read.is) c.read_templates.ensures.templates_marked) in
     record { value = all.0; table_after = all.1.0; templates_marked = all.1.1 }
 
 pub returns-in-Refused-read_end : goal.returns-in-Refused-read_end
 returns-in-Refused-read_end c =
-    let all = also (file_set _ _ c.if-s-gt65536.left (field_read_lem _ _ _ c.read_field.ensures c.in-Read.is) c.if-count-lt1.false c.if-count-gt64.false c.read_templates.ensures.value
+    let all = also (file_set _ _ c.if-s-gt65536.false (field_read_lem _ _ _ c.read_field.ensures c.in-Read.is) c.if-count-lt1.false c.if-count-gt64.false c.read_templates.ensures.value
     c.read_templates.ensures.table_after c.in-Done.is c.read_end.ensures c.in-Refused-read_end.is)
     (tree_marked _ _ _ _ (field_read_lem _ _ _ c.read_field.ensures c.in-Read.is) c.read_templates.ensures.templates_marked) in
     record { value = all.0; table_after = all.1.0; templates_marked = all.1.1 }

@@ -10,7 +10,7 @@ use Rattle.tree_steps.proofs.take_coded.Goals as goal
 pub fetch_coded-requires : goal.fetch_coded-requires
 fetch_coded-requires c =
     let pre = c.requires in
-    (short _ _ _ _ _ pre.0.in_tree pre.0.ready, pre.0.code_whole, pre.0.line_is, pre.0.Line-Low, pre.1)
+    (short _ _ _ _ _ pre.0.in_tree pre.0.ready, pre.0.code_whole, pre.0.line_is, pre.0.line_low, pre.1)
 
 pub act_branch-requires : goal.act_branch-requires
 act_branch-requires c =

@@ -13,4 +13,4 @@ pub slice_bounds-program-end : goal.slice_bounds-program-end
 slice_bounds-program-end c = sym (length-take-le _ _ (omega (arith, within_read _ _ _ _ c.read_sheet-read.ensures c.in-Bytes.is)))
 
 pub slice_bounds-write_all-end : goal.slice_bounds-write_all-end
-slice_bounds-write_all-end c = sym (length-take-le _ _ (omega (arith, c.if-count-le256.true, c.program-printed.auto.sheet)))
+slice_bounds-write_all-end c = sym (length-take-le _ _ (omega (arith, c.if-count-le256.true, c.program-printed.auto.out)))

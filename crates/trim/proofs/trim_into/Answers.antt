@@ -56,7 +56,7 @@ put_both-requires c =
     )
 
 pub shape_of-numbers : goal.shape_of-numbers
-shape_of-numbers c = c.number-left.kept.0 ∙ c.mark_reached.kept.1.1.1.0
+shape_of-numbers c = c.number-left.auto.marks ∙ c.mark_reached.auto.marks
 
 pub returns : goal.returns
 returns c =

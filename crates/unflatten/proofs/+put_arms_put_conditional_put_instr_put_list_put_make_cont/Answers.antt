@@ -11,47 +11,8 @@ use borrow.Author.Rules.{rules}
 use Prim.Native.Nat.{ℕ, ◌<◌}
 use Rattle.unflatten.proofs.+put_arms_put_conditional_put_instr_put_list_put_make_cont.Goals as goal
 
-put_arms_add_put_list :
-    (t : ℕ) →
-    put-arms-lts.Need-overflow-add-put-list (put_list_below t, put-list.Post) (put_arms_at t) put-arms.Post
-put_arms_add_put_list t c = let h = c.before.before.before.requires.1 in omega (arith, h.0, h.4.first, h.4.order, h.4.second, h.4.inside)
-
-put_arms_enum_told :
-    (t : ℕ) →
-    put-arms-lts.Need-enum-told (put_list_below t, put-list.Post) (put_arms_at t) put-arms.Post
-put_arms_enum_told t c = search rules
-
-put_arms_same_length :
-    (t : ℕ) →
-    put-arms-lts.Need-same-length (put_list_below t, put-list.Post) (put_arms_at t) put-arms.Post
-put_arms_same_length t c = c.before.before.before.before.put-list.auto.1.1.1.1.1.1.1.0
-
-put_arms_returns :
-    (t : ℕ) →
-    put-arms-lts.Need-returns (put_list_below t, put-list.Post) (put_arms_at t) put-arms.Post
-put_arms_returns t c = two_first (puts_none c.before.before.before.before.put-list.ensures c.enum_told.given.1)
-
-put_arms_returns_2 :
-    (t : ℕ) →
-    put-arms-lts.Need-returns-2 (put_list_below t, put-list.Post) (put_arms_at t) put-arms.Post
-put_arms_returns_2 t c =
-    let pre = c.before.before.before.before.before.before.before.before.before.before.before.before.before.before.requires in
-    let put-list' = c.before.before.before.before.before.before.before.before.before.put-list in
-    let mid = c.before.before.before.before.before.mid in
-    let h = pre.1 in
-    two_from _ _ (omega (arith, h.4.room)) (puts_some put-list'.ensures mid.given.1) c.before.before.put-list2.ensures
-
-put_make_cont_shared_slice_read_put_field :
-    (t : ℕ) → put-make-cont-lts.Need-shared-slice-read-put-field (
-      put-field-reads.Asked,
-      put-field-reads.Learnt,
-      put_list_below t,
-      put-list.Post,
-    ) (put_make_cont_at t) put-make-cont.Post
-put_make_cont_shared_slice_read_put_field t c =
-    let pre = c.before.before.before.before.before.before.before.before.before.requires in
-    let h = pre.1 in
-    omega (arith, h.3, h.6.within.0, h.6.within.1)
+pub put_arms-overflow_add-p : goal.put_arms-overflow_add-p
+put_arms-overflow_add-p t c = omega (arith, c.requires.0, c.requires.4.first, c.requires.4.order, c.requires.4.second, c.requires.4.inside)
 
 pub put_arms-put_list-requires : goal.put_arms-put_list-requires
 put_arms-put_list-requires t c = (omega (arith, c.decreases), (c.requires.0, c.requires.1, c.requires.2, c.requires.4.first, omega (arith, c.requires.4.order, c.requires.4.second, c.requires.4.inside), c.requires.3, omega (arith, c.requires.4.room)))
@@ -72,8 +33,17 @@ put_arms-put_list-requires-in-Past t c =
       ),
     )
 
+pub put_arms-shape_of-out-in-Nothing : goal.put_arms-shape_of-out-in-Nothing
+put_arms-shape_of-out-in-Nothing t c = c.put_list.auto.out
+
+pub put_arms-returns-in-Nothing : goal.put_arms-returns-in-Nothing
+put_arms-returns-in-Nothing t c = two_first (puts_none c.put_list.ensures c.in-Nothing.is)
+
 pub put_arms-shape_of-out-in-Past : goal.put_arms-shape_of-out-in-Past
 put_arms-shape_of-out-in-Past t c = c.put_list-in-Past.auto.out ∙ c.put_list.auto.out
+
+pub put_arms-returns-in-Past : goal.put_arms-returns-in-Past
+put_arms-returns-in-Past t c = two_from _ _ (omega (arith, c.requires.4.room)) (puts_some c.put_list.ensures c.in-Past.is) c.put_list-in-Past.ensures
 
 pub put_conditional-put_field-next-requires : goal.put_conditional-put_field-next-requires
 put_conditional-put_field-next-requires t c = (c.requires.4, omega arith, omega arith, omega (arith, c.requires.5))
@@ -196,6 +166,9 @@ put_make_cont-put_field-next-requires t c = (c.requires.4, omega arith, omega ar
 
 pub put_make_cont-overflow_add-p : goal.put_make_cont-overflow_add-p
 put_make_cont-overflow_add-p t c = omega (arith, c.requires.0, c.requires.3, c.requires.6.within.0, c.requires.6.within.1)
+
+pub put_make_cont-bounds-s-p : goal.put_make_cont-bounds-s-p
+put_make_cont-bounds-s-p t c = omega (arith, c.requires.3, c.requires.6.within.0, c.requires.6.within.1)
 
 pub put_make_cont-overflow_cast-s : goal.put_make_cont-overflow_cast-s
 put_make_cont-overflow_cast-s t c = omega (arith, c.shared_slice_known-3-1.given (c.args.p + 3))

@@ -43,7 +43,7 @@ give-requires c =
     let w = templates_in c.args.s.now h.0 _ _ c.args.table.now c.args.tree.now _ b.0
     (bytes_all c.args.s.now (λ i. omega (arith, c.shared_slice_known-1.given i))) h.1 h.2 f.1 f.0 in
     let g = back_given c.args.s.now h.0 (c.put_templates.ensures w) (length c.args.out.now) c.args.out.now c.in-Past.is in
-    omega (arith, g.room, h.2, c.put_field-first.kept.0, c.put_templates.auto.out, c.byte.ensures, c.past.ensures)
+    omega (arith, g.room, h.2, c.put_field-first.auto.out, c.put_templates.auto.out, c.byte.ensures, c.past.ensures)
 
 pub returns-in-Stuck : goal.returns-in-Stuck
 returns-in-Stuck c =
