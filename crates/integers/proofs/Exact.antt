@@ -127,7 +127,7 @@ module _ {z : ℤ} (f : SFits w64 z) where
 
 -- ---- values that are handed over as i64
 pub value_again : (a : ℕ) (z : ℤ) → Value a z → to_z w64 (of_z w64 z) ≡ signed a
-value_again a z v = to_z-of_z (record { sfits = omega (arith, v.1) }) ∙ v.0
+value_again a z v = to_z-of_z {w = w64} (record { sfits = omega (arith, v.1) }) ∙ v.0
 
 module _ (a b : ℕ) (x y : ℤ) (v : Value a x) (w : Value b y) where
   exact : to_z w64 (of_z w64 x) -ℤ to_z w64 (of_z w64 y) ≡ signed a -ℤ signed b

@@ -49,43 +49,40 @@ pub write_conditional-overflow_add-jump : goal.write_conditional-overflow_add-ju
 write_conditional-overflow_add-jump t c = omega (arith, arms_near c.requires.2 _ _ c.measure-first.ensures c.gap-jump.ensures)
 
 pub write_conditional-put_offset-requires : goal.write_conditional-put_offset-requires
-write_conditional-put_offset-requires t c =
-    (
-      omega (arith, first_room c.requires.2 _ _ c.measure-first.ensures c.gap-jump.ensures, c.requires.2.room, c.requires.1),
-      omega (arith, arms_near c.requires.2 _ _ c.measure-first.ensures c.gap-jump.ensures),
-    )
+write_conditional-put_offset-requires t c = (
+  omega (arith, first_room c.requires.2 _ _ c.measure-first.ensures c.gap-jump.ensures, c.requires.2.room, c.requires.1),
+  omega (arith, arms_near c.requires.2 _ _ c.measure-first.ensures c.gap-jump.ensures),
+)
 
 pub write_conditional-overflow_add-front : goal.write_conditional-overflow_add-front
 write_conditional-overflow_add-front t c = omega (arith, first_room c.requires.2 _ _ c.measure-first.ensures c.gap-jump.ensures, c.requires.2.room, c.requires.1)
 
 pub write_conditional-write_list-mid-requires : goal.write_conditional-write_list-mid-requires
-write_conditional-write_list-mid-requires t c =
-    (
-      omega (arith, c.decreases),
-      (
-        c.requires.0,
-        omega
-            (arith, first_room c.requires.2 _ _ c.measure-first.ensures c.gap-jump.ensures, c.requires.2.room, c.requires.1, c.put_offset.auto.out),
-        first_to_write c.requires.2 _ _ c.measure-first.ensures c.gap-jump.ensures,
-      ),
-    )
+write_conditional-write_list-mid-requires t c = (
+  omega (arith, c.decreases),
+  (
+    c.requires.0,
+    omega
+        (arith, first_room c.requires.2 _ _ c.measure-first.ensures c.gap-jump.ensures, c.requires.2.room, c.requires.1, c.put_offset.auto.out),
+    first_to_write c.requires.2 _ _ c.measure-first.ensures c.gap-jump.ensures,
+  ),
+)
 
 pub write_conditional-put_jump-requires : goal.write_conditional-put_jump-requires
-write_conditional-put_jump-requires t c =
-    (
-      omega (
-        arith,
-        arms_room c.requires.2 _ _ c.measure-first.ensures c.gap-jump.ensures
-            (c.write_list-mid.ensures (first_to_write c.requires.2 _ _ c.measure-first.ensures c.gap-jump.ensures)).0 _ c.measure-second.ensures,
-        c.requires.2.room,
-        c.requires.1,
-        c.gap-jump.ensures,
-        c.put_offset.auto.out,
-        c.write_list-mid.auto.out,
-      ),
-      jump_near c.requires.2 _ _ c.measure-first.ensures c.gap-jump.ensures (c.write_list-mid.ensures (first_to_write c.requires.2 _ _ c.measure-first.ensures c.gap-jump.ensures)).0 _
-          c.measure-second.ensures,
-    )
+write_conditional-put_jump-requires t c = (
+  omega (
+    arith,
+    arms_room c.requires.2 _ _ c.measure-first.ensures c.gap-jump.ensures
+        (c.write_list-mid.ensures (first_to_write c.requires.2 _ _ c.measure-first.ensures c.gap-jump.ensures)).0 _ c.measure-second.ensures,
+    c.requires.2.room,
+    c.requires.1,
+    c.gap-jump.ensures,
+    c.put_offset.auto.out,
+    c.write_list-mid.auto.out,
+  ),
+  jump_near c.requires.2 _ _ c.measure-first.ensures c.gap-jump.ensures (c.write_list-mid.ensures (first_to_write c.requires.2 _ _ c.measure-first.ensures c.gap-jump.ensures)).0 _
+      c.measure-second.ensures,
+)
 
 pub write_conditional-overflow_add-turn-3 : goal.write_conditional-overflow_add-turn-3
 write_conditional-overflow_add-turn-3 t c =
@@ -99,25 +96,24 @@ write_conditional-overflow_add-turn-3 t c =
     )
 
 pub write_conditional-write_list-next-requires : goal.write_conditional-write_list-next-requires
-write_conditional-write_list-next-requires t c =
-    (
-      omega (arith, c.decreases),
-      (
-        c.requires.0,
-        omega (
-          arith,
-          arms_room c.requires.2 _ _ c.measure-first.ensures c.gap-jump.ensures
-              (c.write_list-mid.ensures (first_to_write c.requires.2 _ _ c.measure-first.ensures c.gap-jump.ensures)).0 _ c.measure-second.ensures,
-          c.requires.2.room,
-          c.requires.1,
-          c.put_offset.auto.out,
-          c.write_list-mid.auto.out,
-          c.put_jump.auto.out,
-        ),
-        second_to_write c.requires.2 _ _ c.measure-first.ensures c.gap-jump.ensures
-            (c.write_list-mid.ensures (first_to_write c.requires.2 _ _ c.measure-first.ensures c.gap-jump.ensures)).0 _ c.measure-second.ensures,
-      ),
-    )
+write_conditional-write_list-next-requires t c = (
+  omega (arith, c.decreases),
+  (
+    c.requires.0,
+    omega (
+      arith,
+      arms_room c.requires.2 _ _ c.measure-first.ensures c.gap-jump.ensures
+          (c.write_list-mid.ensures (first_to_write c.requires.2 _ _ c.measure-first.ensures c.gap-jump.ensures)).0 _ c.measure-second.ensures,
+      c.requires.2.room,
+      c.requires.1,
+      c.put_offset.auto.out,
+      c.write_list-mid.auto.out,
+      c.put_jump.auto.out,
+    ),
+    second_to_write c.requires.2 _ _ c.measure-first.ensures c.gap-jump.ensures
+        (c.write_list-mid.ensures (first_to_write c.requires.2 _ _ c.measure-first.ensures c.gap-jump.ensures)).0 _ c.measure-second.ensures,
+  ),
+)
 
 pub write_conditional-shape_of-out : goal.write_conditional-shape_of-out
 write_conditional-shape_of-out t c = c.write_list-next.auto.out ∙ c.put_jump.auto.out ∙ c.write_list-mid.auto.out ∙ c.put_offset.auto.out
@@ -175,56 +171,56 @@ pub write_instr-overflow_sub-n : goal.write_instr-overflow_sub-n
 write_instr-overflow_sub-n t c =
     let k = plain c.requires.4 (λ e. c.in_default.in_default-own.rest.0.1 (c.requires.3 ∙ e))
     (λ e. c.in_default.in_default-own.rest.1 (c.requires.3 ∙ e)) in
-    let r = plain_room c.requires.4 (λ c.requires.3. c.in_default.in_default-own.rest.0.1 (c.requires.3 ∙ c.requires.3))
-    (λ c.requires.3. c.in_default.in_default-own.rest.1 (c.requires.3 ∙ c.requires.3)) in
+    let r = plain_room c.requires.4 (λ e. c.in_default.in_default-own.rest.0.1 (c.requires.3 ∙ e))
+    (λ e. c.in_default.in_default-own.rest.1 (c.requires.3 ∙ e)) in
     omega arith
 
 pub write_instr-write_simple-requires : goal.write_instr-write_simple-requires
 write_instr-write_simple-requires t c =
     let k = plain c.requires.4 (λ e. c.in_default.in_default-own.rest.0.1 (c.requires.3 ∙ e)) (λ e. c.in_default.in_default-own.rest.1 (c.requires.3 ∙ e))
     in
-    let r = plain_room c.requires.4 (λ c.requires.3. c.in_default.in_default-own.rest.0.1 (c.requires.3 ∙ c.requires.3))
-    (λ c.requires.3. c.in_default.in_default-own.rest.1 (c.requires.3 ∙ c.requires.3)) in
+    let r = plain_room c.requires.4 (λ e. c.in_default.in_default-own.rest.0.1 (c.requires.3 ∙ e))
+    (λ e. c.in_default.in_default-own.rest.1 (c.requires.3 ∙ e)) in
     (omega arith, omega (arith, c.requires.2, field_small c.args.s.now c.args.at.0 21), omega (arith, c.requires.1))
 
 pub write_instr-overflow_mul-n : goal.write_instr-overflow_mul-n
 write_instr-overflow_mul-n t c =
     let k = plain c.requires.4 (λ e. c.in_default.in_default-own.rest.0.1 (c.requires.3 ∙ e)) (λ e. c.in_default.in_default-own.rest.1 (c.requires.3 ∙ e))
     in
-    let r = plain_room c.requires.4 (λ c.requires.3. c.in_default.in_default-own.rest.0.1 (c.requires.3 ∙ c.requires.3))
-    (λ c.requires.3. c.in_default.in_default-own.rest.1 (c.requires.3 ∙ c.requires.3)) in
+    let r = plain_room c.requires.4 (λ e. c.in_default.in_default-own.rest.0.1 (c.requires.3 ∙ e))
+    (λ e. c.in_default.in_default-own.rest.1 (c.requires.3 ∙ e)) in
     omega (arith, c.requires, c.well_formed)
 
 pub write_instr-overflow_add-n : goal.write_instr-overflow_add-n
 write_instr-overflow_add-n t c =
     let k = plain c.requires.4 (λ e. c.in_default.in_default-own.rest.0.1 (c.requires.3 ∙ e)) (λ e. c.in_default.in_default-own.rest.1 (c.requires.3 ∙ e))
     in
-    let r = plain_room c.requires.4 (λ c.requires.3. c.in_default.in_default-own.rest.0.1 (c.requires.3 ∙ c.requires.3))
-    (λ c.requires.3. c.in_default.in_default-own.rest.1 (c.requires.3 ∙ c.requires.3)) in
+    let r = plain_room c.requires.4 (λ e. c.in_default.in_default-own.rest.0.1 (c.requires.3 ∙ e))
+    (λ e. c.in_default.in_default-own.rest.1 (c.requires.3 ∙ e)) in
     omega (arith, c.requires, c.well_formed)
 
 pub write_instr-past-requires-in_default : goal.write_instr-past-requires-in_default
 write_instr-past-requires-in_default t c =
     let k = plain c.requires.4 (λ e. c.in_default.in_default-own.rest.0.1 (c.requires.3 ∙ e)) (λ e. c.in_default.in_default-own.rest.1 (c.requires.3 ∙ e))
     in
-    let r = plain_room c.requires.4 (λ c.requires.3. c.in_default.in_default-own.rest.0.1 (c.requires.3 ∙ c.requires.3))
-    (λ c.requires.3. c.in_default.in_default-own.rest.1 (c.requires.3 ∙ c.requires.3)) in
+    let r = plain_room c.requires.4 (λ e. c.in_default.in_default-own.rest.0.1 (c.requires.3 ∙ e))
+    (λ e. c.in_default.in_default-own.rest.1 (c.requires.3 ∙ e)) in
     omega (arith, c.requires, c.well_formed)
 
 pub write_instr-overflow_add-result : goal.write_instr-overflow_add-result
 write_instr-overflow_add-result t c =
     let k = plain c.requires.4 (λ e. c.in_default.in_default-own.rest.0.1 (c.requires.3 ∙ e)) (λ e. c.in_default.in_default-own.rest.1 (c.requires.3 ∙ e))
     in
-    let r = plain_room c.requires.4 (λ c.requires.3. c.in_default.in_default-own.rest.0.1 (c.requires.3 ∙ c.requires.3))
-    (λ c.requires.3. c.in_default.in_default-own.rest.1 (c.requires.3 ∙ c.requires.3)) in
+    let r = plain_room c.requires.4 (λ e. c.in_default.in_default-own.rest.0.1 (c.requires.3 ∙ e))
+    (λ e. c.in_default.in_default-own.rest.1 (c.requires.3 ∙ e)) in
     omega (arith, c.requires, c.well_formed)
 
 pub write_instr-overflow_add-result-in_default : goal.write_instr-overflow_add-result-in_default
 write_instr-overflow_add-result-in_default t c =
     let k = plain c.requires.4 (λ e. c.in_default.in_default-own.rest.0.1 (c.requires.3 ∙ e)) (λ e. c.in_default.in_default-own.rest.1 (c.requires.3 ∙ e))
     in
-    let r = plain_room c.requires.4 (λ c.requires.3. c.in_default.in_default-own.rest.0.1 (c.requires.3 ∙ c.requires.3))
-    (λ c.requires.3. c.in_default.in_default-own.rest.1 (c.requires.3 ∙ c.requires.3)) in
+    let r = plain_room c.requires.4 (λ e. c.in_default.in_default-own.rest.0.1 (c.requires.3 ∙ e))
+    (λ e. c.in_default.in_default-own.rest.1 (c.requires.3 ∙ e)) in
     omega (arith, c.requires, c.well_formed)
 
 pub write_instr-shape_of-out-in-4 : goal.write_instr-shape_of-out-in-4
@@ -274,8 +270,7 @@ write_list-returns-then-shape-eq0 t c =
 
 pub write_list-write_instr-one-requires : goal.write_list-write_instr-one-requires
 write_list-write_instr-one-requires t c =
-    let shape = c.shape_of-shape.ensures ∙ ap shape_of (line_code _ _ _ c.line_at-line.ensures.0) in
-    (
+    let shape = c.shape_of-shape.ensures ∙ ap shape_of (line_code _ _ _ c.line_at-line.ensures.0) in (
       omega (arith, c.decreases),
       (
         c.requires.0,
@@ -298,8 +293,7 @@ write_list-loop-here-smaller t c =
 
 pub write_list-loop-here-preserved : goal.write_list-loop-here-preserved
 write_list-loop-here-preserved t c =
-    let shape = c.shape_of-shape.ensures ∙ ap shape_of (line_code _ _ _ c.line_at-line.ensures.0) in
-    (
+    let shape = c.shape_of-shape.ensures ∙ ap shape_of (line_code _ _ _ c.line_at-line.ensures.0) in (
       omega (
         arith,
         c.loop-here.invariant.0,
@@ -322,11 +316,10 @@ pub write_make_cont-overflow_sub-cut-2 : goal.write_make_cont-overflow_sub-cut-2
 write_make_cont-overflow_sub-cut-2 t c = omega (arith, saved_cut c.requires.3 _ c.measure-saved.ensures, saved_size c.requires.3 _ c.measure-saved.ensures, c.requires.3.room, c.requires.2)
 
 pub write_make_cont-put_offset-requires : goal.write_make_cont-put_offset-requires
-write_make_cont-put_offset-requires t c =
-    (
-      omega (arith, saved_cut c.requires.3 _ c.measure-saved.ensures, saved_size c.requires.3 _ c.measure-saved.ensures, c.requires.3.room, c.requires.2),
-      omega (arith, saved_rest c.requires.3 _ c.measure-saved.ensures, c.requires.3.fits),
-    )
+write_make_cont-put_offset-requires t c = (
+  omega (arith, saved_cut c.requires.3 _ c.measure-saved.ensures, saved_size c.requires.3 _ c.measure-saved.ensures, c.requires.3.room, c.requires.2),
+  omega (arith, saved_rest c.requires.3 _ c.measure-saved.ensures, c.requires.3.fits),
+)
 
 pub write_make_cont-overflow_add-out : goal.write_make_cont-overflow_add-out
 write_make_cont-overflow_add-out t c = omega (arith, saved_cut c.requires.3 _ c.measure-saved.ensures, saved_size c.requires.3 _ c.measure-saved.ensures, c.requires.3.room, c.requires.2)

@@ -14,7 +14,7 @@ pub returns-then-fr-sp-le2048 : goal.returns-then-fr-sp-le2048
 unfolding told_kept
 returns-then-fr-sp-le2048 c =
     let e : c.args.r.sp ≡ c.args.n = omega (arith, c.if-sp-n.false) in
-    record { by_index = (λ g s. rw (c.copy_up.ensures, c.clear.ensures, ← e, eq-eqb _ _ refl, le-leb _ _ c.if2.true)); fits = omega (arith, c.if2.true) }
+    record { by_index = (λ g s. rw (c.copy_up.ensures, c.clear.ensures, ← e, eq-eqb _ _ refl, le-leb _ _ c.if-fr-sp-le2048.true)); fits = omega (arith, c.if-fr-sp-le2048.true) }
 
 pub returns-else-fr-sp-le2048 : goal.returns-else-fr-sp-le2048
 unfolding told_kept

@@ -13,9 +13,9 @@ read_tree-requires c = all_rows _ c.requires
 
 pub is_open-requires : goal.is_open-requires
 is_open-requires c =
-    let told = sym c.read-tree.ensures.0 ∙ c.in-Read.is in (
-      file_short _ _ _ (operand_read _ told (all_rows _ c.requires) c.read-tree.ensures.1.0).read,
-      c.read-tree.auto.1.0 ∙ ap length c.requires ∙ zeros_length 16384,
+    let told = sym c.read_tree.ensures.value ∙ c.in-Read.is in (
+      file_short _ _ _ (operand_read _ told (all_rows _ c.requires) c.read_tree.ensures.table_after).read,
+      c.read_tree.auto.table ∙ ap length c.requires ∙ zeros_length 16384,
       unclosed_told _ told,
     )
 

@@ -32,8 +32,10 @@ pub returns-then-within : goal.returns-then-within
 returns-then-within c =
     let h = lies c.args.s.now c.in-Read.code.0 (8 * c.in-Read.n) c.within.ensures c.if-within.true in
     let q : ◌≡◌ {A = BitPlace} c.past.result (record { 0 = c.in-Read.code.0 + 8 * c.in-Read.n }) = ap (λ (x : ℕ). record { 0 = x }) c.past.ensures in
-    rw (q, c.byte.ensures) (code_ends _ _ _ _ _ _ h
-    (code_read _ _ (rw c.to_byte.ensures at c.zero_bits.ensures) c.in-Zero.is (field_read_lem _ _ _ c.read_three.ensures c.in-Read.is) h))
+    let all =
+    code_ends _ _ _ _ _ _ h
+    (code_read _ _ (rw c.to_byte.ensures at c.zero_bits.ensures) c.in-Zero.is (field_read_lem _ _ _ c.read_three.ensures c.in-Read.is) h) in
+    rw (q, c.byte.ensures) (record { value = all.0; table_after = all.1 })
 
 pub returns-else-within : goal.returns-else-within
 returns-else-within c =

@@ -37,19 +37,19 @@ pub returns-in-Zero : goal.returns-in-Zero
 returns-in-Zero c =
     let all = file_done _ _ c.if-s-gt262144.false
     (field_read_lem _ _ _ c.read_field.ensures c.in-Read.is) c.if-count-lt1.false
-    c.if-count-gt64.false c.read_templates.ensures c.in-Read-read_templates.is c.nothing_more.ensures c.in-Zero.is in
+    c.if-count-gt64.false (c.read_templates.ensures.value, c.read_templates.ensures.table_after) c.in-Read-read_templates.is c.nothing_more.ensures c.in-Zero.is in
     record { value = all.0; table_after = all.1 }
 
 pub returns-in-Refused-nothing_more : goal.returns-in-Refused-nothing_more
 returns-in-Refused-nothing_more c =
     let all = more_stop _ _ c.if-s-gt262144.false
     (field_read_lem _ _ _ c.read_field.ensures c.in-Read.is) c.if-count-lt1.false
-    c.if-count-gt64.false c.read_templates.ensures c.in-Read-read_templates.is c.nothing_more.ensures c.in-Refused-nothing_more.is in
+    c.if-count-gt64.false (c.read_templates.ensures.value, c.read_templates.ensures.table_after) c.in-Read-read_templates.is c.nothing_more.ensures c.in-Refused-nothing_more.is in
     record { value = all.0; table_after = all.1 }
 
 pub returns-in-Refused : goal.returns-in-Refused
 returns-in-Refused c =
     let all = templates_stop _ _ c.if-s-gt262144.false
     (field_read_lem _ _ _ c.read_field.ensures c.in-Read.is) c.if-count-lt1.false
-    c.if-count-gt64.false c.read_templates.ensures c.in-Refused.is in
+    c.if-count-gt64.false (c.read_templates.ensures.value, c.read_templates.ensures.table_after) c.in-Refused.is in
     record { value = all.0; table_after = all.1 }

@@ -15,13 +15,13 @@ loop-own-init c = (search rules, search rules, simp sub-zero, simp sub-zero)
 pub returns-in-Refused : goal.returns-in-Refused
 returns-in-Refused c =
     let i = c.loop-own.invariant in
-    let d = linears_stop _ _ _ _ _ c.loop-own-test.true c.read_template.ensures c.in-Refused.is in
+    let d = linears_stop _ _ _ _ _ c.loop-own-test.true (c.read_template.ensures.value, c.read_template.ensures.table_after) c.in-Refused.is in
     record { value = d.0 ∙ sym i.2; table_after = d.1 ∙ sym i.3 }
 
 pub loop-own-preserved : goal.loop-own-preserved
 loop-own-preserved c =
     let i = c.loop-own.invariant in
-    let d = linears_on _ _ _ _ _ c.loop-own-test.true c.read_template.ensures c.in-Read.is in
+    let d = linears_on _ _ _ _ _ c.loop-own-test.true (c.read_template.ensures.value, c.read_template.ensures.table_after) c.in-Read.is in
     (search rules, search rules, i.2 ∙ d.0, i.3 ∙ d.1)
 
 pub returns : goal.returns

@@ -77,12 +77,12 @@ link_list-loop-links-preserved-in-Simple t c =
     (c.loop-links.invariant.0 ∙ w.links, w.rest, c.loop-links.invariant.2)
 
 pub link_list-overflow_sub-levels : goal.link_list-overflow_sub-levels
-link_list-overflow_sub-levels t c = let w = at_turn t (goal.at.link_list-overflow_sub-levels t c).After-parts_at _ c.in-Arms.is in omega (arith, w.levels-left)
+link_list-overflow_sub-levels t c = let w = at_turn t (goal.at.link_list-overflow_sub-levels t c).After-parts_at _ c.in-Arms.is in omega (arith, w.levels_left)
 
 pub link_list-link_arms-requires : goal.link_list-link_arms-requires
 link_list-link_arms-requires t c =
     let w = at_turn t ((goal.at.link_list-link_arms-requires t c).After-parts_at) _ c.in-Arms.is in
-    (omega (arith, w.levels-left), (c.requires.0, w.arms))
+    (omega (arith, w.levels_left), (c.requires.0, w.arms))
 
 pub link_list-loop-links-smaller-in-Arms : goal.link_list-loop-links-smaller-in-Arms
 link_list-loop-links-smaller-in-Arms t c =
@@ -95,12 +95,12 @@ link_list-loop-links-preserved-in-Arms t c =
     (linked_on _ _ _ _ (c.loop-links.invariant.0 ∙ w.left.links) c.link_arms.ensures, rw c.link_arms.ensures w.left.rest, c.link_arms.auto.links ∙ c.loop-links.invariant.2)
 
 pub link_list-overflow_sub-levels-in-Saved : goal.link_list-overflow_sub-levels-in-Saved
-link_list-overflow_sub-levels-in-Saved t c = let w = at_turn t (goal.at.link_list-overflow_sub-levels-in-Saved t c).After-parts_at _ c.in-Saved.is in omega (arith, w.levels-left)
+link_list-overflow_sub-levels-in-Saved t c = let w = at_turn t (goal.at.link_list-overflow_sub-levels-in-Saved t c).After-parts_at _ c.in-Saved.is in omega (arith, w.levels_left)
 
 pub link_list-link_saved-requires : goal.link_list-link_saved-requires
 link_list-link_saved-requires t c =
     let w = at_turn t ((goal.at.link_list-link_saved-requires t c).After-parts_at) _ c.in-Saved.is in
-    (omega (arith, w.levels-left), (c.requires.0, c.requires.1, w.saved))
+    (omega (arith, w.levels_left), (c.requires.0, c.requires.1, w.saved))
 
 pub link_list-loop-links-smaller : goal.link_list-loop-links-smaller
 link_list-loop-links-smaller t c =

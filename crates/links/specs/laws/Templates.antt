@@ -13,7 +13,7 @@ laid_kept : (s L : List ℕ) (T own p : ℕ) (ts : List Template) → Laid s T o
 unfolding Laid linked_all
 laid_kept s L T own p [] h i b = refl
 laid_kept s L T own p (t ∷ ts) h i b =
-    laid_kept s _ T _ _ ts h.1 i (omega (arith, h.0.begins)) ∙ linked_kept L t.start 0 0 t.code i (omega (arith, h.0.begins))
+    laid_kept s (linked L t.start 0 0 t.code) T _ _ ts h.1 i (omega (arith, h.0.begins)) ∙ linked_kept L t.start 0 0 t.code i (omega (arith, h.0.begins))
 
 laid_linked : (s L : List ℕ) (T own p : ℕ) (ts : List Template) (i : ℕ) (d : Template) → 8 * length s ≤ 5 * length L → Laid s T own p ts → i < length ts
     → Linked (linked_all L ts) (get_or ts i d).start 0 0 (get_or ts i d).code

@@ -35,7 +35,8 @@ at_code : (t : ℕ) (k : read_instr-After-shape_by_words-shape t) →
     head_at k.args.s.now (deep_of k.args.s.now k.args.levels) k.args.at.0
     ≡ shaped k.args.s.now (deep_of k.args.s.now k.args.levels) k.args.at.0 (k.line_at-line.result / 65536) k.past-next.result.0
     k.shape_by_words-shape.result
-at_code t k = code_read _ _ _ _ _ _ (code_there t k.After-past-next) (sym k.shape_by_words-shape.ensures)
+at_code t k =
+    code_read _ _ _ _ _ _ (line_read _ _ _ k.line_at-line.ensures.0 (leb-true _ _ (sym k.within.ensures ∙ k.if-not-within.false)) _ k.past-next.ensures) (sym k.shape_by_words-shape.ensures)
 
 -- past a run of neutral instructions
 read_list_so_far : (t : ℕ) (k : read_list-After-run_after-so_far t) →
@@ -84,7 +85,7 @@ read_conditional-returns-in-Refused t c = rw (first_arm_refused _ _ _ _ _ _ _ (l
 
 pub read_instr-returns-then-not-within : goal.read_instr-returns-then-not-within
 unfolding itemed head_marked
-read_instr-returns-then-not-within t c = rw (code_cut _ _ _ (sym (cut _ _ 5 (leb-false _ _ (sym c.within.ensures ∙ c.if-not-within.true))))) (refl, tt)
+read_instr-returns-then-not-within t c = rw (code_cut _ _ _ (sym (cut _ _ 5 (leb-false _ _ (sym c.within.ensures ∙ c.if-not-within.true))))) (record { value = refl; head_marked = tt })
 
 pub read_instr-line_at-line-requires : goal.read_instr-line_at-line-requires
 read_instr-line_at-line-requires t c =
@@ -150,7 +151,7 @@ read_list-run_after-so_far-requires t c =
 
 pub read_list-mark_of-requires : goal.read_list-mark_of-requires
 read_list-mark_of-requires t c =
-    let e = read_list_so_far t (goal.at.read_list-mark_of-requires t c).After-read_instr-arg-1 ∙ turn_end _ _ _ _ _ _ _ (sym c.read_instr.ensures.value ∙ c.in-End.is) ∙ ap (Done c.in-End.next)
+    let e = read_list_so_far t (goal.at.read_list-mark_of-requires t c).After-run_after-so_far ∙ turn_end _ _ _ _ _ _ _ (sym c.read_instr.ensures.value ∙ c.in-End.is) ∙ ap (Done c.in-End.next)
     (sym c.finished-facts.ensures) in
     listed_near _ _ _ _ _ _ _ c.requires.0 e
 
@@ -159,7 +160,7 @@ read_list-shape_of-marks-in-End t c = c.set_mark.auto.marks ∙ c.read_instr.aut
 
 pub read_list-returns-in-End : goal.read_list-returns-in-End
 read_list-returns-in-End t c =
-    let e = read_list_so_far t (goal.at.read_list-returns-in-End t c).After-read_instr-arg-1 ∙ turn_end _ _ _ _ _ _ _ (sym c.read_instr.ensures.value ∙ c.in-End.is) ∙ ap (Done c.in-End.next)
+    let e = read_list_so_far t (goal.at.read_list-returns-in-End t c).After-run_after-so_far ∙ turn_end _ _ _ _ _ _ _ (sym c.read_instr.ensures.value ∙ c.in-End.is) ∙ ap (Done c.in-End.next)
     (sym c.finished-facts.ensures) in record {
       value = sym e;
       list_marked = list_marked_lem _ _ _ _ _ _ _ _ _ _ _ _
@@ -170,7 +171,7 @@ read_list-returns-in-End t c =
 pub read_list-state_after-st-requires : goal.read_list-state_after-st-requires
 read_list-state_after-st-requires t c =
     let w = turn_bits _ _ _ _ _ _ _ (sym c.read_instr.ensures.value ∙ c.in-More.is) in
-    let z = read_list_sizes t (goal.at.read_list-state_after-st-requires t c).After-read_instr-arg-1 in
+    let z = read_list_sizes t (goal.at.read_list-state_after-st-requires t c).After-run_after-so_far in
     (omega (arith, w, z.0, c.requires.0), z.2)
 
 pub read_list-loop-next-smaller : goal.read_list-loop-next-smaller
@@ -183,10 +184,10 @@ pub read_list-loop-next-preserved : goal.read_list-loop-next-preserved
 read_list-loop-next-preserved t c =
     let is = sym c.read_instr.ensures.value ∙ c.in-More.is in
     let w = turn_bits _ _ _ _ _ _ _ is in
-    let y = read_list_sizes t (goal.at.read_list-loop-next-preserved t c).After-read_instr-arg-1 in
+    let y = read_list_sizes t (goal.at.read_list-loop-next-preserved t c).After-run_after-so_far in
     let z = tail_size c.run_after-so_far.result c.in-More.more y.2 in
     rw c.state_after-st.ensures (
-      read_list_so_far t (goal.at.read_list-loop-next-preserved t c).After-read_instr-arg-1 ∙ turn_more _ _ _ _ _ _ _ _ is,
+      read_list_so_far t (goal.at.read_list-loop-next-preserved t c).After-run_after-so_far ∙ turn_more _ _ _ _ _ _ _ _ is,
       omega (arith, w, y.0, z.1),
       z.0,
       marking_more _ _ _ _ _ _ _ (run_marking _ _ _ _ c.read_run-run.ensures _ _ _ _ _ c.loop-next.invariant.3) _ _ _ is c.read_instr.ensures.head_marked,
@@ -200,7 +201,7 @@ read_list-shape_of-marks-in-Bad t c = c.read_instr.auto.marks ∙ c.loop-next.in
 pub read_list-returns-in-Bad : goal.read_list-returns-in-Bad
 unfolding list_marked
 read_list-returns-in-Bad t c =
-    let e = read_list_so_far t (goal.at.read_list-returns-in-Bad t c).After-read_instr-arg-1 ∙ turn_bad _ _ _ _ _ _ _ _ (sym c.read_instr.ensures.value ∙ c.in-Bad.is) in
+    let e = read_list_so_far t (goal.at.read_list-returns-in-Bad t c).After-run_after-so_far ∙ turn_bad _ _ _ _ _ _ _ _ (sym c.read_instr.ensures.value ∙ c.in-Bad.is) in
     record { value = sym e; list_marked = rw (listed_refused _ _ _ _ _ e) tt }
 
 pub read_make_cont-returns-in_default : goal.read_make_cont-returns-in_default

@@ -1,12 +1,12 @@
 -- `lists::shape_by_words` meets its contract: each code's four bits are its shape. Assumes nothing.
 use Prim.Native.Nat.{ℕ, ◌*◌, ◌/◌, ◌%◌, ◌^◌, ◌≤◌, ◌<◌}
 use mathlib.Core.Path.{◌≡◌, refl}
-use mathlib.Core.Logic.{⊎_elim}
 use native.Mathlib.Omega.{arith}
 use Rattle.files.specs.Codes.{shape_of}
 use Rattle.lists.specs.laws.Each.{each}
 use borrow.Author.Rules.{rules}
 use Rattle.lists.proofs.shape_by_words.Goals as goal
+use Rattle.lists.proofs.shape_by_words.Goals.{then-code-lt16, else-code-lt16}
 
 low : (v : ℕ) → v < 16 → 0x1621332222654210 / 2 ^ (4 * (v % 16)) % 16 ≡ shape_of v
 unfolding shape_of
@@ -21,4 +21,8 @@ high v h i =
     (refl, (refl, (refl, (refl, (refl, (refl, (refl, (refl, (refl, (refl, (refl, (refl, (refl, (refl, (refl, (refl, tt)))))))))))))))) v h (omega arith)
 
 pub returns : goal.returns
-returns c = ⊎_elim (λ x. rw x.1 (low _ x.0.taken)) (λ x. rw x.1 (high _ x.0.left c.requires)) c.if-code-lt16.branch
+returns c =
+    elim c.if-code-lt16.branch [
+      | then-code-lt16 w ↦ rw w.word-is (low _ w.if-code-lt16.true)
+      | else-code-lt16 w ↦ rw w.word-is (high _ w.if-code-lt16.false c.requires)
+    ]

@@ -10,7 +10,7 @@ pull_file-requires c = sym c.check_clips.ensures ∙ c.in-Accepted.is
 pub returns-in-Accepted : goal.returns-in-Accepted
 returns-in-Accepted c =
     let all = c.pull_file.ensures in
-    record { value = all.0; list_after = all.1.0; longest = all.1.1 }
+    record { value = all.value; list_after = all.list_after; longest = all.result_bound }
 
 pub returns-in-Refused : goal.returns-in-Refused
 returns-in-Refused c =

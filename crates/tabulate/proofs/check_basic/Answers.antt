@@ -21,7 +21,7 @@ shape_of-table c =
 pub returns-in-All : goal.returns-in-All
 returns-in-All c =
     let all = c.within_limits.ensures in
-    record { checked_is = all.0; table_len = all.1 }
+    record { checked_is = all.checked_is; table_len = all.table_len }
 
 pub returns-in-But : goal.returns-in-But
 returns-in-But c =

@@ -13,4 +13,4 @@ put_bytes-requires c =
 pub returns : goal.returns
 returns c =
     let s = decimal_short c.decimal-count.result c.args.n c.ranges.n.fits c.decimal-count.ensures.len in
-    record { put = rw (c.decimal-count.ensures.1.1 ∙ decimal_spelled _ _ c.decimal-count.ensures.len) at c.put_bytes.ensures; upper_bound = omega arith }
+    record { put = rw (c.decimal-count.ensures.digits ∙ decimal_spelled _ _ c.decimal-count.ensures.len) at c.put_bytes.ensures; upper_bound = omega arith }

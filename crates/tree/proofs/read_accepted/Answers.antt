@@ -10,19 +10,16 @@ unfolding judged_told
 returns-then-orphan-lt64 c =
     let read = c.read_checked.ensures in
     let told = sym read.value ∙ c.in-Accepted.is in
-    let rest = read.1 in
-    record { value = sym (ap judged_told (judged_orphan _ told _ c.lowest_missing-orphan.ensures c.if-orphan-lt64.true)); table_after = rest.0; templates_marked = rest.1 }
+    record { value = sym (ap judged_told (judged_orphan _ told _ c.lowest_missing-orphan.ensures c.if-orphan-lt64.true)); table_after = read.table_after; templates_marked = read.templates_marked }
 
 pub returns-else-orphan-lt64 : goal.returns-else-orphan-lt64
 returns-else-orphan-lt64 c =
     let read = c.read_checked.ensures in
     let told = sym read.value ∙ c.in-Accepted.is in
-    let rest = read.1 in
-    record { value = sym (judged_accepted _ told _ c.lowest_missing-orphan.ensures c.if-orphan-lt64.false); table_after = rest.0; templates_marked = rest.1 }
+    record { value = sym (judged_accepted _ told _ c.lowest_missing-orphan.ensures c.if-orphan-lt64.false); table_after = read.table_after; templates_marked = read.templates_marked }
 
 pub returns-in-Refused : goal.returns-in-Refused
 unfolding judged_told
 returns-in-Refused c =
     let read = c.read_checked.ensures in
-    let rest = read.1 in
-    record { value = sym (ap judged_told (accepted_refused _ (judged_refused _ (sym read.value ∙ c.in-Refused.is)))); table_after = rest.0; templates_marked = rest.1 }
+    record { value = sym (ap judged_told (accepted_refused _ (judged_refused _ (sym read.value ∙ c.in-Refused.is)))); table_after = read.table_after; templates_marked = read.templates_marked }

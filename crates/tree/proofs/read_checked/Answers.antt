@@ -10,28 +10,24 @@ unfolding judged_told
 returns-then-sum-lt64 c =
     let read = c.read_tree.ensures in
     let told = sym read.value ∙ c.in-Read.is in
-    let rest = read.1 in
-    record { value = sym (ap judged_told (judged_unclosed _ told c.if-sum-lt64.true)); table_after = rest.0; templates_marked = rest.1 }
+    record { value = sym (ap judged_told (judged_unclosed _ told c.if-sum-lt64.true)); table_after = read.table_after; templates_marked = read.templates_marked }
 
 pub returns-then-sum-lt64-2 : goal.returns-then-sum-lt64-2
 unfolding judged_told
 returns-then-sum-lt64-2 c =
     let read = c.read_tree.ensures in
     let told = sym read.value ∙ c.in-Read.is in
-    let rest = read.1 in
-    record { value = sym (ap judged_told (judged_misnamed _ told c.if-sum-lt64.false c.if-sum-lt64-2.true)); table_after = rest.0; templates_marked = rest.1 }
+    record { value = sym (ap judged_told (judged_misnamed _ told c.if-sum-lt64.false c.if-sum-lt64-2.true)); table_after = read.table_after; templates_marked = read.templates_marked }
 
 pub returns-else-sum-lt64-2 : goal.returns-else-sum-lt64-2
 returns-else-sum-lt64-2 c =
     let read = c.read_tree.ensures in
     let told = sym read.value ∙ c.in-Read.is in
-    let rest = read.1 in
-    record { value = sym (judged_good _ told c.if-sum-lt64.false c.if-sum-lt64-2.false); table_after = rest.0; templates_marked = rest.1 }
+    record { value = sym (judged_good _ told c.if-sum-lt64.false c.if-sum-lt64-2.false); table_after = read.table_after; templates_marked = read.templates_marked }
 
 pub returns-in-Refused : goal.returns-in-Refused
 unfolding judged_told
 returns-in-Refused c =
     let read = c.read_tree.ensures in
     let told = sym read.value ∙ c.in-Refused.is in
-    let rest = read.1 in
-    record { value = rw c.number.ensures (sym (ap judged_told (checked_refused _ told))); table_after = rest.0; templates_marked = rest.1 }
+    record { value = rw c.number.ensures (sym (ap judged_told (checked_refused _ told))); table_after = read.table_after; templates_marked = read.templates_marked }

@@ -48,16 +48,24 @@ returns-in-Done c =
     let l = listed_done _ _ _ _ _ (sym (rw slot at c.read_list.ensures.value) ∙ c.in-Done.is) in
     let field = c.read_field.ensures in
     let number = c.in-Read.is in
-    rw slot (also (list_done _ _ _ _ _ (field_read_lem _ _ _ field number) c.read_entries.ensures.table_after e.is p.1.1.0 (field_below _ _ _ field number)
-    p.1.0 p.1.1.1 l.1 (sym l.2) (rw c.since.ensures at c.report_by.ensures))
-    (template_marked_lem _ _ _ _ _ _ _ (field_read_lem _ _ _ field number) e.is l.1 c.read_list.ensures.list_marked))
+    let told =
+    list_done _ _ _ _ _ (field_read_lem _ _ _ field number) c.read_entries.ensures.table_after e.is p.1.1.0 (field_below _ _ _ field number) p.1.0 p.1.1.1 l.1
+    (sym l.2) (rw c.since.ensures at c.report_by.ensures) in
+    rw slot (record {
+      value = told.0;
+      table_after = told.1;
+      template_marked = template_marked_lem _ _ _ _ _ _ _ (field_read_lem _ _ _ field number) e.is l.1 c.read_list.ensures.list_marked;
+    })
 
 pub returns-in-Refused-read_list : goal.returns-in-Refused-read_list
 returns-in-Refused-read_list c =
     let e = entries_told_lem _ (sym c.read_entries.ensures.value ∙ c.in-Read-read_entries.is) in
     let slot = c.to_slot.ensures in
-    rw slot (also_by (list_stop _ _ _ _ _ (field_read_lem _ _ _ c.read_field.ensures c.in-Read.is) c.read_entries.ensures.table_after e.is
-    (listed_refused _ _ _ _ _ (sym (rw slot at c.read_list.ensures.value) ∙ c.in-Refused-read_list.is))) (template_unmarked _ _ _ _))
+    let stop =
+    list_stop _ _ _ _ _ (field_read_lem _ _ _ c.read_field.ensures c.in-Read.is) c.read_entries.ensures.table_after e.is
+    (listed_refused _ _ _ _ _ (sym (rw slot at c.read_list.ensures.value) ∙ c.in-Refused-read_list.is)) in
+    let all = also_by stop (template_unmarked _ _ _ _) in
+    rw slot (record { value = all.0; table_after = all.1.0; template_marked = all.1.1 })
 
 pub returns-in-Refused : goal.returns-in-Refused
 returns-in-Refused c =

@@ -49,6 +49,6 @@ pub returns : goal.returns
 returns c =
     let pre = c.requires in
     λ w is counted. let p = pre in let d = c.put_field-second.ensures in let e = c.put_entries-third.ensures
-    (template_entries w _ _ p.0.0 c.past.ensures (omega (arith, d.0, p.0.4))) in let k = c.rewrite.ensures in let m = rw
-    c.since.ensures at k.out_after in template_put w _ _ is _ counted _ _ _ _ _ _ _ _ _ p.0.0 p.0.4 c.since.ensures d.1 d.0 e.0 e.1
+    (template_entries w _ _ p.s_len_bound.0 c.past.ensures (omega (arith, d.0, p.s_len_bound.4))) in let k = c.rewrite.ensures in let m = rw
+    c.since.ensures at k.out_after in template_put w _ _ is _ counted _ _ _ _ _ _ _ _ _ p.s_len_bound.0 p.s_len_bound.4 c.since.ensures d.1 d.0 e.0 e.1
     (m (span_tokens w)) k.result_value

@@ -61,7 +61,7 @@ returns c =
     λ w keep are leads counted. let p = pre in let v = c.loop-own.invariant in let d = c.put_field-at.ensures in let k = trimming_all keep _ _ _ _ _ _ _
     (v.6 w keep are leads) c.loop-own-test.false in let i = passing_inside (v.5 w) in (
       k.0,
-      trimming_file keep _ _ _ _ _ _ _ _ w.count_is counted p.1.0 d.1 d.0 k.1,
-      omega (arith, v.0, v.4, p.0.3),
-      omega (arith, v.3, i, p.0.0),
+      trimming_file keep _ _ _ _ _ _ _ _ w.count_is counted p.file_len.0 d.1 d.0 k.1,
+      omega (arith, v.0, v.4, p.s_len_bound.3),
+      omega (arith, v.3, i, p.s_len_bound.0),
     )
