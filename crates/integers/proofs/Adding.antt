@@ -43,23 +43,23 @@ module _ (total : ℤ) (s : List ℕ) (i n : ℕ) where
   sum_done h l = let e : i ≡ n = omega arith in rw (e, slice_empty n s, +ℤ_idr total)
 
 -- ---- no i64 overflows
--- t are the bits of what i integers can sum up to
-pub record Near (t i : ℕ) : Type 0 where
-  pub bound : mag (to_z w64 t) ≤ i * half
+-- t is what i integers can sum up to
+pub record Near (t : ℤ) (i : ℕ) : Type 0 where
+  pub bound : mag t ≤ i * half
 
 -- one more fits, for there are at most 256: also where each has 48 bits
-module _ {t i : ℕ} (near : Near t i) (few : i < 256) (a : ℕ) (x : ℤ) (v : Value a x) where
-  more : to_z w64 t +ℤ to_z w64 (of_z w64 x) ≡ to_z w64 t +ℤ signed a
+module _ {t : ℤ} {i : ℕ} (near : Near t i) (few : i < 256) (a : ℕ) (x : ℤ) (v : Value a x) where
+  more : t +ℤ to_z w64 (of_z w64 x) ≡ t +ℤ signed a
   more = rw (value_again a x v)
 
   near_value : mag (signed a) < half
   near_value = rw v.0 at v.1
 
-  pub sum_fits : SFits w64 (to_z w64 t +ℤ to_z w64 (of_z w64 x))
-  sum_fits = rw more (record { sfits = omega (arith, mag_add (to_z w64 t) (signed a), near_value) })
+  pub sum_fits : SFits w64 (t +ℤ to_z w64 (of_z w64 x))
+  sum_fits = rw more (record { sfits = omega (arith, mag_add t (signed a), near_value) })
 
-  pub sum_is : to_z w64 (of_z w64 (to_z w64 t +ℤ to_z w64 (of_z w64 x))) ≡ to_z w64 t +ℤ signed a
+  pub sum_is : to_z w64 (of_z w64 (t +ℤ to_z w64 (of_z w64 x))) ≡ t +ℤ signed a
   sum_is = to_z-of_z sum_fits ∙ more
 
-  pub sum_near : Near (of_z w64 (to_z w64 t +ℤ to_z w64 (of_z w64 x))) (i + 1)
-  sum_near = record { bound = rw sum_is (omega (arith, mag_add (to_z w64 t) (signed a), near_value)) }
+  pub sum_near : Near (to_z w64 (of_z w64 (t +ℤ to_z w64 (of_z w64 x)))) (i + 1)
+  sum_near = record { bound = rw sum_is (omega (arith, mag_add t (signed a), near_value)) }

@@ -86,4 +86,4 @@ module _ (a b : ℕ) (x y : ℤ) (v : Value a x) (w : Value b y) where
   floor_value q e =
       let h : mag (signed a) < half = rw v.0 at v.1 in
       let is : q ≡ floor_quotient (signed a) (signed b) = e ∙ rw (value_again a x v, value_again b y w) in
-      rw is (to_z-of_z (record { sfits = omega (arith, mag_floor (signed a) (signed b)) }))
+      rw is (to_z-of_z {w = w64} (record { sfits = omega (arith, mag_floor (signed a) (signed b)) }))

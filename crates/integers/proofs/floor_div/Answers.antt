@@ -5,11 +5,11 @@ use Rattle.integers.proofs.Dividing.{asked, floor_value}
 use Rattle.integers.proofs.floor_div.Goals as goal
 
 pub floor_quotient-requires : goal.floor_quotient-requires
-floor_quotient-requires c = asked _ _ _ _ c.signed_value.ensures c.signed_value-2.ensures c.requires.1 c.requires.2
+floor_quotient-requires c = asked _ _ _ _ (c.signed_value.ensures.value, c.signed_value.ensures.near) (c.signed_value-2.ensures.value, c.signed_value-2.ensures.near) c.requires.1 c.requires.2
 
 pub returns : goal.returns
 returns c =
     c.in_range.ensures
     ∙ rw
-    (floor_value _ _ _ _ c.signed_value.ensures c.signed_value-2.ensures _
+    (floor_value _ _ _ _ (c.signed_value.ensures.value, c.signed_value.ensures.near) (c.signed_value-2.ensures.value, c.signed_value-2.ensures.near) _
     c.floor_quotient.ensures)

@@ -6,6 +6,6 @@ use Rattle.integers.proofs.less.Goals as goal
 pub returns : goal.returns
 returns c =
     rw (
-      value_again _ _ c.signed_value.ensures,
-      value_again _ _ c.signed_value-2.ensures,
+      value_again _ _ (c.signed_value.ensures.value, c.signed_value.ensures.near),
+      value_again _ _ (c.signed_value-2.ensures.value, c.signed_value-2.ensures.near),
     )

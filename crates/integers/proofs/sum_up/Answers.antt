@@ -23,14 +23,14 @@ pub signed_value-total-requires : goal.signed_value-total-requires
 signed_value-total-requires c = omega (arith, c.int_of.ensures)
 
 pub overflow_add-total : goal.overflow_add-total
-overflow_add-total c = sum_fits c.loop-i.invariant.1 (omega arith) _ _ c.signed_value-total.ensures
+overflow_add-total c = sum_fits c.loop-i.invariant.1 (omega arith) _ _ (c.signed_value-total.ensures.value, c.signed_value-total.ensures.near)
 
 pub loop-i-preserved : goal.loop-i-preserved
 loop-i-preserved c =
     let pre = c.requires in (
       search rules,
-      sum_near c.loop-i.invariant.1 (omega arith) _ _ c.signed_value-total.ensures,
-      rw (sum_is c.loop-i.invariant.1 (omega arith) _ _ c.signed_value-total.ensures, c.int_of.ensures)
+      sum_near c.loop-i.invariant.1 (omega arith) _ _ (c.signed_value-total.ensures.value, c.signed_value-total.ensures.near),
+      rw (sum_is c.loop-i.invariant.1 (omega arith) _ _ (c.signed_value-total.ensures.value, c.signed_value-total.ensures.near), c.int_of.ensures)
           (sym (sum_on _ _ _ _ c.loop-i-test.true pre.0 (sym c.tag_of.ensures ∙ c.if-tag_of-ne6.false)) ∙ c.loop-i.invariant.2),
     )
 

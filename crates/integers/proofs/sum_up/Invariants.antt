@@ -5,14 +5,12 @@ use Prim.Native.Nat.{◌-◌, ◌≤◌}
 use native.Mathlib.Omega.{arith}
 use lib.ListN.{take}
 use lib.Seq.{slice}
-use mir.Syntax.{w64}
-use mir.Val.{to_z}
 use Rattle.integers.specs.Answers.{sum_of}
 use Rattle.integers.proofs.Adding.{Near, sum_from, sum_start, sum_on, sum_other, sum_done, sum_fits, sum_is, sum_near}
 use Rattle.integers.proofs.sum_up.Given as goal
 
 abbrev pub invariant-loop-i : goal.invariant-loop-i
-invariant-loop-i l = (l.i ≤ l.n) × Near l.total l.i × (sum_from (to_z w64 l.total) (slice l.i l.n l.s) ≡ sum_of (take l.n l.s))
+invariant-loop-i l = (l.i ≤ l.n) × Near l.total l.i × (sum_from l.total (slice l.i l.n l.s) ≡ sum_of (take l.n l.s))
 
 abbrev pub decreases-loop-i : goal.decreases-loop-i
 decreases-loop-i l = l.n - l.i

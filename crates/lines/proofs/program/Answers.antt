@@ -17,7 +17,7 @@ slice_bounds-put_bytes-end c = sym (length-take-le _ _ (omega (arith, c.put_line
 
 pub put_bytes-requires : goal.put_bytes-requires
 put_bytes-requires c =
-    let l = length-take-le c.put_lines-count.result c.put_lines-count.new.0 (omega (arith, c.put_lines-count.auto.out)) in
+    let l = length-take-le c.put_lines-count.result c.put_lines-count.new.out (omega (arith, c.put_lines-count.auto.out)) in
     omega arith
 
 pub returns : goal.returns

@@ -5,6 +5,7 @@ use Rattle.tree_code.specs.Fetch.{linked_program}
 use Rattle.steps.proofs.StepLaws.{acts_as, stays, neutral_place, jump_place, branch_places, save_places, jump_goes, bad_stops}
 use Rattle.tree_steps.proofs.StepLaws.{short, starts}
 use borrow.Author.Rules.{rules}
+use Rattle.machines.specs.Slots.{slot_at}
 use Rattle.tree_steps.proofs.take_coded.Goals as goal
 
 pub fetch_coded-requires : goal.fetch_coded-requires
@@ -28,7 +29,7 @@ returns-in-Neutral c =
     let fetch = c.fetch_coded.ensures in
     let told = c.in-Neutral.is in
     let P = linked_program c.args.file.now c.args.links.now c.args.table.now in
-    acts_as c.args.owner P _ _ _ _ _ (fetch.0 c.args.table.now c.args.c.template) told
+    acts_as c.args.owner P (slot_at c.args.table.now c.args.c.template) _ _ _ _ (fetch.0 c.args.table.now c.args.c.template) told
     (stays _ _ (neutral_place _ _ fetch.1 _ _ _ _ told) (c.act_neutral.ensures P c.args.frames.now))
 
 pub returns-in-Return : goal.returns-in-Return
@@ -38,7 +39,7 @@ returns-in-Return c =
     let fetch = c.fetch_coded.ensures in
     let told = c.in-Return.is in
     let P = linked_program c.args.file.now c.args.links.now c.args.table.now in
-    acts_as c.args.owner P _ _ _ _ _ (fetch.0 c.args.table.now c.args.c.template) told
+    acts_as c.args.owner P (slot_at c.args.table.now c.args.c.template) _ _ _ _ (fetch.0 c.args.table.now c.args.c.template) told
     (stays _ _ pre.0.in_tree (c.act_return.ensures c.args.owner P c.args.globals.now c.args.store.now))
 
 pub returns-in-Call : goal.returns-in-Call
@@ -48,7 +49,7 @@ returns-in-Call c =
     let fetch = c.fetch_coded.ensures in
     let told = c.in-Call.is in
     let P = linked_program c.args.file.now c.args.links.now c.args.table.now in
-    acts_as c.args.owner P _ _ _ _ _ (fetch.0 c.args.table.now c.args.c.template) told
+    acts_as c.args.owner P (slot_at c.args.table.now c.args.c.template) _ _ _ _ (fetch.0 c.args.table.now c.args.c.template) told
     (stays _ _ pre.0.in_tree (c.act_call.ensures c.args.owner P _ (starts _ c.args.table.now pre.0.in_tree)))
 
 pub returns-in-Branch : goal.returns-in-Branch
@@ -58,7 +59,7 @@ returns-in-Branch c =
     let fetch = c.fetch_coded.ensures in
     let told = c.in-Branch.is in
     let P = linked_program c.args.file.now c.args.links.now c.args.table.now in
-    acts_as c.args.owner P _ _ _ _ _ (fetch.0 c.args.table.now c.args.c.template) told
+    acts_as c.args.owner P (slot_at c.args.table.now c.args.c.template) _ _ _ _ (fetch.0 c.args.table.now c.args.c.template) told
     (stays _ _ (branch_places _ _ fetch.1 _ _ told).0 (c.act_branch.ensures c.args.owner P _))
 
 pub returns-in-Save : goal.returns-in-Save
@@ -68,7 +69,7 @@ returns-in-Save c =
     let fetch = c.fetch_coded.ensures in
     let told = c.in-Save.is in
     let P = linked_program c.args.file.now c.args.links.now c.args.table.now in
-    acts_as c.args.owner P _ _ _ _ _ (fetch.0 c.args.table.now c.args.c.template) told
+    acts_as c.args.owner P (slot_at c.args.table.now c.args.c.template) _ _ _ _ (fetch.0 c.args.table.now c.args.c.template) told
     (stays _ _ (save_places _ _ fetch.1 _ _ _ told).1 (c.act_save.ensures c.args.owner P c.args.globals.now c.args.store.now))
 
 pub returns-in-Jump : goal.returns-in-Jump
@@ -78,7 +79,7 @@ returns-in-Jump c =
     let fetch = c.fetch_coded.ensures in
     let told = c.in-Jump.is in
     let P = linked_program c.args.file.now c.args.links.now c.args.table.now in
-    acts_as c.args.owner P _ _ _ _ _ (fetch.0 c.args.table.now c.args.c.template) told
+    acts_as c.args.owner P (slot_at c.args.table.now c.args.c.template) _ _ _ _ (fetch.0 c.args.table.now c.args.c.template) told
     (stays _ _ (jump_place _ _ fetch.1 _ told)
     (jump_goes c.args.owner P _ c.args.r c.args.c pre.0.ready.fit pre.0.ready.frames_fit _ _ c.act_jump.ensures))
 
@@ -89,5 +90,5 @@ returns-in-Bad c =
     let fetch = c.fetch_coded.ensures in
     let told = c.in-Bad.is in
     let P = linked_program c.args.file.now c.args.links.now c.args.table.now in
-    acts_as c.args.owner P _ _ _ _ _ (fetch.0 c.args.table.now c.args.c.template) told
+    acts_as c.args.owner P (slot_at c.args.table.now c.args.c.template) _ _ _ _ (fetch.0 c.args.table.now c.args.c.template) told
     (bad_stops _ c.args.owner P _ c.args.r c.args.c)
