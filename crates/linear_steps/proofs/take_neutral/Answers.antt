@@ -9,10 +9,10 @@ use Rattle.linear_steps.proofs.take_neutral.Goals as goal
 
 pub returns-in-Whole : goal.returns-in-Whole
 unfolding neutral_as number form_of
-returns-in-Whole c = λ P f. neutral_as_lem c.args.owner P _ (slot_at c.args.table.now c.args.c.template) _ _ _ _ (c.neutral_at.ensures (slot_at c.args.table.now c.args.c.template)) c.in-Whole.is (c.act_neutral.ensures P f)
+returns-in-Whole c = λ P f. neutral_as_lem c.args.owner P _ (slot_at c.args.table.now c.args.c.template) _ c.args.op _ _ (c.neutral_at.ensures (slot_at c.args.table.now c.args.c.template)) c.in-Whole.is (c.act_neutral.ensures P f)
 
 pub returns-in-Cut : goal.returns-in-Cut
 unfolding neutral_as
 returns-in-Cut c =
-    λ P f. neutral_as_lem c.args.owner P _ (slot_at c.args.table.now c.args.c.template) _ _ _ _ (c.neutral_at.ensures (slot_at c.args.table.now c.args.c.template)) c.in-Cut.is
+    λ P f. neutral_as_lem c.args.owner P _ (slot_at c.args.table.now c.args.c.template) _ c.args.op _ _ (c.neutral_at.ensures (slot_at c.args.table.now c.args.c.template)) c.in-Cut.is
     (bad_stops linear_form c.args.owner P _ c.args.r c.args.c)
