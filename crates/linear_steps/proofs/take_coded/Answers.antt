@@ -20,3 +20,6 @@ returns-in-4 c = coded _ _ _ _ _ _ _ _ c.in-4.is c.take_transfer-in-4.ensures
 
 pub returns-in-5 : goal.returns-in-5
 returns-in-5 c = coded _ _ _ _ _ _ _ _ c.in-5.is c.take_transfer-in-5.ensures
+
+pub returns-in_default : goal.returns-in_default
+returns-in_default c = c.take_data.ensures _ _
