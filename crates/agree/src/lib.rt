@@ -1,1 +1,2 @@
 // Demand 3: the two machines agree. Theorems alone, in specs/.
+#![tactic(auto)]

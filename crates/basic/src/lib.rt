@@ -1,5 +1,7 @@
 // The basic byte code of document 003, section 1.2, as a sibling of the tree file (document 02, request 6): its definitions, in specs/, and reading it:
 // refusals 1 to 5.
+#![tactic(auto)]
+
 ghost use Rattle.std.specs.Prelude.{◌≡◌, ◌&&◌, List, ℕ, suc, ◌+◌, ◌*◌, ◌≤◌, ◌<◌, length};
 ghost use Rattle.files.specs.Codes.{shape_of};
 ghost use Rattle.files.specs.Reading.{Got, got};

@@ -1,4 +1,6 @@
 // What stands at a place of a basic file (document 02, request 6).
+#![tactic(auto)]
+
 ghost use Rattle.std.specs.Prelude.{◌≡◌, List, ℕ, ◌≤◌, ◌<◌, length};
 ghost use Rattle.fields.specs.Field.{field_read};
 ghost use Rattle.files.specs.Codes.{shape_of};

@@ -1,5 +1,7 @@
 // The machine on basic byte code (document 02, request 6): the pass that makes a file's links, and the run of a
 // file that is accepted.
+#![tactic(auto)]
+
 ghost use Rattle.std.specs.Prelude.{◌≡◌, ℕ, ◌+◌, ◌*◌, ◌≤◌, ◌<◌, length, set};
 ghost use Rattle.files.specs.Reading.{got};
 ghost use Rattle.links.specs.Links.{link};

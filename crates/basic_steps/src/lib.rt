@@ -1,5 +1,7 @@
 // A step of the basic machine, and a run of steps (document 02, request 6). Its states and ends are those of `steps`, its places those of a tree: bit numbers.
 // It has a loop of its own, since a third form of code in the loop of `steps` made each step of the other machines longer.
+#![tactic(auto)]
+
 ghost use Rattle.std.specs.Prelude.{◌≡◌, List, ℕ, ◌≤◌, length};
 ghost use Rattle.rules.specs.Fit.{Fit};
 ghost use Rattle.machines.specs.Fetched.{plain};

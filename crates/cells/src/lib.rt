@@ -1,4 +1,6 @@
 // Cells and code places (document 01, 'Cells'): each cell is made here and taken apart here.
+#![tactic(auto)]
+
 ghost use Rattle.std.specs.Prelude.{◌≡◌, ◌+◌, ◌*◌, ◌-◌, ◌/◌, ◌%◌, ◌≤◌, ◌<◌, eqb, ltb, leb};
 ghost use Rattle.cells.specs.Cells.{full, widened, tag_of, int_cell, int_of, closure_cell, closure_of, closure_template, closure_env};
 ghost use Rattle.cells.specs.Cells.{pair_cell, pair_first, pair_second, layer_cell, layer_parent, layer_count};

@@ -1,5 +1,7 @@
 // Writes the flat code of a list of a tree file (document 01, 'Flattening'): instructions from the front on, and the saved list of each
 // make-cont at the back, before those of the make-conts that hold it.
+#![tactic(auto)]
+
 ghost use Rattle.std.specs.Prelude.{◌≡◌, false, ◌∷◌, ℕ, ◌+◌, ◌*◌, ◌≤◌, ◌<◌, length};
 ghost use Rattle.std.proofs.lemmas.List.Edits.{sets};
 ghost use Rattle.fields.specs.Field.{field_at};

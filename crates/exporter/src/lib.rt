@@ -1,4 +1,6 @@
 // The exporter's library for C (include/exporter.h).
+#![tactic(auto)]
+
 ghost use Rattle.std.specs.Prelude.{◌≡◌, [], ◌∷◌, ◌≤◌, length};
 ghost use Rattle.std.proofs.lemmas.List.Edits.{sets};
 ghost use Rattle.cells.specs.Cells.{cell_of};

@@ -1,4 +1,6 @@
 // Fields of a bit-packed file, most significant bit first (document 01, 'Two files').
+#![tactic(auto)]
+
 ghost use Rattle.std.specs.Prelude.{◌≡◌, ◌+◌, ◌*◌, ◌≤◌, ◌<◌, length, get_or};
 ghost use Rattle.fields.specs.Field.{field_at, field_read};
 

@@ -1,4 +1,6 @@
 // Tree files and linear files (document 01, 'Two files').
+#![tactic(auto)]
+
 ghost use Rattle.std.specs.Prelude.{◌≡◌, ◌+◌, ◌*◌, ◌≤◌, ◌<◌, length};
 ghost use Rattle.std.proofs.lemmas.List.Edits.{sets};
 ghost use Rattle.files.specs.Entries.{kind_at, constant_at, entry_at, entries_at, zero_bits, nothing_more};

@@ -1,4 +1,6 @@
 // The flattener (document 01, 'Flattening').
+#![tactic(auto)]
+
 ghost use Rattle.std.specs.Prelude.{◌≡◌, ◌+◌, ◌*◌, ◌-◌, ◌/◌, ◌≤◌, ◌<◌, length};
 ghost use Rattle.std.proofs.lemmas.List.Edits.{sets};
 ghost use Rattle.files.specs.Linear.{byte_of, bytes_of, three_bytes, templates_bytes};

@@ -1,4 +1,6 @@
 // make-cont and return (document 01, 'Rules'). A frame's code place is packed and unpacked by the machine whose place it is.
+#![tactic(auto)]
+
 ghost use Rattle.std.specs.Prelude.{◌≡◌, List, ℕ, ◌-◌, ◌≤◌, length};
 ghost use Rattle.rules.specs.State.{mem};
 ghost use Rattle.rules.specs.Fit.{Fit};

@@ -1,6 +1,8 @@
 // Integers (document 01, 'Rules'): what the primitives compute, exactly, over bits in two's complement of the width that cells has. A number is an i64 on
 // the way: a difference and a quotient of two integers of 48 bits fit it, and so does every total of 256 of them, which is at most 256 * 2^47 = 2^55.
 // That 256 is all a stack holds; `sum_up` asks for it, and the proof of its loop bounds the total of i integers by i * HALF.
+#![tactic(auto)]
+
 ghost use Rattle.std.specs.Prelude.{◌≡◌, ◌<◌, ◌≤◌, pos, ◌-ℤ◌, length, take};
 ghost use Rattle.std.specs.Int.Signed.{mag, lt_z};
 ghost use Rattle.cells.specs.Cells.{half, full};

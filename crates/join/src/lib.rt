@@ -1,4 +1,6 @@
 // Joining a prologue and a file (document 02, request 10).
+#![tactic(auto)]
+
 ghost use Rattle.std.specs.Prelude.{◌≡◌, ◌++◌, ℕ, ◌+◌, ◌*◌, ◌-◌, ◌≤◌, ◌<◌, length, get_or, replicate, leb};
 ghost use Rattle.files.specs.Code.{Code};
 ghost use Rattle.files.specs.Reading.{got, list_at};

@@ -1,4 +1,6 @@
 // Reading a linear file (document 01, 'Two files'; refusals 1, 2, 3 and 5), and a run's table of it.
+#![tactic(auto)]
+
 ghost use Rattle.std.specs.Prelude.{◌≡◌, List, ◌+◌, ◌*◌, ◌≤◌, length};
 ghost use Rattle.files.specs.Entries.{Entry};
 ghost use Rattle.files.specs.Linear.{linear_template_at, linear_templates_at, linear_read};

@@ -1,4 +1,6 @@
 // What stands at a place of linear code (document 01, 'Codes').
+#![tactic(auto)]
+
 ghost use Rattle.std.specs.Prelude.{◌≡◌, false, ℕ, ◌+◌, ◌*◌, ◌≤◌, ◌<◌, length, get_or};
 ghost use Rattle.runs.specs.Runs.{part};
 ghost use Rattle.files.specs.Codes.{operand_bytes};

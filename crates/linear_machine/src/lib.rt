@@ -1,4 +1,6 @@
 // The machine of linear code (document 01, 'Rules').
+#![tactic(auto)]
+
 ghost use Rattle.std.specs.Prelude.{◌≡◌, ◌*◌, ◌≤◌};
 ghost use Rattle.files.specs.Linear.{linear_read};
 ghost use Rattle.files.specs.Room.{RoomFor, ZerosFor};

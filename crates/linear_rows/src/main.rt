@@ -1,5 +1,7 @@
 // Linear files that no flattener writes, and the rows of document 01, run on the linear machine. A line has the end, for a halt the answer's
 // 48 bits where it is an integer, for a refusal the place; then the steps, and the used cells of stack, store and frames.
+#![tactic(auto)]
+
 use cells::Value;
 use libc::STDOUT_FILENO;
 use machines::{End, Run};

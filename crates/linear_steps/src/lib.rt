@@ -1,5 +1,7 @@
 // A step of the linear machine, and a run of steps (document 01, 'Rules'). A code that has an arm of its own is a constant where its rule is called: the
 // compiler then puts the rule in line there, and a step is one jump to what its code does.
+#![tactic(auto)]
+
 ghost use Rattle.std.specs.Prelude.{◌≡◌, false, List, ℕ, ◌+◌, ◌≤◌, length};
 ghost use Rattle.runs.specs.Runs.{part};
 ghost use Rattle.rules.specs.Fit.{Fit};

@@ -1,4 +1,6 @@
 // The program of document 01: a sheet's lines.
+#![tactic(auto)]
+
 ghost use Rattle.std.specs.Prelude.{◌≡◌, ◌+◌, ◌≤◌, length};
 ghost use Rattle.text.specs.Put.{Put};
 ghost use Rattle.text.specs.Text.{line};

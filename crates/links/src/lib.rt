@@ -1,5 +1,7 @@
 // Links between the places of a tree file (document 01, 'Rules'): what a run of the tree machine keeps of lists, so that a step costs
 // constant time.
+#![tactic(auto)]
+
 ghost use Rattle.std.specs.Prelude.{◌≡◌, ℕ, ◌+◌, ◌*◌, ◌-◌, ◌≤◌, ◌<◌, length};
 ghost use Rattle.files.specs.Tree.{tree_read};
 ghost use Rattle.files.specs.Reading.{head_at, deep_of, list_at};

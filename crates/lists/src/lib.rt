@@ -1,4 +1,6 @@
 // Reading a code list of a tree file in one pass, with the facts that refusals 6, 7, 24 and 8 and the flattener need.
+#![tactic(auto)]
+
 ghost use Rattle.std.specs.Prelude.{◌≡◌, cond, ◌&&◌, ◌||◌, ◌+◌, ◌*◌, ◌-◌, ◌/◌, ◌%◌, ◌^◌, ◌≤◌, ◌<◌, length, eqb};
 ghost use Rattle.fields.specs.Field.{field_at};
 ghost use Rattle.files.specs.Codes.{shape_of};

@@ -1,4 +1,6 @@
 // The two machines (document 01, 'Rules').
+#![tactic(auto)]
+
 ghost use Rattle.std.specs.Prelude.{◌≡◌, length};
 ghost use Rattle.machines.specs.Runs.{memory, lowest_unfit};
 ghost use Rattle.machines.specs.Fetched.{as_literal};

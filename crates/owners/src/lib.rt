@@ -1,4 +1,6 @@
 // Whose run it is, and which globals it may read and set (document 02, request 12).
+#![tactic(auto)]
+
 ghost use Rattle.std.specs.Prelude.{◌≡◌};
 ghost use Rattle.owners.specs.Owners.{may_read, may_set, is_owner, owner_of};
 

@@ -1,4 +1,6 @@
 // The pull list (document 02, Ask 9). Of the machines it knows what `linear_machine` promises, and nothing below it.
+#![tactic(auto)]
+
 ghost use Rattle.std.specs.Prelude.{◌≡◌, [], ◌∷◌, ◌++◌, ◌+◌, ◌*◌, ◌/◌, ◌≤◌, ◌<◌, length, replicate, true};
 ghost use Rattle.cells.specs.Cells.{full, undefined_cell, starting_global};
 ghost use Rattle.text.specs.Put.{Put};

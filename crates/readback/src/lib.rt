@@ -1,1 +1,2 @@
 // Linear files read back what was written (document 01, 'Two files'): laws only, in specs/.
+#![tactic(auto)]

@@ -1,5 +1,7 @@
 // Code of a tree file written again with new indices of entries (requests 5 and 10): codes and their operand bytes one after the other, whatever
 // lists they stand in, so that no list is opened and no length changes.
+#![tactic(auto)]
+
 ghost use Rattle.std.specs.Prelude.{◌≡◌, ◌+◌, ◌*◌, ◌≤◌, ◌<◌, ◌++◌, length};
 ghost use Rattle.files.specs.Linear.{bits_of};
 ghost use Rattle.bit_writer.specs.Put.{put_bits};

@@ -1,4 +1,6 @@
 // The data rules (document 01, 'Rules'): what an instruction does to registers and lent cells. They see no code place.
+#![tactic(auto)]
+
 ghost use Rattle.std.specs.Prelude.{◌≡◌, List, ℕ, ◌+◌, ◌-◌, ◌<◌, ◌≤◌, length, get_or, set, take};
 ghost use Rattle.runs.specs.Runs.{zeroed};
 ghost use Rattle.rules.specs.State.{Mem, mem, regs, out};

@@ -1,5 +1,7 @@
 // A step, and a run of steps (document 01, 'Rules'). Both machines take them here: they differ only in what stands at a code place and in
 // where a template's code begins, and the place itself says whose it is.
+#![tactic(auto)]
+
 ghost use Rattle.std.specs.Prelude.{◌≡◌, List, ℕ, ◌-◌, ◌%◌, ◌≤◌, ◌<◌, ◌^◌, length};
 ghost use Rattle.cells.specs.Cells.{frame_cell, frame_place};
 ghost use Rattle.rules.specs.Fit.{Fit};

@@ -1,5 +1,7 @@
 // The tabulator (document 02, request 6): from a basic file to our tree file. A file is read and judged; then each template's own list is walked over, code
 // by code, once to count its entries and bits and once to write them. An entry is found by a scan over those that the template has so far, at most 255.
+#![tactic(auto)]
+
 ghost use Rattle.std.specs.Prelude.{◌≡◌, List, [], ◌++◌, ℕ, suc, ◌+◌, ◌*◌, ◌-◌, ◌^◌, ◌≤◌, ◌<◌, length, take, eqb};
 ghost use Rattle.files.specs.Entries.{Entry};
 ghost use Rattle.basic.specs.Basic.{Basic};

@@ -1,5 +1,7 @@
 // Reading a tree file (document 01, 'Two files'; refusals 1 to 5) and a run's table of it, with what refusals 6, 7, 24 and 8 and the
 // linear file's length follow from; and the one judgement of a file that was read, 6, 7 and 24.
+#![tactic(auto)]
+
 ghost use Rattle.std.specs.Prelude.{◌≡◌, ◌+◌, ◌*◌, ◌-◌, ◌/◌, ◌≤◌, ◌<◌, length};
 ghost use Rattle.files.specs.Tree.{template_at, templates_at, padded_end, tree_read};
 ghost use Rattle.files.specs.Accepted.{tree_checked, tree_accepted};

@@ -1,4 +1,6 @@
 // What stands at a place of a tree file (document 01, 'Rules').
+#![tactic(auto)]
+
 ghost use Rattle.std.specs.Prelude.{◌≡◌, List, ℕ, ◌+◌, ◌*◌, ◌/◌, ◌^◌, ◌≤◌, ◌<◌, length};
 ghost use Rattle.fields.specs.Field.{field_at};
 ghost use Rattle.machines.specs.Instruction.{tree_form, fetched_as, Places};

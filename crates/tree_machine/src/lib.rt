@@ -1,4 +1,6 @@
 // The machine of tree code (document 01, 'Rules').
+#![tactic(auto)]
+
 ghost use Rattle.std.specs.Prelude.{◌≡◌, ◌*◌, ◌≤◌, length};
 ghost use Rattle.files.specs.Tree.{tree_read};
 ghost use Rattle.files.specs.Accepted.{tree_accepted};

@@ -1,5 +1,7 @@
 // A step of the tree machine, and a run of steps (document 01, 'Rules'). It has a loop of its own, whose step is one jump to what its code does: each code is
 // known where its rule is called, so that the compiler puts the rule in line there.
+#![tactic(auto)]
+
 ghost use Rattle.std.specs.Prelude.{◌≡◌, ◌/◌, ◌≤◌, length};
 ghost use Rattle.machines.specs.Machine.{act, step};
 ghost use Rattle.machines.specs.Runs.{lent, ran, start_state};

@@ -1,5 +1,7 @@
 // The program of document 01: a sheet on standard input, its lines on standard output. Where a read fails it writes nothing: an error is no
 // end of the input, and what was read before it is no sheet.
+#![tactic(auto)]
+
 ghost use Rattle.std.specs.Prelude.{◌≤◌, length};
 ghost use Rattle.trial.specs.Input.{Within};
 

@@ -1,5 +1,7 @@
 // Trimming a tree file (document 02, request 5): orphan templates and entries that no instruction names are taken out, and a list says what became of each.
 // Both are first written into memory of the function's own, so that an output that is too short stays as it was.
+#![tactic(auto)]
+
 ghost use Rattle.std.specs.Prelude.{◌≡◌, Bool, cond, List, [], ◌++◌, ℕ, suc, ◌+◌, ◌*◌, ◌-◌, ◌/◌, ◌≤◌, ◌<◌, length, get_or, set, replicate, ltb};
 ghost use Rattle.lists.specs.Sets.{has};
 ghost use Rattle.fields.specs.Field.{field_at};

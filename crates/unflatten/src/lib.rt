@@ -1,6 +1,8 @@
 // From a linear file back to the one tree file that flattens to it (request 13). The offsets cut the code into regions from outside in;
 // each region's list is judged and put into the tree in one pass. A list takes at most eight bits for each byte of its region and five
 // more, so the tree is never longer than the linear file.
+#![tactic(auto)]
+
 ghost use Rattle.std.specs.Prelude.{◌≡◌, ◌&&◌, List, ℕ, ◌+◌, ◌*◌, ◌-◌, ◌≤◌, ◌<◌, length, get_or, take, replicate};
 ghost use Rattle.files.specs.Codes.{shape_of};
 ghost use Rattle.lists.specs.Facts.{slot_fits, slot_named};
