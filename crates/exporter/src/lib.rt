@@ -1,4 +1,4 @@
-// The exporter's library for C (include/exporter.h).
+// What the exporter's library for C does (include/exporter.h). The crate exporter_c has these functions under their names for C.
 #![tactic(auto)]
 
 ghost use Rattle.std.specs.Prelude.{◌≡◌, [], ◌∷◌, ◌≤◌, length};
@@ -99,8 +99,7 @@ fn put_run(res: &mut [u64], run: Run)
 
 // ---- the library's functions. A result that is too short: nothing at all is done.
 
-#[unsafe(no_mangle)]
-pub extern "C" fn exporter_flatten(file: &[u8], out: &mut [u8], res: &mut [u64])
+pub fn exporter_flatten(file: &[u8], out: &mut [u8], res: &mut [u64])
     ensures out_after { out.new
         ≡ outcome_output (written out.old (flattened file.now (length out.old))) out.old res.old }
     ensures res_after { res.new ≡ outcome_result (answered (flattened file.now (length out.old))) res.old }
@@ -112,8 +111,7 @@ pub extern "C" fn exporter_flatten(file: &[u8], out: &mut [u8], res: &mut [u64])
     put_outcome(res, answer);
 }
 
-#[unsafe(no_mangle)]
-pub extern "C" fn exporter_back(file: &[u8], out: &mut [u8], res: &mut [u64])
+pub fn exporter_back(file: &[u8], out: &mut [u8], res: &mut [u64])
     ensures out_after { out.new
         ≡ outcome_output (written out.old (backed file.now (length out.old))) out.old res.old }
     ensures res_after { res.new ≡ outcome_result (answered (backed file.now (length out.old))) res.old }
@@ -125,8 +123,7 @@ pub extern "C" fn exporter_back(file: &[u8], out: &mut [u8], res: &mut [u64])
     put_outcome(res, answer);
 }
 
-#[unsafe(no_mangle)]
-pub extern "C" fn exporter_tabulate(file: &[u8], out: &mut [u8], res: &mut [u64])
+pub fn exporter_tabulate(file: &[u8], out: &mut [u8], res: &mut [u64])
     ensures out_after { out.new
         ≡ outcome_output (written out.old (tabulated_file file.now (length out.old)))
         out.old res.old }
@@ -139,8 +136,7 @@ pub extern "C" fn exporter_tabulate(file: &[u8], out: &mut [u8], res: &mut [u64]
     put_outcome(res, answer);
 }
 
-#[unsafe(no_mangle)]
-pub extern "C" fn exporter_join(prologue: &[u8], file: &[u8], out: &mut [u8], res: &mut [u64])
+pub fn exporter_join(prologue: &[u8], file: &[u8], out: &mut [u8], res: &mut [u64])
     ensures out_after { out.new
         ≡ outcome_output (written out.old (joined_file prologue.now file.now (length out.old)))
         out.old res.old }
@@ -154,8 +150,7 @@ pub extern "C" fn exporter_join(prologue: &[u8], file: &[u8], out: &mut [u8], re
     put_outcome(res, answer);
 }
 
-#[unsafe(no_mangle)]
-pub extern "C" fn exporter_run_tree(
+pub fn exporter_run_tree(
     file: &[u8],
     budget: u64,
     owner: u64,
@@ -175,8 +170,7 @@ pub extern "C" fn exporter_run_tree(
     put_run(res, run);
 }
 
-#[unsafe(no_mangle)]
-pub extern "C" fn exporter_run_basic(
+pub fn exporter_run_basic(
     file: &[u8],
     budget: u64,
     owner: u64,
@@ -197,8 +191,7 @@ pub extern "C" fn exporter_run_basic(
     put_run(res, run);
 }
 
-#[unsafe(no_mangle)]
-pub extern "C" fn exporter_run_linear(
+pub fn exporter_run_linear(
     file: &[u8],
     budget: u64,
     owner: u64,
@@ -219,14 +212,7 @@ pub extern "C" fn exporter_run_linear(
     put_run(res, run);
 }
 
-#[unsafe(no_mangle)]
-pub extern "C" fn exporter_pull_list(
-    clips: &[i32],
-    file: &[u8],
-    budget: u64,
-    list: &mut [u8],
-    res: &mut [u64],
-)
+pub fn exporter_pull_list(clips: &[i32], file: &[u8], budget: u64, list: &mut [u8], res: &mut [u64])
     ensures list_after { list.new
         ≡ outcome_output (pulled_list clips.now file.now budget list.old) list.old res.old }
     ensures res_after { res.new
@@ -260,8 +246,7 @@ fn put_trimmed(res: &mut [u64], answer: Trimmed)
     }
 }
 
-#[unsafe(no_mangle)]
-pub extern "C" fn exporter_trim(file: &[u8], out: &mut [u8], list: &mut [u8], res: &mut [u64])
+pub fn exporter_trim(file: &[u8], out: &mut [u8], list: &mut [u8], res: &mut [u64])
     ensures out_after { out.new
         ≡ trim_output (trimmed_into file.now (length out.old) (length list.old)) out.old res.old }
     ensures list_after { list.new
