@@ -1,4 +1,4 @@
-// The program of document 01: a sheet on standard input, its lines on standard output. Where a read fails it writes nothing: an error is no
+// The program of document 01: a sheet on standard input, its lines on standard output. Where a read fails it writes nothing there: an error is no
 // end of the input, and what was read before it is no sheet.
 #![tactic(auto)]
 
@@ -6,55 +6,43 @@ ghost use Rattle.std.specs.Prelude.{◌≤◌, length};
 ghost use Rattle.trial.specs.Input.{Within};
 
 use files::Outcome;
-use libc::{STDIN_FILENO, STDOUT_FILENO};
-
-#[derive(Clone, Copy)]
-enum Input {
-    Bytes(usize),
-    Unread,
-}
+use std::io;
+use std::io::{Read, Write};
 
 // One read, behind the bytes that are there already: how many came, 0 at the end of the input. No contract can say what a read brings.
-fn read_more(sheet: &mut [u8], done: usize) -> Input
+fn read_more<R: Read>(input: &mut R, sheet: &mut [u8], done: usize) -> io::Result<usize>
     requires { done ≤ length sheet.old }
     ensures { Within done result (length sheet.new) }
 {
-    let got = libc::read(STDIN_FILENO, &mut sheet[done..]);
-    if got < 0 {
-        return Input::Unread;
-    }
-    Input::Bytes(io::count(got, &sheet[done..]))
+    input.read(&mut sheet[done..])
 }
 
 // Reads until the input ends or the buffer is full.
-fn read_sheet(sheet: &mut [u8]) -> Input
+fn read_sheet<R: Read>(input: &mut R, sheet: &mut [u8]) -> io::Result<usize>
     ensures { Within 0 result (length sheet.new) }
 {
     let mut done: usize = 0;
     while done < sheet.len() {
-        let read = read_more(sheet, done);
-        let Input::Bytes(more) = read else {
-            return Input::Unread;
-        };
+        let more = read_more(input, sheet, done)?;
         if more == 0 {
-            return Input::Bytes(done);
+            return Ok(done);
         }
         done = done + more;
     }
-    Input::Bytes(done)
+    Ok(done)
 }
 
-fn main() {
+fn main(rt: HostRuntime) -> io::Result<()> {
     let mut sheet = [0u8; 4097];
-    let read = read_sheet(&mut sheet);
-    let Input::Bytes(length) = read else {
-        return;
-    };
+    let mut input = rt.stdin();
+    let length = read_sheet(&mut input, &mut sheet)?;
     let mut out = [0u8; 256];
     let printed = lines::program(&sheet[..length], &mut out);
     if let Outcome::Written(count) = printed {
         if count <= 256 {
-            io::write_all(STDOUT_FILENO, &out[..count]);
+            let mut output = rt.stdout();
+            output.write_all(&out[..count])?;
         }
     }
+    Ok(())
 }
