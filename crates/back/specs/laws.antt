@@ -4,12 +4,5 @@ pub mod Formed
 pub mod Category
 pub mod Good
 pub mod GoodLaws
-pub mod Jumps
-pub mod Inverse
-pub mod Sound
-pub mod Lists
-pub mod Steps
-pub mod Files
 pub mod Fixed
-pub mod Shelf
-pub mod Whole
+pub mod ListBack

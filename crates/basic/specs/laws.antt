@@ -7,7 +7,5 @@ pub mod FileLaws
 pub mod LevelLaws
 pub mod ForestLaws
 pub mod ClassLaws
-pub mod EntryLaws
 pub mod DepthLaws
-pub mod WrittenLaws
-pub mod AcceptedLaws
+pub mod AllIn

@@ -1,3 +1,2 @@
 -- The laws of the crate basic_agree.
 pub mod Programs
-pub mod Proved

@@ -1,3 +1,3 @@
 -- The laws of the crate bit_writer.
 pub mod Lists
-pub mod Laws
+pub mod Wrote

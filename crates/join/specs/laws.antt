@@ -4,7 +4,4 @@ pub mod OperandsLaws
 pub mod TurnLaws
 pub mod JudgedLaws
 pub mod PutLaws
-pub mod FileLaws
 pub mod WholeLaws
-pub mod JoinedLaws
-pub mod GroupingsLaws

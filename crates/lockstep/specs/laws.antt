@@ -3,6 +3,3 @@ pub mod Lockstep
 pub mod InStep
 pub mod Likeness
 pub mod Plain
-pub mod Frames
-pub mod Kept
-pub mod Same

@@ -2,7 +2,6 @@
 pub mod FetchedLaws
 pub mod Slots
 pub mod Resolved
-pub mod Start
 pub mod Steps
 pub mod Constants
 pub mod Rows

@@ -8,7 +8,7 @@ use Rattle.basic.specs.Basic.{Basic}
 use Rattle.basic.specs.Tabulated.{inside, uses, entries_of, indexed, template_of, tabulated}
 use Rattle.basic.specs.Checked.{entries_fit}
 use Rattle.basic.specs.Forest.{Lists, inside_all, uses_all, code_all, own_bits}
-use Rattle.basic.specs.laws.EntryLaws.{AllIn}
+use Rattle.basic.specs.laws.AllIn.{AllIn}
 use Rattle.tabulate.specs.Slots.{AllFit, slots_of}
 use Rattle.tabulate.specs.Collect.{OwnList}
 use Rattle.tabulate.specs.Judge.{FewIn, From, templates_from}

@@ -13,11 +13,11 @@ use Rattle.files.specs.laws.EntriesLaws.{EntryOk, EntriesOk}
 use Rattle.files.specs.Orphans.{closes}
 use Rattle.lists.specs.Facts.{indices_close}
 use Rattle.lists.specs.Sets.{unite, has}
-use Rattle.bit_writer.specs.laws.Laws.{Wrote}
+use Rattle.bit_writer.specs.laws.Wrote.{Wrote}
 use Rattle.lists.specs.laws.SlotLaws.{Row}
 use Rattle.readback.specs.Bits.{Stands}
 use Rattle.tree_file.specs.File.{template_bits}
-use Rattle.tree_file.specs.laws.Back.{TreeWritable}
+use Rattle.tree_file.specs.laws.Writable.{TreeWritable}
 use Rattle.rewrite.specs.Tokens.{Token}
 use Rattle.trim.specs.declared.Span.{Span}
 use Rattle.trim.specs.Kept.{sift, rank}

@@ -8,7 +8,7 @@ ghost use Rattle.fields.specs.Field.{field_at};
 ghost use Rattle.files.specs.laws.AllGot.{Each};
 ghost use Rattle.files.specs.Linear.{entry_bits, entries_bits};
 ghost use Rattle.bit_writer.specs.Put.{put_bits};
-ghost use Rattle.bit_writer.specs.laws.Laws.{Wrote};
+ghost use Rattle.bit_writer.specs.laws.Wrote.{Wrote};
 ghost use Rattle.tree_file.specs.File.{template_bits, file_bits};
 ghost use Rattle.rewrite.specs.Tokens.{TokensAt};
 ghost use Rattle.text.specs.Put.{Put};

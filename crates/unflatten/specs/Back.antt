@@ -9,7 +9,7 @@ use Rattle.files.specs.Outcome.{into_bytes}
 use Rattle.files.specs.Tree.{Template}
 use Rattle.files.specs.Linear.{Linear, linear_read}
 use Rattle.tree_file.specs.File.{tree_file}
-use Rattle.back.specs.laws.Lists.{list_back}
+use Rattle.back.specs.laws.ListBack.{list_back}
 
 -- on with the list, or 32 with template n
 unfoldable pub or_stuck : {A : Type 0} → ℕ → Option Code → (Code → Got A) → Got A

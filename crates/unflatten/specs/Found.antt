@@ -5,7 +5,7 @@ use Rattle.std.proofs.Math.Seq.{slice}
 use Rattle.files.specs.Code.{Code}
 use Rattle.files.specs.Grammar.{each_neutral}
 use Rattle.back.specs.Unflat.{on, test}
-use Rattle.back.specs.laws.Lists.{back}
+use Rattle.back.specs.laws.ListBack.{back}
 
 -- the bytes from f to t
 unfoldable pub part : ℕ → ℕ → List ℕ → List ℕ

@@ -9,7 +9,7 @@ use Rattle.files.specs.Linear.{Linear, linear_template_at, linear_templates_at, 
 use Rattle.files.specs.Valid.{Bytes}
 use Rattle.bit_writer.specs.Put.{put_bits}
 use Rattle.tree_file.specs.File.{list_bits, template_bits, templates_bits}
-use Rattle.back.specs.laws.Lists.{list_back}
+use Rattle.back.specs.laws.ListBack.{list_back}
 use Rattle.unflatten.specs.declared.Grown.{Grown}
 use Rattle.unflatten.specs.declared.Grown.TheVariants.{Stuck, On}
 use Rattle.unflatten.specs.declared.Sized.{Sized}

@@ -24,7 +24,7 @@ use Rattle.basic.specs.laws.ForestLaws.{none_left, lists_end}
 use Rattle.tabulate.specs.declared.Step.TheVariants.{Copy, Entry as EntryStep, Closure}
 use Rattle.tabulate.specs.Slots.{slot_of, Fits, slots_of, position}
 use Rattle.tabulate.specs.Walk.{StepIs, is_copy, is_entry, is_closure}
-use Rattle.basic.specs.laws.EntryLaws.{AllIn}
+use Rattle.basic.specs.laws.AllIn.{AllIn}
 use Rattle.tabulate.specs.Put.{PutAt, Putting, Held, CodeIn, Coding}
 use Rattle.tabulate.specs.laws.SlotLaws.{position_index, position_among}
 use Rattle.tabulate.specs.laws.CollectLaws.{carried_fits}

@@ -25,7 +25,7 @@ use Rattle.lists.specs.Facts.{indices_close}
 use Rattle.lists.specs.Sets.{unite, has}
 use Rattle.lists.specs.laws.SetsLaws.{has_unite, has_one}
 use Rattle.lists.specs.laws.SlotLaws.{closes_has}
-use Rattle.tree_file.specs.laws.Back.{TreeWritable}
+use Rattle.tree_file.specs.laws.Writable.{TreeWritable}
 use Rattle.tree_file.specs.File.{template_bits}
 use Rattle.trim.specs.Reached.{marked, reached}
 use Rattle.trim.specs.Standing.{FileIn, TemplateIn, span_of, reached_from, marked_if}
