@@ -15,7 +15,11 @@ if [ -n "${SELF:-}" ]; then
   [ "$SELF" != 1 ] || library=$root/tests/plain/self.c
 else
   library=${LIBRARY:-$root/target/staticlib/libexporter.a}
-  [ -f "$library" ] || (cd "$root" && rt staticlib exporter >&2)
+  if [ -z "${LIBRARY:-}" ] && [ ! -f "$library" ]; then
+    (cd "$root/crates/exporter_c" && rt lib </dev/null >&2)
+    mkdir -p "${library%/*}"
+    cp "$root/crates/exporter_c/out/libexporter_c.a" "$library"
+  fi
   if [ "$(uname -m)" != x86_64 ]; then # the archive is for x86-64 alone
     compiler=x86_64-linux-gnu-gcc
     flags="$flags -static"
