@@ -1,4 +1,4 @@
-/* The exporter's library for C: link target/staticlib/libexporter.a, which `rt staticlib exporter` makes (x86-64 Linux).
+/* The exporter's library for C: link target/staticlib/libexporter.a, which the tests make by `rt lib` in crates/exporter_c (x86-64 Linux).
    Documents 01 and 02 have the files, cells, rules and numbers. A slice is a pointer and then a length in elements: the pointer is
    aligned and not null, also where the length is 0, and no two slices of a call overlap. Nothing is kept between calls,
    nothing is allocated; a call uses up to 600 KB of its thread's stack. */
