@@ -1,4 +1,4 @@
 -- The proofs of the crate machines that belong to no one function.
 pub mod Laws
 pub mod ResolveLaws
-pub mod laws
+pub mod theorems

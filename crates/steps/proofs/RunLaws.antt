@@ -13,7 +13,7 @@ use Rattle.rules.specs.declared.Regs.{Regs}
 use Rattle.machines.specs.Machine.{Program, State, step}
 use Rattle.machines.specs.Runs.{Memory, Ran, ran, memory_of, start_state}
 use Rattle.machines.specs.Start.{zeros}
-use Rattle.machines.proofs.laws.Start.{zeros_length}
+use Rattle.machines.proofs.theorems.Start.{zeros_length}
 use Rattle.machines.specs.Steps.{ran_from}
 use Rattle.machines.specs.laws.Steps.{ends_in, turn_goes, turn_halts, turn_stops, budget_spent_lem}
 use Rattle.machines.specs.Instruction.{number, Form, form_of, Of}

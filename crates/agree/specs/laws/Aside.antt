@@ -9,8 +9,8 @@ use Rattle.cells.specs.Cells.{tag_of, frame_cell}
 use Rattle.cells.specs.laws.Laws.{frame_back}
 use Rattle.rules.specs.Rules.{Data}
 use Rattle.rules.specs.laws.Lists.{by_lt}
-use Rattle.lockstep.proofs.laws.Frames.{none_f, more_f, FrameFits}
-use Rattle.lockstep.proofs.laws.Same.{FramesR, Same}
+use Rattle.lockstep.proofs.theorems.Frames.{none_f, more_f, FrameFits}
+use Rattle.lockstep.proofs.theorems.Same.{FramesR, Same}
 use Rattle.agree.specs.Demand3.{aside}
 
 aside_frame : (n t e p : ℕ) → FrameFits n t e p → aside (frame_cell n t e p) ≡ frame_cell n t e 0

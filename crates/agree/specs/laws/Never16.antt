@@ -17,7 +17,7 @@ use Rattle.machines.specs.Machine.{tree_program, linear_program, Ending, halted,
 use Rattle.machines.specs.Runs.{Memory, Ran, run_of, refused_run, right_lengths, lowest_unfit, fit_globals, by_owner, started, end_of, reported, program_run}
 use Rattle.machines.specs.Runs.{on_tree, on_linear, tree_run, checked_run, linear_run}
 use Rattle.machines.specs.declared.End.TheVariants.{Wrong}
-use Rattle.lockstep.proofs.laws.Same.{same_but_places}
+use Rattle.lockstep.proofs.theorems.Same.{same_but_places}
 use Rattle.agree.specs.Demand3.{Flattens}
 use Rattle.agree.specs.laws.Proved.{flattens_read, AlikeHere, tree_ends, linear_ends}
 

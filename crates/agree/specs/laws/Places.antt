@@ -29,7 +29,7 @@ use Rattle.agree.specs.laws.Suits.{is_true, Only, Shut, Open, either, Ok}
 use Rattle.agree.specs.laws.Layout.{At, at_skip, at_take, at_within, Sub, sub_neutral, sub_first, sub_second, sub_rest, sub_saved, sub_next, Spot, here}
 use Rattle.agree.specs.laws.Layout.{leap, Close, nothing_after, flows, stands}
 use Rattle.agree.specs.laws.Decoded as decoded
-use Rattle.lockstep.proofs.laws.Same.{same_but_places}
+use Rattle.lockstep.proofs.theorems.Same.{same_but_places}
 
 -- a template of a tree file, and the same of its linear file
 pub record Twins (t : Template) (l : Linear) : Type 0 where

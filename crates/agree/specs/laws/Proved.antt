@@ -14,7 +14,7 @@ use Rattle.flatten.specs.Flatten.{flattened}
 use Rattle.readback.specs.laws.Templates.{linears}
 use Rattle.files.specs.laws.AcceptedLaws.{accepted_checked, flat_accepted_led, flat_accepted_checked}
 use Rattle.readback.specs.laws.ReadBack.{flattened_reads}
-use Rattle.lockstep.proofs.laws.Frames.{none_f}
+use Rattle.lockstep.proofs.theorems.Frames.{none_f}
 use Rattle.owners.specs.Owners.{is_owner, owner_of}
 use Rattle.owners.specs.declared.Owner.{Owner}
 use Rattle.machines.specs.Fetched.{no_template, no_linear}
@@ -22,7 +22,7 @@ use Rattle.machines.specs.Machine.{tree_program, linear_program, no_counts, Endi
 use Rattle.machines.specs.Runs.{Memory, started, by_owner, fit_globals, start_state, end_of, memory_of, reported, program_run, on_tree, on_linear, tree_run, linear_run}
 use Rattle.machines.specs.declared.End.TheVariants.{Halted, OutOfBudget}
 use Rattle.lockstep.specs.laws.Lockstep.{Agree, Rel, Alike-ends, forward, backward}
-use Rattle.lockstep.proofs.laws.Same.{same_but_places}
+use Rattle.lockstep.proofs.theorems.Same.{same_but_places}
 use Rattle.agree.specs.laws.Places.{Twins, Pair, pair, programs_agree}
 use Rattle.agree.specs.laws.Files.{file_twins}
 use Rattle.agree.specs.laws.Aside.{frames_alike}

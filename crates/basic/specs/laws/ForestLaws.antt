@@ -26,7 +26,7 @@ use Rattle.readback.specs.laws.Lists.{stands_from}
 use Rattle.readback.specs.laws.Standing.{stands_field, field_then, none_stands}
 use Rattle.tree_file.specs.File.{operands_bits, list_bits, instr_bits}
 use Rattle.tree_file.specs.laws.Lengths.{operands_length, list_put, list_length}
-use Rattle.tree_file.proofs.laws.Standing.{code_end}
+use Rattle.tree_file.proofs.theorems.Standing.{code_end}
 use Rattle.basic.specs.Basic.{Basic, ended, plain, carries, closure, branch, save, Token, ended_t, plain_t, carries_t, closure_t, branch_t, save_t}
 use Rattle.basic.specs.Basic.{token_bits, bits as basicBits}
 use Rattle.basic.specs.Reading.{holding, literal_at, global_at, shaped_at, code_at, token_at, onward, list_at}

@@ -6,20 +6,20 @@ use Rattle.tree_file.specs.File.{placed}
 use Rattle.basic.specs.Basic.{Basic, bits}
 use Rattle.basic.specs.Valid.{Ok}
 use Rattle.basic.specs.Tabulated.{entries_of, tabulated}
-use Rattle.basic.proofs.laws.EntryLaws.{entries_found}
+use Rattle.basic.proofs.theorems.EntryLaws.{entries_found}
 use Rattle.owners.specs.declared.Owner.{Owner}
 use Rattle.machines.specs.Fetched.{Fetched, bad, no_template, tree_at}
 use Rattle.machines.specs.Machine.{Program, tree_program, no_counts, Ended}
 use Rattle.machines.specs.Runs.{reported, memory_of, start_state, program_run}
-use Rattle.lockstep.proofs.laws.Frames.{Savable}
+use Rattle.lockstep.proofs.theorems.Frames.{Savable}
 use Rattle.lockstep.specs.laws.InStep.{Fetches, plain_f, return_f, call_f, branch_f, save_f, bad_f, Paired, EndedR, no_counts_lem, run_alike}
-use Rattle.lockstep.proofs.laws.Same.{Same, same_but_places, start_same}
+use Rattle.lockstep.proofs.theorems.Same.{Same, same_but_places, start_same}
 use Rattle.sound.specs.laws.Programs.{FetchedOk, ProgramOk}
 use Rattle.agree.specs.Demand3.{EndAlike}
 use Rattle.agree.specs.laws.Aside.{frames_alike}
 use Rattle.basic_program.specs.Program.{Body, all_bodies, no_body, basic_at, basic_program}
-use Rattle.basic_program.proofs.laws.Spots.{Spot, spot_first, spot_within, Twin, plain_twin, return_twin, call_twin, branch_twin, save_twin, bad_t, look_like}
-use Rattle.basic_program.proofs.laws.Bodies.{BodyOk, body_ok, entries_are, code_is}
+use Rattle.basic_program.proofs.theorems.Spots.{Spot, spot_first, spot_within, Twin, plain_twin, return_twin, call_twin, branch_twin, save_twin, bad_t, look_like}
+use Rattle.basic_program.proofs.theorems.Bodies.{BodyOk, body_ok, entries_are, code_is}
 
 -- c is in order and short, and the program of its tabulated templates, placed from bit k on, is ok
 module _ (c : Basic) (ok : Ok c) (short : bits c ≤ 8 * 65536) (k : ℕ) (tree_ok : ProgramOk (tree_program (placed k (tabulated c)))) (own : Owner) where

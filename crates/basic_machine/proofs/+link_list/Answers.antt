@@ -7,7 +7,7 @@ use borrow.Author.Rules.{rules}
 use Rattle.links.specs.Links.{link}
 use Rattle.basic.specs.Basic.{Basic}
 use Rattle.basic_machine.specs.Pass.{Reads, Going}
-use Rattle.basic_machine.proofs.laws.TurnLaws.{reads_within, begun, parted_as, onward_small, turn_end, turn_simple, turn_closure, turn_arms, turn_saved, turn_bad}
+use Rattle.basic_machine.proofs.theorems.TurnLaws.{reads_within, begun, parted_as, onward_small, turn_end, turn_simple, turn_closure, turn_arms, turn_saved, turn_bad}
 use Rattle.basic_machine.proofs.+link_list.Goals as goal
 
 pub loop-links-init : goal.loop-links-init

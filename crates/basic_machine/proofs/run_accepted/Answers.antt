@@ -1,7 +1,7 @@
 -- `basic_machine::run_accepted` meets its contract. Assumes nothing.
 use native.Mathlib.Omega.{arith}
 use mathlib.Core.Path.{◌∙◌}
-use Rattle.basic_machine.proofs.laws.RunLaws.{file_short, file_fresh, linked_ran}
+use Rattle.basic_machine.proofs.theorems.RunLaws.{file_short, file_fresh, linked_ran}
 use borrow.Author.Rules.{rules}
 use Rattle.basic_machine.proofs.run_accepted.Goals as goal
 

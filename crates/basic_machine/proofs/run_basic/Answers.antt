@@ -1,9 +1,9 @@
 -- `basic_machine::run_basic` meets its contract. Assumes nothing.
 use Rattle.machines.specs.Start.{zeros}
-use Rattle.machines.proofs.laws.Start.{may_start}
+use Rattle.machines.proofs.theorems.Start.{may_start}
 use mathlib.Core.Path.{refl}
 use borrow.Author.Rules.{rules}
-use Rattle.basic_machine.proofs.laws.RunLaws.{run_goes, run_refused}
+use Rattle.basic_machine.proofs.theorems.RunLaws.{run_goes, run_refused}
 use Rattle.basic_machine.proofs.run_basic.Goals as goal
 
 pub run_file-requires : goal.run_file-requires

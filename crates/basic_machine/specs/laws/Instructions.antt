@@ -16,7 +16,7 @@ use Rattle.files.specs.Entries.{constant, global, then, field_got, field, valid,
 use Rattle.files.specs.EntriesRead.{entry_told}
 use Rattle.files.specs.Table.{slot_of}
 use Rattle.files.specs.laws.AllGot.{refused_got, got_value, then_led}
-use Rattle.tree_file.proofs.laws.Standing.{code_end}
+use Rattle.tree_file.proofs.theorems.Standing.{code_end}
 use Rattle.links.specs.Links.{link_at}
 use Rattle.rules.specs.declared.Plain.TheVariants.{Closure, Global, SetGlobal}
 use Rattle.machines.specs.Fetched.{Fetched, plain, returns, calls, branches, saves, bad, named_by, as_literal, as_global, rule_of, plainly}

@@ -4,7 +4,7 @@ use mathlib.Core.Path.{refl, ap, ◌∙◌}
 use lib.ListN.{length}
 use Rattle.fields.specs.laws.Laws.{field_small}
 use Rattle.readback.specs.laws.Lists.{field_bits}
-use Rattle.bit_writer.proofs.laws.Laws.{put_length, copy_three}
+use Rattle.bit_writer.proofs.theorems.Laws.{put_length, copy_three}
 use borrow.Author.Rules.{rules}
 use Rattle.bit_writer.proofs.copy_bits.Goals as goal
 

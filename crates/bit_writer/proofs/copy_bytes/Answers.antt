@@ -7,7 +7,7 @@ use lib.ListN.{length, length-set}
 use borrow.Author.Rules.{rules}
 use Rattle.readback.specs.Lists.{bits_from}
 use Rattle.bit_writer.specs.Put.{put_bits}
-use Rattle.bit_writer.proofs.laws.Laws.{bytes_on, bytes_done, bytes_all}
+use Rattle.bit_writer.proofs.theorems.Laws.{bytes_on, bytes_done, bytes_all}
 use Rattle.bit_writer.proofs.copy_bytes.Goals as goal
 
 pub loop-i-init : goal.loop-i-init

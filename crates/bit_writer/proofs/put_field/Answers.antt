@@ -1,7 +1,7 @@
 -- `bit_writer::put_field` meets its contract: the one or two bytes that are stored are those of the bits. Assumes nothing.
 use native.Mathlib.Omega.{arith}
 use lib.ListN.{length-set}
-use Rattle.bit_writer.proofs.laws.Laws.{sum_fits, two_small, put_none, put_one, put_two}
+use Rattle.bit_writer.proofs.theorems.Laws.{sum_fits, two_small, put_none, put_one, put_two}
 use borrow.Author.Rules.{rules}
 use Rattle.bit_writer.proofs.put_field.Goals as goal
 

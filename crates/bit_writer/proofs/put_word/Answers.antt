@@ -1,6 +1,6 @@
 -- `bit_writer::put_word` meets its contract: four fields one after the other. Assumes nothing.
 use native.Mathlib.Omega.{arith}
-use Rattle.bit_writer.proofs.laws.Laws.{put_four}
+use Rattle.bit_writer.proofs.theorems.Laws.{put_four}
 use borrow.Author.Rules.{rules}
 use Rattle.bit_writer.proofs.put_word.Goals as goal
 

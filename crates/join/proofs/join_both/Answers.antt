@@ -4,7 +4,7 @@ use mathlib.Core.Path.{refl, sym, ap, ◌∙◌}
 use lib.ListN.{length}
 use lib.Seq.{length-take-le}
 use Rattle.join.specs.laws.PutLaws.{operand_short}
-use Rattle.join.proofs.laws.FileLaws.{both, both_x, both_y, both_end, few, code_x, code_y, depth_few, bounds, write_bounds, join_many, join_deep, join_long, join_short, tokens_y, join_written}
+use Rattle.join.proofs.theorems.FileLaws.{both, both_x, both_y, both_end, few, code_x, code_y, depth_few, bounds, write_bounds, join_many, join_deep, join_long, join_short, tokens_y, join_written}
 use borrow.Author.Rules.{rules}
 use Rattle.join.proofs.join_both.Goals as goal
 

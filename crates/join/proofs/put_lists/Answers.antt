@@ -3,7 +3,7 @@ use native.Mathlib.Omega.{arith}
 use mathlib.Core.Path.{refl, ap, ◌∙◌}
 use lib.ListN.{length}
 use Prim.Native.Nat.{◌-◌}
-use Rattle.bit_writer.proofs.laws.Laws.{put_length}
+use Rattle.bit_writer.proofs.theorems.Laws.{put_length}
 use Rattle.join.specs.laws.PutLaws.{lists_put, room_last, room_three}
 use borrow.Author.Rules.{rules}
 use Rattle.join.proofs.put_lists.Goals as goal

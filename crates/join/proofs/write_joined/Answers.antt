@@ -2,7 +2,7 @@
 use native.Mathlib.Omega.{arith}
 use mathlib.Core.Path.{refl, ap, ◌∙◌}
 use lib.ListN.{length}
-use Rattle.bit_writer.proofs.laws.Laws.{put_length}
+use Rattle.bit_writer.proofs.theorems.Laws.{put_length}
 use Prim.Native.Nat.{◌+◌}
 use Rattle.join.specs.laws.PutLaws.{both_put}
 use borrow.Author.Rules.{rules}

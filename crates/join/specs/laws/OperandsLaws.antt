@@ -22,11 +22,11 @@ use Rattle.readback.specs.laws.Bits.{length_bits, stands_left, stands_right, fie
 use Rattle.tree.specs.laws.Parts.{tree_parts}
 use Rattle.tree_file.specs.File.{list_bits, template_bits, templates_bits, file_bits, starts_at, placed, levels}
 use Rattle.tree_file.specs.laws.Lengths.{list_length, template_length}
-use Rattle.tree_file.proofs.laws.Standing.{list_stands}
-use Rattle.tree_file.proofs.laws.Canonical.{TreeKnown, tree_known}
+use Rattle.tree_file.proofs.theorems.Standing.{list_stands}
+use Rattle.tree_file.proofs.theorems.Canonical.{TreeKnown, tree_known}
 use Rattle.tree_file.specs.laws.Writable.{TreeWritable}
-use Rattle.tree_file.proofs.laws.Back.{TreeWritables, list_back_lem}
-use Rattle.tree_file.proofs.laws.Written.{tree_writable}
+use Rattle.tree_file.proofs.theorems.Back.{TreeWritables, list_back_lem}
+use Rattle.tree_file.proofs.theorems.Written.{tree_writable}
 use Rattle.join.specs.Operands.{CodeAt}
 
 -- ---- a list that stands is read, and one that is read stands

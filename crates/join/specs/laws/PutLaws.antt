@@ -17,7 +17,7 @@ use Rattle.readback.specs.laws.Bits.{AreBits, length_bits}
 use Rattle.readback.specs.Lists.{bits_from}
 use Rattle.readback.specs.laws.Lists.{bits_are, append_are, from_length, from_are}
 use Rattle.bit_writer.specs.Put.{put_bits}
-use Rattle.bit_writer.proofs.laws.Laws.{put_next}
+use Rattle.bit_writer.proofs.theorems.Laws.{put_next}
 use Rattle.tree_file.specs.File.{templates_bits, file_bits}
 use Rattle.rewrite.specs.Tokens.{tokens_bits, renewed, TokensAt}
 use Rattle.rewrite.specs.laws.TokensLaws.{tokens_are, renewed_length}

@@ -18,7 +18,7 @@ use Rattle.readback.specs.Bits.{Stands}
 use Rattle.readback.specs.laws.Bits.{length_bits, stands_left, stands_right, field_stands}
 use Rattle.tree_file.specs.File.{operands_bits, list_bits, levels}
 use Rattle.tree_file.specs.laws.Lengths.{operands_length, list_length}
-use Rattle.tree_file.proofs.laws.Back.{Neutral, neutral_shape}
+use Rattle.tree_file.proofs.theorems.Back.{Neutral, neutral_shape}
 use Rattle.join.specs.declared.Joint.{Joint}
 use Rattle.join.specs.declared.Turn.{Turn}
 use Rattle.join.specs.declared.Turn.TheVariants.{There, Past, Within}

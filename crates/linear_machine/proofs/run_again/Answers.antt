@@ -2,7 +2,7 @@
 use native.Mathlib.Omega.{arith}
 use mathlib.Core.Path.{sym, ◌∙◌}
 use Rattle.machines.specs.Runs.{linear_run}
-use Rattle.machines.proofs.laws.Start.{startable, started_go}
+use Rattle.machines.proofs.theorems.Start.{startable, started_go}
 use Rattle.linear_machine.proofs.FileLaws.{again_within, again_ran, file_owned}
 use borrow.Author.Rules.{rules}
 use Rattle.linear_machine.proofs.run_again.Goals as goal

@@ -2,7 +2,7 @@
 use borrow.Author.Rules.{rules}
 use native.Mathlib.Omega.{arith}
 use Rattle.machines.specs.Runs.{linear_run}
-use Rattle.machines.proofs.laws.Start.{may_start, start_goes, start_refused}
+use Rattle.machines.proofs.theorems.Start.{may_start, start_goes, start_refused}
 use Rattle.linear_machine.proofs.FileLaws.{file_owned}
 use Rattle.linear_machine.proofs.run_linear.Goals as goal
 

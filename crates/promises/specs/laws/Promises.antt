@@ -28,7 +28,7 @@ use Rattle.pull.proofs.pull_list.Kinds as pull-list
 use Rattle.pull.proofs.pull_list.Reads as pull-list-reads
 use Rattle.exporter.proofs.exporter_pull_list.Kinds as exporter-pull-list
 use Rattle.exporter.proofs.exporter_pull_list.Reads as exporter-pull-list-reads
-use Rattle.join.proofs.laws.GroupingsLaws.{JoinPromise}
+use Rattle.join.proofs.theorems.GroupingsLaws.{JoinPromise}
 use Rattle.join.proofs.join.Kinds as join
 use Rattle.join.proofs.join.Reads as join-reads
 use Rattle.exporter.proofs.exporter_join.Kinds as exporter-join

@@ -23,11 +23,11 @@ use Rattle.files.specs.laws.EntriesLaws.{EntryOk, EntriesOk}
 use Rattle.readback.specs.laws.Bits.{length_bits}
 use Rattle.tree_file.specs.File.{template_bits, templates_bits, file_bits, tree_file, placed, starts_at}
 use Rattle.tree_file.specs.laws.Writable.{TreeWritable}
-use Rattle.tree_file.proofs.laws.Back.{TreeWritables, tree_back}
-use Rattle.tree_file.proofs.laws.Canonical.{tree_known}
+use Rattle.tree_file.proofs.theorems.Back.{TreeWritables, tree_back}
+use Rattle.tree_file.proofs.theorems.Canonical.{tree_known}
 use Rattle.tree_file.specs.laws.Lengths.{template_length}
 use Rattle.tree_file.specs.laws.Placed.{placed_length, placed_names, placed_bits, lowest_all, no_orphan}
-use Rattle.tree_file.proofs.laws.Written.{tree_writable, file_length}
+use Rattle.tree_file.proofs.theorems.Written.{tree_writable, file_length}
 use Rattle.tree.specs.laws.Parts.{tree_parts}
 use Rattle.rewrite.specs.Reindex.{reindexed, reindex}
 use Rattle.trim.specs.Kept.{sift, rank}
@@ -35,11 +35,11 @@ use Rattle.trim.specs.Trim.{names, new_index, renumber, trim_template, trim, nam
 use Rattle.trim.specs.Standing.{Leads}
 use Rattle.trim.specs.laws.KeptLaws.{rank_end, rank_most, sift_length}
 use Rattle.trim.specs.laws.ReachedLaws.{or_left, or_right, or_cases, never, up_each}
-use Rattle.trim.proofs.laws.RoundsLaws.{both_each, rounds_end, stays_leads}
-use Rattle.trim.proofs.laws.MarkLaws.{names_within}
-use Rattle.trim.proofs.laws.EntryLaws.{renumber_length}
-use Rattle.trim.proofs.laws.TemplateLaws.{reindex_same}
-use Rattle.trim.proofs.laws.BothLaws.{closes_named}
+use Rattle.trim.proofs.theorems.RoundsLaws.{both_each, rounds_end, stays_leads}
+use Rattle.trim.proofs.theorems.MarkLaws.{names_within}
+use Rattle.trim.proofs.theorems.EntryLaws.{renumber_length}
+use Rattle.trim.proofs.theorems.TemplateLaws.{reindex_same}
+use Rattle.trim.proofs.theorems.BothLaws.{closes_named}
 use Rattle.renamed.specs.laws.Ranks.{entry_at, rank_grows, rank_old, rank_all, sift_all}
 use Rattle.rewrite.specs.laws.ReindexLaws.{same_bits, same_closed}
 use Rattle.renamed.specs.laws.Found.{same_levels, same_valid, same_names, Found, renumbered, same_fits, same_closes}

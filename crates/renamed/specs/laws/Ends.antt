@@ -6,7 +6,7 @@ use Rattle.cells.specs.Cells.{tag_of, closure_cell, closure_env, closure_locatio
 use Rattle.cells.specs.laws.Laws.{closure_back, frame_back, cell_value}
 use Rattle.cells.specs.declared.Value.{Value}
 use Rattle.cells.specs.declared.Value.TheVariants.{False, True, Null, Unspecified, Integer, Procedure, Pair, NoValue}
-use Rattle.lockstep.proofs.laws.Frames.{FrameFits}
+use Rattle.lockstep.proofs.theorems.Frames.{FrameFits}
 use Rattle.machines.specs.Machine.{Ending, halted, wrongly, spent, Ended}
 use Rattle.machines.specs.Runs.{Ran, end_of, memory_of, reported, run_of, left_of}
 use Rattle.machines.specs.declared.End.{End}

@@ -16,7 +16,7 @@ use Rattle.files.specs.Grammar.{entry_of, suits, index_fits, each_neutral, indic
 use Rattle.files.specs.Orphans.{is_template, closes}
 use Rattle.files.specs.Valid.{Bytes, Valid}
 use Rattle.tree_file.specs.File.{levels}
-use Rattle.tree_file.proofs.laws.Back.{neutral_shape}
+use Rattle.tree_file.proofs.theorems.Back.{neutral_shape}
 use Rattle.rewrite.specs.Reindex.{reindexed, reindex}
 use Rattle.rewrite.specs.laws.TokensLaws.{one_operand}
 use Rattle.trim.specs.Trim.{names, renumber}

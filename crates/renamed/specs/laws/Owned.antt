@@ -19,10 +19,10 @@ use Rattle.sound.specs.laws.Runs.{FitGlobals, start_kept}
 use Rattle.lockstep.specs.laws.Likeness.{Each, each_replicate}
 use Rattle.lockstep.specs.laws.Lockstep.{Kin}
 use Rattle.lockstep.specs.laws.Plain.{Allowed, regs_l}
-use Rattle.lockstep.proofs.laws.Frames.{none_f, Like, like_d}
-use Rattle.lockstep.proofs.laws.Kept.{alike}
+use Rattle.lockstep.proofs.theorems.Frames.{none_f, Like, like_d}
+use Rattle.lockstep.proofs.theorems.Kept.{alike}
 use Rattle.lockstep.specs.laws.InStep.{Fetches, plain_f, return_f, call_f, branch_f, save_f, jump_f, bad_f, Paired, no_counts_lem, same_counts, run_alike}
-use Rattle.lockstep.proofs.laws.Same.{Rights, owned, itself, equal, frames_equal}
+use Rattle.lockstep.proofs.theorems.Same.{Rights, owned, itself, equal, frames_equal}
 
 module _ (G : Rights) where
   abbrev R : ℕ → ℕ → ℕ → ℕ → ℕ → Type 0

@@ -28,9 +28,9 @@ use Rattle.sound.specs.laws.Runs.{FitGlobals, fit_globals_lem, start_kept}
 use Rattle.lockstep.specs.laws.Lockstep.{Kin, Agree}
 use Rattle.lockstep.specs.laws.Likeness.{Each, each_at, each_of, each_replicate, zero_like}
 use Rattle.lockstep.specs.laws.Plain.{PlainLike, Allowed, regs_l}
-use Rattle.lockstep.proofs.laws.PlainLaws.{unspecified_like}
-use Rattle.lockstep.proofs.laws.Frames.{FramesLike, none_f, more_f, FramesAlike, Like, like_d}
-use Rattle.lockstep.proofs.laws.Kept.{alike}
+use Rattle.lockstep.proofs.theorems.PlainLaws.{unspecified_like}
+use Rattle.lockstep.proofs.theorems.Frames.{FramesLike, none_f, more_f, FramesAlike, Like, like_d}
+use Rattle.lockstep.proofs.theorems.Kept.{alike}
 use Rattle.lockstep.specs.laws.InStep.{Fetches, plain_f, return_f, call_f, branch_f, save_f, jump_f, bad_f, Paired, StateR, EndedR, no_counts_lem, same_counts}
 use Rattle.lockstep.specs.laws.InStep.{run_alike, in_lockstep}
 use Rattle.renamed.specs.laws.Renaming.{Renaming, CellR, same_c, renamed}

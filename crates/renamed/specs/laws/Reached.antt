@@ -21,7 +21,7 @@ use Rattle.files.specs.laws.AcceptedLaws.{checked, checked_read, flat_checked_le
 use Rattle.trim.specs.Reached.{marked, reached}
 use Rattle.trim.specs.Standing.{Leads}
 use Rattle.trim.specs.laws.ReachedLaws.{or_left, or_right, Up, closes_up, marked_more}
-use Rattle.trim.proofs.laws.RoundsLaws.{reached_leads}
+use Rattle.trim.proofs.theorems.RoundsLaws.{reached_leads}
 use Rattle.machines.specs.Fetched.{no_template}
 use Rattle.machines.specs.Runs.{Memory, checked_run, linear_run}
 use Rattle.renamed.specs.laws.Reindexed.{Names}

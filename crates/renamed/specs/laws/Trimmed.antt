@@ -16,11 +16,11 @@ use Rattle.sound.specs.laws.Files.{tree_ok, linear_ok}
 use Rattle.sound.specs.laws.Runs.{FitGlobals}
 use Rattle.machines.specs.Machine.{tree_program, linear_program}
 use Rattle.tree_file.specs.File.{template_bits, tree_file, placed}
-use Rattle.tree_file.proofs.laws.Written.{tree_writable}
+use Rattle.tree_file.proofs.theorems.Written.{tree_writable}
 use Rattle.machines.specs.Fetched.{no_template}
 use Rattle.machines.specs.Runs.{Memory, checked_run, linear_run, program_run}
 use Rattle.trim.specs.Trim.{trim, stays, trimmed}
-use Rattle.trim.proofs.laws.RoundsLaws.{stays_leads}
+use Rattle.trim.proofs.theorems.RoundsLaws.{stays_leads}
 use Rattle.renamed.specs.laws.Ends.{EndAlike-renamed, Renamed}
 use Rattle.renamed.specs.laws.Renaming.{Renaming}
 use Rattle.renamed.specs.laws.Programs.{programs_alike}

@@ -3,7 +3,7 @@ use native.Mathlib.Omega.{arith}
 use mathlib.Core.Path.{◌∙◌, ap}
 use lib.ListN.{length}
 use Rattle.fields.specs.laws.Laws.{field_small}
-use Rattle.bit_writer.proofs.laws.Laws.{put_length}
+use Rattle.bit_writer.proofs.theorems.Laws.{put_length}
 use Rattle.rewrite.specs.laws.Steps.{put_none, put_one, put_two}
 use borrow.Author.Rules.{rules}
 use Rattle.rewrite.proofs.put_code.Goals as goal

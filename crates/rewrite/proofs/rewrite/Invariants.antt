@@ -4,7 +4,7 @@ use Prim.Native.Nat.{◌+◌, ◌*◌, ◌≤◌}
 use native.Mathlib.Omega.{arith}
 use mathlib.Core.Path.{◌≡◌, refl, ap, ◌∙◌}
 use lib.ListN.{length}
-use Rattle.bit_writer.proofs.laws.Laws.{put_length}
+use Rattle.bit_writer.proofs.theorems.Laws.{put_length}
 use Rattle.rewrite.specs.Tokens.{operand_count, index_in, TokensAt}
 use Rattle.rewrite.specs.laws.Steps.{Left, left_all, left_code, left_small, left_operands, left_next, left_none, cleared_then, cleared_still}
 use borrow.Author.Rules.{rules}

@@ -16,7 +16,7 @@ use Rattle.files.specs.Grammar.{is_empty, is_open, is_closed, entry_of, suits, i
 use Rattle.files.specs.Valid.{Bytes, Valid}
 use Rattle.files.specs.laws.TableLaws.{entry_above}
 use Rattle.tree_file.specs.File.{levels}
-use Rattle.tree_file.proofs.laws.Back.{neutral_shape}
+use Rattle.tree_file.proofs.theorems.Back.{neutral_shape}
 use Rattle.rewrite.specs.Reindex.{reindexed, reindex}
 use Rattle.rewrite.specs.laws.TokensLaws.{one_operand}
 

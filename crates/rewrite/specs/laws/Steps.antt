@@ -16,7 +16,7 @@ use Rattle.readback.specs.Bits.{Stands}
 use Rattle.readback.specs.laws.Bits.{AreBits, length_bits, stands_left, stands_right, field_stands}
 use Rattle.bit_writer.specs.Put.{put_bits}
 use Rattle.readback.specs.laws.Lists.{none_are, bits_are, append_are}
-use Rattle.bit_writer.proofs.laws.Laws.{put_next}
+use Rattle.bit_writer.proofs.theorems.Laws.{put_next}
 use Rattle.tree_file.specs.File.{operands_bits}
 use Rattle.lists.specs.Pass.{operands_at}
 use Rattle.rewrite.specs.Tokens.{Token, token, token_bits, tokens_bits, operand_count, TokenOk, TokensOk, TokensAt}

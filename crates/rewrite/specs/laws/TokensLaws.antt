@@ -15,7 +15,7 @@ use Rattle.readback.specs.laws.Bits.{AreBits, length_bits, stands_left}
 use Rattle.readback.specs.laws.Lists.{none_are, bits_are, append_are}
 use Rattle.tree_file.specs.File.{operands_bits, list_bits}
 use Rattle.tree_file.specs.laws.Lengths.{operands_length, operands_are, list_length}
-use Rattle.tree_file.proofs.laws.Back.{Neutral, neutral_shape}
+use Rattle.tree_file.proofs.theorems.Back.{Neutral, neutral_shape}
 use Rattle.rewrite.specs.Reindex.{reindexed, reindex}
 use Rattle.rewrite.specs.Tokens.{Token, token, end, tokens, body_bits, token_bits, tokens_bits, operand_count, TokenOk, TokensOk, TokensAt}
 use Rattle.rewrite.specs.Tokens.{new_operand, new_operands, renewed_one, renewed}

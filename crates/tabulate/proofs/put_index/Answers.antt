@@ -1,7 +1,7 @@
 -- `tabulate::put_index` meets its contract: the code, and the place of the slot and one more. Assumes nothing.
 use Prim.Native.Nat.{ℕ, suc, ◌+◌}
 use Rattle.tabulate.specs.laws.PutLaws.{put_code_index}
-use Rattle.bit_writer.proofs.laws.Laws.{put_length}
+use Rattle.bit_writer.proofs.theorems.Laws.{put_length}
 use Rattle.bit_writer.specs.Put.{put_bits}
 use Rattle.files.specs.Linear.{bits_of}
 use lib.ListN.{length}

@@ -1,7 +1,7 @@
 -- `tabulate::put_template` meets its contract: E, the entries, the code. Assumes nothing.
 use Rattle.tabulate.specs.laws.WriteLaws.{no_many, count_small, entries_in, code_after, template_after}
 use Rattle.tabulate.specs.laws.JudgeLaws.{collected_as}
-use Rattle.bit_writer.proofs.laws.Laws.{put_length}
+use Rattle.bit_writer.proofs.theorems.Laws.{put_length}
 use lib.ListN.{length}
 use mathlib.Core.Path.{◌≡◌, refl, sym, ap, ◌∙◌}
 use native.Mathlib.Omega.{arith}

@@ -1,7 +1,7 @@
 -- `tabulate::put_templates` meets its contract: template after template. Assumes nothing.
 use Rattle.tabulate.specs.laws.WriteLaws.{writing_begin, template_in, one_put, writing_end, writing_next}
 use Rattle.tabulate.specs.laws.JudgeLaws.{from_walk, from_low, from_read, own_list, own_list_is, told_none, next_as}
-use Rattle.bit_writer.proofs.laws.Laws.{put_length}
+use Rattle.bit_writer.proofs.theorems.Laws.{put_length}
 use Rattle.tabulate.specs.Put.{TemplatesIn, Writing}
 use Rattle.basic.specs.laws.StepLaws.{list_is}
 use lib.ListN.{length}

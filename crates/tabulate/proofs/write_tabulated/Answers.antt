@@ -1,6 +1,6 @@
 -- `tabulate::write_tabulated` meets its contract: T, and the templates. Assumes nothing.
 use Rattle.tabulate.specs.laws.TabulateLaws.{count_fits, templates_in, file_put}
-use Rattle.bit_writer.proofs.laws.Laws.{put_length}
+use Rattle.bit_writer.proofs.theorems.Laws.{put_length}
 use lib.ListN.{length}
 use mathlib.Core.Path.{◌≡◌, refl, sym, ap, ◌∙◌}
 use native.Mathlib.Omega.{arith}

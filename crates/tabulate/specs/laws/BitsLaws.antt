@@ -4,7 +4,7 @@ use Rattle.std.proofs.Common.{arith, sym, ap, ◌∙◌, eq-eqb, ne_eqb, length-
 use Rattle.files.specs.Entries.{Entry, constant, global, template, tag_width}
 use Rattle.files.specs.Linear.{entry_bits, entries_bits}
 use Rattle.files.specs.laws.EntriesLaws.{width_none, width_narrow, width_wide}
-use Rattle.tree_file.proofs.laws.Written.{constant_length}
+use Rattle.tree_file.proofs.theorems.Written.{constant_length}
 use Rattle.tabulate.specs.Slots.{slot_of, Fits, AllFit, slots_of}
 use Rattle.tabulate.specs.Collect.{slot_bits, slots_bits}
 use Rattle.tabulate.specs.laws.WalkLaws.{width_48}

@@ -9,7 +9,7 @@ use Rattle.files.specs.Entries.{then}
 use Rattle.files.specs.Accepted.{or_lowest}
 use Rattle.files.specs.Linear.{bits_of}
 use Rattle.tree_file.specs.File.{templates_bits, file_bits, tree_file}
-use Rattle.tree_file.proofs.laws.Written.{file_length}
+use Rattle.tree_file.proofs.theorems.Written.{file_length}
 use Rattle.basic.specs.declared.BasicFile.{BasicFile}
 use Rattle.basic.specs.declared.BasicFile.TheVariants.{Read, Refused as RefusedFile}
 use Rattle.basic.specs.Basic.{Basic}
@@ -24,7 +24,7 @@ use Rattle.tabulate.specs.declared.Measured.TheVariants.{Large, Bits}
 use Rattle.tabulate.specs.declared.CheckedFile.TheVariants.{Accepted, Refused}
 use Rattle.tabulate.specs.Judge.{ListIn, FewIn, ClosedIs, all_closed, but_one, MeasuredIs, too_large, measured, JudgedIn, CheckedIs, accepted}
 use Rattle.tabulate.specs.Judge.{refused_file}
-use Rattle.basic.proofs.laws.WrittenLaws.{tabulated_length}
+use Rattle.basic.proofs.theorems.WrittenLaws.{tabulated_length}
 
 pub file_bits_lem : (c : Basic) → length (file_bits (tabulated c)) ≡ 8 + length (templates_bits (tabulated c))
 unfolding file_bits templates_bits bits_of

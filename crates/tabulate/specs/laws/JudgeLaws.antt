@@ -37,7 +37,7 @@ use Rattle.basic.specs.declared.Listed.{Listed}
 use Rattle.basic.specs.declared.Listed.TheVariants.{Refused as RefusedList}
 use Rattle.basic.specs.Told.{list_told}
 use Rattle.basic.specs.laws.StepLaws.{ListIs, list_refused}
-use Rattle.basic.proofs.laws.WrittenLaws.{closures_length}
+use Rattle.basic.proofs.theorems.WrittenLaws.{closures_length}
 use Rattle.files.specs.laws.AllGot.{got_value, refused_got}
 use Rattle.tabulate.specs.declared.Collected.{Collected}
 use Rattle.tabulate.specs.declared.Next.{Next}

@@ -10,9 +10,9 @@ use Rattle.files.specs.Linear.{bits_of, entry_bits, entries_bits}
 use Rattle.readback.specs.laws.Bits.{AreBits, length_bits}
 use Rattle.readback.specs.laws.Entries.{entries_are}
 use Rattle.readback.specs.laws.Lists.{bits_are, append_are}
-use Rattle.tree_file.proofs.laws.Written.{constant_length}
+use Rattle.tree_file.proofs.theorems.Written.{constant_length}
 use Rattle.bit_writer.specs.Put.{put_bits}
-use Rattle.bit_writer.proofs.laws.Laws.{put_length, put_next}
+use Rattle.bit_writer.proofs.theorems.Laws.{put_length, put_next}
 use Rattle.tabulate.specs.Slots.{slot_of, Fits, AllFit, slots_of}
 use Rattle.tabulate.specs.Collect.{SlotAt, slot_bits}
 use Rattle.tabulate.specs.Put.{PutAt, EntriesIn, Putting}

@@ -16,9 +16,9 @@ use Rattle.files.specs.laws.AllGot.{then_led, got_value, refused_got}
 use Rattle.readback.specs.laws.Bits.{length_bits}
 use Rattle.readback.specs.laws.Lists.{bits_are}
 use Rattle.bit_writer.specs.Put.{put_bits}
-use Rattle.bit_writer.proofs.laws.Laws.{put_length, put_next}
+use Rattle.bit_writer.proofs.theorems.Laws.{put_length, put_next}
 use Rattle.tree_file.specs.File.{templates_bits, file_bits, tree_file}
-use Rattle.tree_file.proofs.laws.Written.{file_length, put_tree}
+use Rattle.tree_file.proofs.theorems.Written.{file_length, put_tree}
 use Rattle.basic.specs.Basic.{Basic}
 use Rattle.basic.specs.Reading.{list_at, basic_read}
 use Rattle.basic.specs.Tabulated.{tabulated}
@@ -30,7 +30,7 @@ use Rattle.files.specs.declared.Outcome.TheVariants.{Written, Refused}
 use Rattle.tabulate.specs.Judge.{CheckedIs, accepted, refused_file}
 use Rattle.tabulate.specs.Put.{PutAt, TemplatesIn, WholeIn}
 use Rattle.tabulate.specs.laws.CheckLaws.{file_bits_lem}
-use Rattle.basic.proofs.laws.WrittenLaws.{tabulated_length}
+use Rattle.basic.proofs.theorems.WrittenLaws.{tabulated_length}
 
 -- ---- what was checked fits
 limits_led : (b c d : Bool) → (b && (c && d)) ≡ true → c ≡ true

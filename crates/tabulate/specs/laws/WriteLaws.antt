@@ -9,7 +9,7 @@ use Rattle.readback.specs.laws.Bits.{length_bits}
 use Rattle.readback.specs.laws.Entries.{entries_are}
 use Rattle.readback.specs.laws.Lists.{bits_are}
 use Rattle.bit_writer.specs.Put.{put_bits}
-use Rattle.bit_writer.proofs.laws.Laws.{put_length, put_next}
+use Rattle.bit_writer.proofs.theorems.Laws.{put_length, put_next}
 use Rattle.tree_file.specs.File.{list_bits, template_bits, templates_bits}
 use Rattle.tree_file.specs.laws.Lengths.{template_are, list_length}
 use Rattle.basic.specs.Basic.{Basic}
@@ -17,7 +17,7 @@ use Rattle.basic.specs.Tabulated.{entries_of, indexed, template_of, tabulated}
 use Rattle.basic.specs.Checked.{entries_fit}
 use Rattle.basic.specs.Forest.{closures_all, own_bits}
 use Rattle.basic.specs.laws.ReadLaws.{list_facts}
-use Rattle.basic.proofs.laws.EntryLaws.{uses_in}
+use Rattle.basic.proofs.theorems.EntryLaws.{uses_in}
 use Rattle.tabulate.specs.declared.Collected.TheVariants.{Many, Entries}
 use Rattle.tabulate.specs.declared.Next.TheVariants.{Nothing as NoNext, List as ListNext}
 use Rattle.tabulate.specs.Walk.{NextIs}

@@ -1,5 +1,5 @@
 -- `tree_machine::run_tree` meets its contract. Assumes nothing.
-use Rattle.machines.proofs.laws.Start.{may_start, start_goes, start_refused}
+use Rattle.machines.proofs.theorems.Start.{may_start, start_goes, start_refused}
 use Rattle.machines.specs.Runs.{tree_run}
 use native.Mathlib.Omega.{arith}
 use borrow.Author.Rules.{rules}

@@ -14,9 +14,9 @@ use Rattle.machines.specs.Machine.{Program, tree_program, no_counts, Ended}
 use Rattle.machines.specs.Runs.{reported, start_state, program_run}
 use Rattle.machines.specs.Steps.{ran_from}
 use Rattle.machines.specs.Slots.{slot_at}
-use Rattle.lockstep.proofs.laws.Frames.{Savable}
+use Rattle.lockstep.proofs.theorems.Frames.{Savable}
 use Rattle.lockstep.specs.laws.InStep.{Fetches, plain_f, return_f, call_f, branch_f, save_f, jump_f, bad_f, Paired, EndedR, no_counts_lem, run_alike}
-use Rattle.lockstep.proofs.laws.Same.{same_but_places, same_data, start_same}
+use Rattle.lockstep.proofs.theorems.Same.{same_but_places, same_data, start_same}
 use Rattle.tree_code.specs.Fetch.{linked_program}
 use Rattle.tree_machine.specs.laws.Look.{seen, Leads}
 use Rattle.tree_machine.specs.laws.Places.{Standing, fetches, starts_agree, start_stands, standing_fits}

@@ -3,7 +3,7 @@ use native.Mathlib.Omega.{arith}
 use mathlib.Core.Path.{◌≡◌, ◌∙◌, ap}
 use lib.ListN.{length}
 use Rattle.rewrite.specs.Tokens.{operand_count, TokensAt}
-use Rattle.trim.proofs.laws.MarkLaws.{Marking, marking_all, marking_none, marking_code, marking_small, marking_operands, marking_index, marking_on, mark_length}
+use Rattle.trim.proofs.theorems.MarkLaws.{Marking, marking_all, marking_none, marking_code, marking_small, marking_operands, marking_index, marking_on, mark_length}
 use borrow.Author.Rules.{rules}
 use Rattle.trim.proofs.mark_names.Given as goal
 

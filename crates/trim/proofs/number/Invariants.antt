@@ -2,7 +2,7 @@
 use Prim.Native.Nat.{◌-◌, ◌≤◌}
 use native.Mathlib.Omega.{arith}
 use mathlib.Core.Path.{◌≡◌, refl, sym, ◌∙◌}
-use Rattle.trim.proofs.laws.MarkLaws.{Numbering, numbering_none, numbering_fits, numbering_on, numbering_all}
+use Rattle.trim.proofs.theorems.MarkLaws.{Numbering, numbering_none, numbering_fits, numbering_on, numbering_all}
 use borrow.Author.Rules.{rules}
 use Rattle.trim.proofs.number.Given as goal
 

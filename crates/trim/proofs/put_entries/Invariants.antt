@@ -4,7 +4,7 @@ use native.Mathlib.Omega.{arith}
 use mathlib.Core.Path.{◌≡◌, refl, ap, ◌∙◌}
 use lib.ListN.{length}
 use Rattle.trim.specs.Standing.{EntriesIn}
-use Rattle.trim.proofs.laws.EntryLaws.{Entering, entering_none, entering_first, entering_size, entering_room, entering_on, entering_all, entry_inside}
+use Rattle.trim.proofs.theorems.EntryLaws.{Entering, entering_none, entering_first, entering_size, entering_room, entering_on, entering_all, entry_inside}
 use borrow.Author.Rules.{rules}
 use Rattle.trim.proofs.put_entries.Given as goal
 

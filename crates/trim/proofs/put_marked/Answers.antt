@@ -1,6 +1,6 @@
 -- `trim::put_marked` meets its contract. Assumes nothing.
 use native.Mathlib.Omega.{arith}
-use Rattle.trim.proofs.laws.EntryLaws.{marked_gone, marked_put}
+use Rattle.trim.proofs.theorems.EntryLaws.{marked_gone, marked_put}
 use borrow.Author.Rules.{rules}
 use Rattle.trim.proofs.put_marked.Goals as goal
 

@@ -2,9 +2,9 @@
 use native.Mathlib.Omega.{arith}
 use mathlib.Core.Path.{ap, ◌∙◌}
 use lib.ListN.{length}
-use Rattle.bit_writer.proofs.laws.Laws.{put_length}
-use Rattle.trim.proofs.laws.MarkLaws.{span_tokens}
-use Rattle.trim.proofs.laws.TemplateLaws.{count_few, span_places, template_room, template_entries, template_put}
+use Rattle.bit_writer.proofs.theorems.Laws.{put_length}
+use Rattle.trim.proofs.theorems.MarkLaws.{span_tokens}
+use Rattle.trim.proofs.theorems.TemplateLaws.{count_few, span_places, template_room, template_entries, template_put}
 use borrow.Author.Rules.{rules}
 use Rattle.trim.proofs.put_template.Goals as goal
 

@@ -1,7 +1,7 @@
 -- `trim::trim` meets its contract: as the file was judged. Assumes nothing.
 use mathlib.Core.Path.{refl, sym, ◌∙◌}
 use Rattle.tree.specs.laws.Judged.{judged_refused}
-use Rattle.trim.proofs.laws.WholeLaws.{judged_file, all_refused}
+use Rattle.trim.proofs.theorems.WholeLaws.{judged_file, all_refused}
 use Rattle.files.specs.laws.RoomLaws.{all_rows}
 use borrow.Author.Rules.{rules}
 use Rattle.trim.proofs.trim.Goals as goal

@@ -3,9 +3,9 @@ use native.Mathlib.Omega.{arith}
 use mathlib.Core.Path.{refl, sym, ap, subst, ◌∙◌}
 use lib.ListN.{length}
 use Rattle.trim.specs.laws.StandLaws.{count_in}
-use Rattle.trim.proofs.laws.TemplateLaws.{count_few}
+use Rattle.trim.proofs.theorems.TemplateLaws.{count_few}
 use Rattle.trim.specs.laws.LineLaws.{put_same}
-use Rattle.trim.proofs.laws.BothLaws.{head_inside, span_next, with_list_lem, gone_both, kept_both}
+use Rattle.trim.proofs.theorems.BothLaws.{head_inside, span_next, with_list_lem, gone_both, kept_both}
 use borrow.Author.Rules.{rules}
 use Rattle.trim.proofs.trim_template.Goals as goal
 

@@ -40,9 +40,9 @@ use Rattle.readback.specs.Lists.{bits_from}
 use Rattle.readback.specs.laws.Lists.{bits_are, from_append, from_are, from_length, field_bits}
 use Rattle.readback.specs.laws.Standing.{entries_stand, entries_copied_lem}
 use Rattle.bit_writer.specs.Put.{put_bits}
-use Rattle.bit_writer.proofs.laws.Laws.{put_next, put_length}
+use Rattle.bit_writer.proofs.theorems.Laws.{put_next, put_length}
 use Rattle.tree_file.specs.File.{list_bits, template_bits, templates_bits, file_bits, tree_file}
-use Rattle.tree_file.proofs.laws.Written.{file_length, put_tree}
+use Rattle.tree_file.proofs.theorems.Written.{file_length, put_tree}
 use Rattle.tree_file.specs.laws.Lengths.{list_length, template_length, template_are}
 use Rattle.linear.specs.declared.Checked.{Checked}
 use Rattle.linear.specs.declared.Checked.TheVariants.{Accepted, Refused as RefusedFile}
@@ -51,7 +51,7 @@ use Rattle.lists.specs.Facts.{slot_named, slots_fit}
 use Rattle.lists.specs.laws.SlotLaws.{Row, slots_named}
 use Rattle.back.specs.Unflat.{on, test}
 use Rattle.back.specs.laws.ListBack.{back, list_back}
-use Rattle.back.proofs.laws.Lists.{flat_back}
+use Rattle.back.proofs.theorems.Lists.{flat_back}
 use Rattle.unflatten.specs.declared.Found.{Found}
 use Rattle.unflatten.specs.declared.Found.TheVariants.{Nothing, Past}
 use Rattle.unflatten.specs.declared.Grown.{Grown}

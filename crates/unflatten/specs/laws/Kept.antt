@@ -14,7 +14,7 @@ use Rattle.files.specs.Grammar.{each_neutral}
 use Rattle.back.specs.Unflat.{ends_in_jump, last_offset, before_jump, on, test, neutral_back, open_arms, closed_arms, arms_back, unless_back, cont_back, end_back}
 use Rattle.back.specs.Unflat.{first_back, view}
 use Rattle.back.specs.laws.ListBack.{back}
-use Rattle.back.proofs.laws.Steps.{back_nothing, back_first}
+use Rattle.back.proofs.theorems.Steps.{back_nothing, back_first}
 use Rattle.unflatten.specs.Found.{kept, found}
 
 -- ---- tests before and after

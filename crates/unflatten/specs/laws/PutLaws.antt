@@ -20,7 +20,7 @@ use Rattle.readback.specs.laws.Bits.{AreBits, length_bits}
 use Rattle.readback.specs.Lists.{bits_from}
 use Rattle.readback.specs.laws.Lists.{none_are, bits_are, append_are, from_append}
 use Rattle.bit_writer.specs.Put.{put_bits}
-use Rattle.bit_writer.proofs.laws.Laws.{put_next, put_length}
+use Rattle.bit_writer.proofs.theorems.Laws.{put_next, put_length}
 use Rattle.tree_file.specs.File.{operands_bits, list_bits, instr_bits}
 use Rattle.tree_file.specs.laws.Lengths.{operands_length, list_length, list_are, instr_length}
 use Rattle.tree_file.specs.laws.Lengths.{list_put as list_bits_put}

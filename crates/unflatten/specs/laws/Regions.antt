@@ -6,7 +6,7 @@ use Rattle.std.proofs.Math.Path.{refl, ap}
 use Rattle.std.proofs.Math.ListN.{length}
 use Rattle.std.proofs.Math.Seq.{slice, slice_empty, slice-cons, length-slice, drop-drop, take-nil, get_or-drop, get_or-take}
 use Rattle.back.specs.Unflat.{after, scan, ends_in_jump}
-use Rattle.back.proofs.laws.Jumps.{scan_skip, scan_cut}
+use Rattle.back.proofs.theorems.Jumps.{scan_skip, scan_cut}
 use Rattle.unflatten.specs.Found.{part}
 
 take_drop : (n p : ℕ) (m : List ℕ) → take n (drop p m) ≡ drop p (take (p + n) m)

@@ -19,11 +19,11 @@ use Rattle.readback.specs.laws.Led.{cond_led}
 use Rattle.readback.specs.laws.Templates.{linears}
 use Rattle.readback.specs.laws.ReadBack.{flattened_reads}
 use Rattle.tree_file.specs.File.{template_bits, templates_bits, file_bits, tree_file, placed}
-use Rattle.tree_file.proofs.laws.Canonical.{tree_canonical}
+use Rattle.tree_file.proofs.theorems.Canonical.{tree_canonical}
 use Rattle.back.specs.laws.ListBack.{list_back}
-use Rattle.back.proofs.laws.Files.{one_file}
-use Rattle.back.proofs.laws.Shelf.{Backs, no_more, one_more, flattens_back}
-use Rattle.back.proofs.laws.Whole.{back_file}
+use Rattle.back.proofs.theorems.Files.{one_file}
+use Rattle.back.proofs.theorems.Shelf.{Backs, no_more, one_more, flattens_back}
+use Rattle.back.proofs.theorems.Whole.{back_file}
 use Rattle.cells.specs.Numbers.{no_tree}
 use Rattle.unflatten.specs.Back.{or_stuck, template_of, templates_back, given, backed}
 

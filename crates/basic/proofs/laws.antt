@@ -1,4 +1,0 @@
--- Laws of the crate basic that rest on definitions which must-fail edits change: in specs/ such an edit would read as one that cannot be read.
-pub mod AcceptedLaws
-pub mod EntryLaws
-pub mod WrittenLaws

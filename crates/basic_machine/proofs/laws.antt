@@ -1,7 +1,0 @@
--- Laws of the crate basic_machine that rest on definitions which must-fail edits change: in specs/ such an edit would read as one that cannot be read.
-pub mod FollowLaws
-pub mod Found
-pub mod RunLaws
-pub mod Runs
-pub mod Starts
-pub mod TurnLaws

@@ -1,0 +1,7 @@
+-- Laws that rest on definitions which must-fail edits change: beside these, in specs/, such an edit would read as one that cannot be read.
+pub mod FollowLaws
+pub mod Found
+pub mod RunLaws
+pub mod Runs
+pub mod Starts
+pub mod TurnLaws

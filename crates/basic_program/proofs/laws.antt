@@ -1,3 +1,0 @@
--- Laws of the crate basic_program that rest on definitions which must-fail edits change: in specs/ such an edit would read as one that cannot be read.
-pub mod Bodies
-pub mod Spots

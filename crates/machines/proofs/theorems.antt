@@ -1,0 +1,2 @@
+-- Laws that rest on definitions which must-fail edits change: beside these, in specs/, such an edit would read as one that cannot be read.
+pub mod Start

@@ -1,5 +1,0 @@
--- Laws of the crate tree_file that rest on definitions which must-fail edits change: in specs/ such an edit would read as one that cannot be read.
-pub mod Back
-pub mod Canonical
-pub mod Standing
-pub mod Written

@@ -1,0 +1,5 @@
+-- Laws that rest on definitions which must-fail edits change: beside these, in specs/, such an edit would read as one that cannot be read.
+pub mod Back
+pub mod Canonical
+pub mod Standing
+pub mod Written
