@@ -6,7 +6,7 @@ use native.Mathlib.Omega.{arith}
 use native.Mathlib.Nat.{add-zero, sub-zero, zero-sub, suc-sub-suc}
 use lib.ListN.{length, get_or, take, drop, length-take, length-drop, drop_of_length-le, get_or-eq_default}
 use lib.Seq.{take-nil, drop-cons, drop-drop, get_or-take, get_or-drop}
-use borrow.Author.Tests.{lt-ltb, le-ltb, le-leb, lt-leb, ne_eqb}
+use borrow.Author.Tests.{le-leb, lt-leb, ne_eqb}
 use mathlib.Core.Bool.{true, false}
 use Rattle.cells.specs.laws.Laws.{clash}
 use Rattle.runs.specs.Runs.{part}

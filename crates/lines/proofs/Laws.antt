@@ -7,7 +7,6 @@ use borrow.Author.Tests.{le-leb, lt-leb}
 use lib.ListN.{length}
 use lib.Seq.{sets-eq}
 use Rattle.text.specs.Put.{Put}
-use Rattle.files.specs.declared.Outcome.{Outcome}
 use Rattle.files.specs.declared.Outcome.TheVariants.{Written, Refused}
 use Rattle.lines.specs.Lines.{printed, program_output}
 

@@ -1,5 +1,5 @@
 -- What is refused before any run, and the answer. Assumes nothing.
-use Prim.Native.Nat.{ℕ, zero, suc, ◌+◌, ◌-◌, ◌*◌, ◌/◌, ◌%◌, ◌≤◌, ◌<◌}
+use Prim.Native.Nat.{ℕ, suc, ◌+◌, ◌-◌, ◌*◌, ◌/◌, ◌%◌, ◌≤◌, ◌<◌}
 use native.Mathlib.Numerals.{add-one}
 use native.Mathlib.Omega.{arith}
 use mathlib.Core.Path.{◌≡◌, refl, sym, ap, ◌∙◌}
@@ -26,7 +26,7 @@ use Rattle.text.specs.Put.{Put}
 use Rattle.files.specs.declared.Outcome.{Outcome}
 use Rattle.files.specs.declared.Outcome.TheVariants.{Written, Refused as RefusedList}
 use Rattle.pull.specs.Pull.{clip_count, clip_at, word, whole_clips, lowest_still, speeds_checked, room_checked, clips_checked}
-use Rattle.pull.specs.Pull.{file_checked, and_then, pull_checked, pull_list, answered, listed, pulled, pulled_list, bytes_of}
+use Rattle.pull.specs.Pull.{pull_checked, pull_list, answered, listed, pulled, pulled_list, bytes_of}
 use Rattle.pull.proofs.Words.{word_fits}
 use Rattle.pull.proofs.Clips.{clip_word}
 

@@ -8,7 +8,7 @@ use native.Mathlib.Omega.{arith}
 use lib.Dec.{eqb}
 use lib.IntN.{ℤ}
 use lib.ListN.{get_or, take}
-use borrow.Author.Tests.{lt-ltb, le-ltb, le-leb, eq-eqb, ne_eqb}
+use borrow.Author.Tests.{lt-ltb, le-ltb, eq-eqb, ne_eqb}
 use Rattle.cells.specs.Cells.{half, full, tag_of, int_cell, int_of, layer_parent, layer_count}
 use Rattle.integers.specs.Integers.{signed, within, int_bits, all_integers, total_of, is_zero, floor_quotient}
 use Rattle.integers.specs.Answers.{ranged_of, sum_of}

@@ -7,13 +7,12 @@ use lib.ListN.{length}
 use Rattle.owners.specs.declared.Owner.{Owner}
 use Rattle.rules.specs.declared.Regs.{Regs}
 use Rattle.machines.specs.Fetched.{Fetched}
-use Rattle.machines.specs.Machine.{Program, State, act, step}
+use Rattle.machines.specs.Machine.{Program, act, step}
 use Rattle.machines.specs.Runs.{Memory, memory, Ran}
 use Rattle.machines.specs.Slots.{slot_at}
 use Rattle.machines.specs.Steps.{ran_from}
-use Rattle.machines.specs.Instruction.{number, Form, tree_form, fetched_as, Of}
+use Rattle.machines.specs.Instruction.{number, Form, tree_form, Of}
 use Rattle.machines.specs.declared.CodePlace.{CodePlace}
-use Rattle.machines.specs.declared.Instruction.{Instruction}
 use Rattle.steps.specs.Step.{CodeReady, start_at, control, state_of, Taken, StepReady}
 use Rattle.steps.specs.declared.Control.{Control}
 use Rattle.steps.specs.declared.OneStep.{OneStep}

@@ -2,14 +2,14 @@
 use Rattle.std.specs.Prelude.{ℕ, suc, max, ◌≤◌, ◌≡◌, Bool, false, ◌||◌, List, ◌↔◌, length}
 use Rattle.std.proofs.Common.{arith, sym, ap, ◌∙◌}
 use Rattle.std.proofs.Math.Bool.{true}
-use Rattle.std.proofs.Math.Option.{Option, none, some}
+use Rattle.std.proofs.Math.Option.{none, some}
 use Rattle.files.specs.Code.{Code}
 use Rattle.files.specs.Entries.{Entry}
 use Rattle.files.specs.Grammar.{is_empty, is_open, is_closed, indices_fit}
 use Rattle.files.specs.Flat.{flat, offsets_fit}
 use Rattle.files.specs.Valid.{Bytes, Valid}
 use Rattle.tree_file.specs.File.{levels}
-use Rattle.back.specs.Unflat.{on, test, unflat}
+use Rattle.back.specs.Unflat.{on, test}
 use Rattle.back.specs.laws.Formed.{Formed, loose_is, closed_formed, loose_formed}
 use Rattle.back.specs.laws.Good.{Good}
 use Rattle.back.specs.laws.GoodLaws.{good, good_formed, good_valid, good_levels, good_offsets, closed_is}

@@ -1,15 +1,9 @@
 -- `basic::read_branch`, `read_closure`, `read_item`, `read_list`, `read_saved` meet their contracts: a list is read one instruction at a time; each list of an instruction has one level less below it. Assumes nothing.
-use Rattle.basic.specs.laws.StepLaws.{is_end_lem, is_closure, is_branch, is_literal, is_global, is_refused, is_save_lem}
-use Rattle.basic.specs.laws.StepLaws.{carries_step, told_ending_step, told_neutral_step, closure_level, branch_level, save_level}
-use Rattle.basic.specs.laws.StepLaws.{closure_step, closure_bad, save_step, save_bad, branch_step, branch_bad, branch_bad_2, end_step, bad_step}
-use Rattle.basic.specs.laws.StepLaws.{list_is, list_refused, inside_few, told_begun, turn_end, turn_more, turn_bad, turn_bits, turned, stepped, deeper, up}
 use Rattle.basic.specs.Told.{list_told, told_from}
 use Rattle.basic.specs.Reading.{list_at}
 use lib.ListN.{length}
-use mathlib.Core.Path.{◌≡◌, refl, sym, ap, ◌∙◌}
-use native.Mathlib.Omega.{arith}
-use borrow.Author.Rules.{rules}
-use Prim.Native.Nat.{ℕ, ◌+◌, ◌*◌, ◌-◌, ◌≤◌, ◌<◌}
+use mathlib.Core.Path.{◌≡◌}
+use Prim.Native.Nat.{◌+◌, ◌*◌, ◌-◌, ◌≤◌}
 use Rattle.basic.proofs.+read_branch_read_closure_read_item_read_list_read_saved.Given as goal
 
 abbrev pub decreases-read_branch : goal.decreases-read_branch

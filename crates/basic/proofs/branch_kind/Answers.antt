@@ -1,7 +1,6 @@
 -- `basic::branch_kind` meets its contract: by its tests. Assumes nothing.
 use Rattle.basic.specs.Told.{branch_kind}
 use mathlib.Core.Path.{refl, sym, ◌∙◌}
-use borrow.Author.Rules.{rules}
 use Rattle.basic.proofs.branch_kind.Goals as goal
 
 pub returns-then-both : goal.returns-then-both

@@ -1,7 +1,6 @@
 -- `basic::kind_after` meets its contract: by the kind. Assumes nothing.
 use Rattle.basic.specs.Told.{kind_after}
 use mathlib.Core.Path.{refl}
-use borrow.Author.Rules.{rules}
 use Rattle.basic.proofs.kind_after.Goals as goal
 
 pub returns-in-Neutral : goal.returns-in-Neutral

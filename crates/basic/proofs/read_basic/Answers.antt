@@ -1,9 +1,8 @@
 -- `basic::read_basic` meets its contract: 1, the list, its padding, the end. Assumes nothing.
 use Rattle.basic.specs.laws.FileLaws.{file_long, file_unread, padding_within, file_padding, file_more, file_whole}
 use Rattle.basic.specs.laws.StepLaws.{list_is, list_refused}
-use mathlib.Core.Path.{sym, ap, ◌∙◌}
+use mathlib.Core.Path.{sym, ◌∙◌}
 use native.Mathlib.Omega.{arith}
-use borrow.Author.Rules.{rules}
 use Rattle.basic.proofs.read_basic.Goals as goal
 
 pub returns-then-s-gt65536 : goal.returns-then-s-gt65536

@@ -1,7 +1,6 @@
 -- `basic::read_global` meets its contract: the number is there or cut. Assumes nothing.
 use Rattle.files.specs.laws.EntriesSteps.{field_cut, field_read_lem}
 use Rattle.basic.specs.laws.TokenLaws.{global_cut, global_read}
-use borrow.Author.Rules.{rules}
 use Rattle.basic.proofs.read_global.Goals as goal
 
 pub returns-in_default : goal.returns-in_default

@@ -1,8 +1,6 @@
 -- `basic::read_literal` meets its contract: kind, tag, value. Assumes nothing.
-use native.Mathlib.Omega.{arith}
 use Rattle.files.specs.laws.EntriesSteps.{field_cut, field_read_lem, field_within}
 use Rattle.basic.specs.laws.TokenLaws.{kind_cut, kind_bad, tag_cut, tag_read}
-use borrow.Author.Rules.{rules}
 use Rattle.basic.proofs.read_literal.Goals as goal
 
 pub returns-in_default : goal.returns-in_default

@@ -2,7 +2,6 @@
 use native.Mathlib.Omega.{arith}
 use Rattle.files.specs.laws.EntriesSteps.{field_cut, field_read_lem}
 use Rattle.basic.specs.laws.TokenLaws.{no_operands, one_operand, two_operands, first_cut, second_cut}
-use borrow.Author.Rules.{rules}
 use Rattle.basic.proofs.read_plain.Goals as goal
 
 pub returns-then-shape-eq1 : goal.returns-then-shape-eq1

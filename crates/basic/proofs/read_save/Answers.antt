@@ -2,7 +2,6 @@
 use Rattle.files.specs.laws.EntriesSteps.{field_cut, field_read_lem}
 use Rattle.basic.specs.Basic.{save_t}
 use Rattle.basic.specs.laws.TokenLaws.{number_cut, save_read}
-use borrow.Author.Rules.{rules}
 use Rattle.basic.proofs.read_save.Goals as goal
 
 pub returns-in_default : goal.returns-in_default

@@ -1,9 +1,7 @@
 -- `basic::read_shaped` meets its contract: by its code's shape. Assumes nothing.
 use native.Mathlib.Omega.{arith}
-use mathlib.Core.Path.{sym, ◌∙◌}
 use Rattle.basic.specs.laws.TokenLaws.{shaped_end, shaped_deep, shaped_branch, shaped_save, shaped_bad}
 use Rattle.basic.specs.laws.TokenLaws.{few_left}
-use borrow.Author.Rules.{rules}
 use Rattle.basic.proofs.read_shaped.Goals as goal
 
 pub returns-then-levels-eq0 : goal.returns-then-levels-eq0

@@ -1,8 +1,6 @@
 -- `basic::read_token` meets its contract: by its code. Assumes nothing.
-use native.Mathlib.Omega.{arith}
 use Rattle.files.specs.laws.EntriesSteps.{field_cut, field_read_lem, field_below}
 use Rattle.basic.specs.laws.TokenLaws.{code_cut, code_literal, code_deep, code_closure, code_global, code_set_global, code_other}
-use borrow.Author.Rules.{rules}
 use Rattle.basic.proofs.read_token.Goals as goal
 
 pub returns-in_default : goal.returns-in_default

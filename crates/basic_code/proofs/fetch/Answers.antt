@@ -1,9 +1,7 @@
 -- `basic_code::fetch` meets its contract. Assumes nothing.
-use mathlib.Core.Path.{refl, sym, ◌∙◌}
-use Rattle.lists.specs.laws.ReadLaws.{read_below}
+use mathlib.Core.Path.{sym, ◌∙◌}
 use Rattle.basic_code.specs.Fetch.{SavedFits}
 use Rattle.basic_code.specs.laws.FetchSteps.{no_template_lem, here_away, here_0}
-use borrow.Author.Rules.{rules}
 use borrow.Author.Tests.{eqb-true, eqb-false}
 use Rattle.basic_code.proofs.fetch.Goals as goal
 

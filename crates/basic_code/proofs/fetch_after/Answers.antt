@@ -1,5 +1,5 @@
 -- `basic_code::fetch_after` meets its contract. Assumes nothing.
-use mathlib.Core.Path.{refl, sym, ◌∙◌}
+use mathlib.Core.Path.{sym, ◌∙◌}
 use Rattle.lists.specs.laws.ReadLaws.{read_below}
 use Rattle.basic_code.specs.Fetch.{SavedFits}
 use Rattle.basic_code.specs.laws.FetchSteps.{nowhere_led, cut_led, code_led}

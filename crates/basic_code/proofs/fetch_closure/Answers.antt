@@ -1,10 +1,8 @@
 -- `basic_code::fetch_closure` meets its contract. Assumes nothing.
-use native.Mathlib.Omega.{arith}
-use mathlib.Core.Path.{refl, ap, ◌∙◌}
+use mathlib.Core.Path.{ap, ◌∙◌}
 use Prim.Native.Nat.{◌/◌, ◌%◌}
 use Rattle.basic_code.specs.Fetch.{SavedFits}
 use Rattle.basic_code.specs.laws.FetchSteps.{closure_read}
-use borrow.Author.Rules.{rules}
 use Rattle.basic_code.proofs.fetch_closure.Goals as goal
 
 pub returns : goal.returns

@@ -1,8 +1,6 @@
 -- `basic_code::fetch_code` meets its contract. Assumes nothing.
-use native.Mathlib.Omega.{arith}
 use mathlib.Core.Path.{◌∙◌}
 use Rattle.basic_code.specs.laws.FetchSteps.{other_read}
-use borrow.Author.Rules.{rules}
 use Rattle.basic_code.proofs.fetch_code.Goals as goal
 
 pub returns-in-6 : goal.returns-in-6

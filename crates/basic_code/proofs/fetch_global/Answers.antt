@@ -1,10 +1,9 @@
 -- `basic_code::fetch_global` meets its contract. Assumes nothing.
 use native.Mathlib.Omega.{arith}
-use mathlib.Core.Path.{refl, sym, ◌∙◌}
+use mathlib.Core.Path.{sym, ◌∙◌}
 use Rattle.lists.specs.laws.ReadLaws.{read_below}
 use Rattle.basic_code.specs.Fetch.{SavedFits}
 use Rattle.basic_code.specs.laws.FetchSteps.{global_read, set_global_read, global_cut}
-use borrow.Author.Rules.{rules}
 use Rattle.basic_code.proofs.fetch_global.Goals as goal
 
 pub returns-in_default : goal.returns-in_default

@@ -1,10 +1,9 @@
 -- `basic_code::fetch_here` meets its contract. Assumes nothing.
-use mathlib.Core.Path.{refl, sym, ◌∙◌}
+use mathlib.Core.Path.{sym, ◌∙◌}
 use Rattle.lists.specs.laws.ReadLaws.{read_below}
 use Rattle.basic_code.specs.Fetch.{SavedFits}
 use Rattle.basic_code.specs.laws.FetchSteps.{cut_here, end_here, code_here}
 use borrow.Author.Rules.{rules}
-use borrow.Author.Tests.{eqb-true, eqb-false}
 use Rattle.basic_code.proofs.fetch_here.Goals as goal
 
 pub returns-in_default : goal.returns-in_default

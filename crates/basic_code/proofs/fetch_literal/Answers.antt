@@ -1,8 +1,7 @@
 -- `basic_code::fetch_literal` meets its contract. Assumes nothing.
-use mathlib.Core.Path.{refl, sym, ◌∙◌}
+use mathlib.Core.Path.{sym, ◌∙◌}
 use Rattle.basic_code.specs.Fetch.{SavedFits}
 use Rattle.basic_code.specs.laws.FetchSteps.{literal_read, literal_none}
-use borrow.Author.Rules.{rules}
 use Rattle.basic_code.proofs.fetch_literal.Goals as goal
 
 pub returns-in-Slot : goal.returns-in-Slot

@@ -3,8 +3,7 @@ use Rattle.basic_code.specs.Fetch.{SavedFits}
 use Rattle.basic_code.specs.laws.FetchSteps.{save_cut, save_read, read_fits}
 use Rattle.lists.specs.laws.ReadLaws.{read_below}
 use native.Mathlib.Omega.{arith}
-use mathlib.Core.Path.{refl, sym, ◌∙◌}
-use borrow.Author.Rules.{rules}
+use mathlib.Core.Path.{sym, ◌∙◌}
 use Rattle.basic_code.proofs.fetch_save.Goals as goal
 
 pub returns-in_default : goal.returns-in_default

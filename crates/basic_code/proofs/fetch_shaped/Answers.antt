@@ -1,9 +1,8 @@
 -- `basic_code::fetch_shaped` meets its contract. Assumes nothing.
-use mathlib.Core.Path.{refl, sym, ap, ◌∙◌}
+use mathlib.Core.Path.{sym, ap, ◌∙◌}
 use Rattle.basic_code.specs.Fetch.{SavedFits}
 use Rattle.basic_code.specs.Fetch.{shaped_as}
 use Rattle.basic_code.specs.laws.FetchSteps.{shape_is, return_read, none_read_lem, branch_read, no_code}
-use borrow.Author.Rules.{rules}
 use Rattle.basic_code.proofs.fetch_shaped.Goals as goal
 
 pub returns-then-code-eq1 : goal.returns-then-code-eq1

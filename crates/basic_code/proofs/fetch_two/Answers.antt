@@ -3,8 +3,7 @@ use Rattle.basic_code.specs.Fetch.{SavedFits}
 use Rattle.basic_code.specs.laws.FetchSteps.{operand_cut, second_cut, two_read}
 use Rattle.lists.specs.laws.ReadLaws.{read_below}
 use native.Mathlib.Omega.{arith}
-use mathlib.Core.Path.{refl, sym, ◌∙◌}
-use borrow.Author.Rules.{rules}
+use mathlib.Core.Path.{sym, ◌∙◌}
 use Rattle.basic_code.proofs.fetch_two.Goals as goal
 
 pub returns-in_default : goal.returns-in_default

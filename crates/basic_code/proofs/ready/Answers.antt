@@ -1,7 +1,6 @@
 -- `basic_code::ready` meets its contract. Assumes nothing.
 use Rattle.basic_code.specs.Fetch.{SavedFits}
 use Rattle.basic_code.specs.laws.FetchSteps.{ready_read, unready_read}
-use borrow.Author.Rules.{rules}
 use Rattle.basic_code.proofs.ready.Goals as goal
 
 pub returns-in-Fit : goal.returns-in-Fit

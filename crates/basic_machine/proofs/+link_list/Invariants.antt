@@ -1,13 +1,9 @@
 -- The cycle of `basic_machine::link_list`: a list within a list begins further on; within a list unread bits fall. Assumes nothing.
-use Prim.Native.Nat.{ℕ, ◌+◌, ◌*◌, ◌-◌, ◌<◌, ◌≤◌}
-use native.Mathlib.Omega.{arith}
-use mathlib.Core.Path.{◌≡◌, refl, sym, ap, ◌∙◌}
+use Prim.Native.Nat.{◌*◌, ◌-◌, ◌≤◌}
+use mathlib.Core.Path.{◌≡◌}
 use lib.ListN.{length}
-use borrow.Author.Rules.{rules}
-use Rattle.links.specs.Links.{link}
 use Rattle.basic.specs.Basic.{Basic}
 use Rattle.basic_machine.specs.Pass.{Reads, Going}
-use Rattle.basic_machine.proofs.theorems.TurnLaws.{reads_within, begun, parted_as, onward_small, turn_end, turn_simple, turn_closure, turn_arms, turn_saved, turn_bad}
 use Rattle.basic_machine.proofs.+link_list.Given as goal
 
 abbrev pub decreases-link_list : goal.decreases-link_list

@@ -1,8 +1,7 @@
 -- `basic_machine::arms_parts` meets its contract. Assumes nothing.
-use mathlib.Core.Path.{refl, sym, ◌∙◌}
+use mathlib.Core.Path.{sym, ◌∙◌}
 use Rattle.basic.specs.laws.StepLaws.{list_is, list_refused}
 use Rattle.basic_machine.specs.laws.PassLaws.{arms_parted, none_first, none_second}
-use borrow.Author.Rules.{rules}
 use Rattle.basic_machine.proofs.arms_parts.Goals as goal
 
 pub returns-in-Done-read_list : goal.returns-in-Done-read_list

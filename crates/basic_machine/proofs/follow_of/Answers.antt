@@ -1,7 +1,6 @@
 -- `basic_machine::follow_of` meets its contract. Assumes nothing.
-use mathlib.Core.Path.{refl, sym, ◌∙◌}
+use mathlib.Core.Path.{sym, ◌∙◌}
 use Rattle.basic_machine.proofs.theorems.FollowLaws.{follow_cut, follow_end, follow_on}
-use borrow.Author.Rules.{rules}
 use Rattle.basic_machine.proofs.follow_of.Goals as goal
 
 pub returns-in_default : goal.returns-in_default

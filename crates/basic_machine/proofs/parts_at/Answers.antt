@@ -1,8 +1,6 @@
 -- `basic_machine::parts_at` meets its contract. Assumes nothing.
-use mathlib.Core.Path.{refl, sym, ◌∙◌}
 use Rattle.basic.specs.laws.StepLaws.{turned, is_end_lem, is_closure, is_branch, is_literal, is_global, is_refused, is_save_lem}
 use Rattle.basic_machine.specs.laws.PassLaws.{end_parted, plain_parted, carries_parted, none_refused, is_ending, is_plain}
-use borrow.Author.Rules.{rules}
 use Rattle.basic_machine.proofs.parts_at.Goals as goal
 
 pub returns-in-End : goal.returns-in-End

@@ -1,7 +1,6 @@
 -- `basic_machine::put_start` meets its contract. Assumes nothing.
 use mathlib.Core.Path.{refl, sym}
 use lib.Seq.{set_out}
-use borrow.Author.Rules.{rules}
 use Rattle.basic_machine.proofs.put_start.Goals as goal
 
 pub returns-then-i-table : goal.returns-then-i-table

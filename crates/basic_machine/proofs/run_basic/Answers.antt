@@ -2,7 +2,6 @@
 use Rattle.machines.specs.Start.{zeros}
 use Rattle.machines.proofs.theorems.Start.{may_start}
 use mathlib.Core.Path.{refl}
-use borrow.Author.Rules.{rules}
 use Rattle.basic_machine.proofs.theorems.RunLaws.{run_goes, run_refused}
 use Rattle.basic_machine.proofs.run_basic.Goals as goal
 

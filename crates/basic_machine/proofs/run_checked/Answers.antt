@@ -1,6 +1,5 @@
 -- `basic_machine::run_checked` meets its contract. Assumes nothing.
 use Rattle.basic_machine.proofs.theorems.RunLaws.{file_short, file_accepted, file_refused}
-use borrow.Author.Rules.{rules}
 use Rattle.basic_machine.proofs.run_checked.Goals as goal
 
 pub run_accepted-requires : goal.run_accepted-requires

@@ -2,7 +2,6 @@
 use Prim.Native.Nat.{◌≤◌}
 use native.Mathlib.Omega.{arith}
 use lib.ListN.{length}
-use borrow.Author.Rules.{rules}
 use Rattle.basic_machine.proofs.run_file.Goals as goal
 
 pub run_checked-requires-else-file-le4096 : goal.run_checked-requires-else-file-le4096

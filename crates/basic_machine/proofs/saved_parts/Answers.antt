@@ -1,8 +1,7 @@
 -- `basic_machine::saved_parts` meets its contract. Assumes nothing.
-use mathlib.Core.Path.{refl, sym, ◌∙◌}
+use mathlib.Core.Path.{sym, ◌∙◌}
 use Rattle.basic.specs.laws.StepLaws.{list_is, list_refused}
 use Rattle.basic_machine.specs.laws.PassLaws.{saved_parted, none_saved}
-use borrow.Author.Rules.{rules}
 use Rattle.basic_machine.proofs.saved_parts.Goals as goal
 
 pub returns-in-Done : goal.returns-in-Done

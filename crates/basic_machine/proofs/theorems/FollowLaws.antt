@@ -7,9 +7,8 @@ use Rattle.cells.specs.declared.BitPlace.{BitPlace}
 use Rattle.fields.specs.declared.Field.{Field}
 use Rattle.fields.specs.declared.Field.TheVariants.{Read, Cut}
 use Rattle.fields.specs.Field.{field_read}
-use Rattle.files.specs.Reading.{Got, got, refused}
 use Rattle.files.specs.Entries.{then, field_got, field}
-use Rattle.basic.specs.Basic.{Basic, ended, plain, carries, closure, branch, save, bits, Token, ended_t}
+use Rattle.basic.specs.Basic.{Basic, ended, plain, carries, closure, branch, save, bits}
 use Rattle.basic.specs.Reading.{code_at, token_at}
 use Rattle.basic_machine.specs.Links.{onward}
 use Rattle.basic_machine.specs.Pass.{Reads, Parted, end_p}

@@ -1,6 +1,6 @@
 -- What the links find at each place of a list is what stands there. Assumes nothing.
-use Rattle.std.specs.Prelude.{ℕ, zero, suc, ◌+◌, ◌*◌, ◌/◌, ◌%◌, ◌≤◌, ◌<◌, ◌≡◌, cond, eqb, length, get_or}
-use Rattle.std.proofs.Common.{arith, sym, ap, ◌∙◌, inl, inr}
+use Rattle.std.specs.Prelude.{ℕ, suc, ◌+◌, ◌*◌, ◌/◌, ◌%◌, ◌≤◌, ◌<◌, ◌≡◌, length, get_or}
+use Rattle.std.proofs.Common.{arith, inl, inr}
 use Rattle.std.proofs.Math.Path.{refl}
 use mathlib.Core.List.{List, []}
 use Rattle.std.proofs.Math.Option.{Option, none, some}
@@ -8,7 +8,6 @@ use borrow.Author.Tests.{eq-eqb, ne_eqb, lt-ltb, le-ltb}
 use Rattle.cells.specs.laws.Laws.{clash}
 use Rattle.fields.specs.Field.{field_read}
 use Rattle.files.specs.Code.{bits as treeBits}
-use Rattle.files.specs.Reading.{got}
 use Rattle.files.specs.Entries.{Entry}
 use Rattle.files.specs.Grammar.{entry_of}
 use Rattle.links.specs.Links.{link_at}
@@ -16,7 +15,7 @@ use Rattle.rules.specs.declared.Plain.{Plain}
 use Rattle.machines.specs.Fetched.{Fetched, bad, plainly, named_by, resolve}
 use Rattle.machines.specs.Slots.{slot_names, slot_resolve}
 use Rattle.basic.specs.Basic.{Basic, ended, plain, carries, closure, branch, save, carried_bits, bits}
-use Rattle.basic.specs.Basic.{Token, ended_t, plain_t, carries_t, closure_t, branch_t, save_t}
+use Rattle.basic.specs.Basic.{plain_t}
 use Rattle.basic.specs.Valid.{PlainOk, return_ok, call_ok, neutral_ok, Ok}
 use Rattle.basic.specs.Tabulated.{inside, indexed}
 use Rattle.basic_program.specs.Program.{plain_at, carried, first, look}

@@ -1,6 +1,6 @@
 -- The run of a basic file that is accepted. Assumes nothing.
 use Rattle.std.specs.Prelude.{ℕ, ◌+◌, ◌*◌, ◌≤◌, ◌≡◌, refl, List, length}
-use Rattle.std.proofs.Common.{arith, sym, ap, ◌∙◌}
+use Rattle.std.proofs.Common.{arith, ap, ◌∙◌}
 use Rattle.files.specs.Reading.{got, refused}
 use Rattle.cells.specs.declared.BitPlace.{BitPlace}
 use Rattle.cells.specs.laws.Laws.{clash}
@@ -21,7 +21,7 @@ use Rattle.tabulate.specs.Judge.{CheckedIs, accepted, refused_file}
 use Rattle.tabulate.specs.declared.CheckedFile.{CheckedFile}
 use Rattle.tabulate.specs.declared.CheckedFile.TheVariants as judged
 use Rattle.basic_program.specs.Run.{on_basic, basic_run}
-use Rattle.basic_program.specs.laws.Known.{Known, Accepted, checked_known}
+use Rattle.basic_program.specs.laws.Known.{Accepted, checked_known}
 use Rattle.basic_code.specs.Fetch.{basic_linked}
 use Rattle.basic_machine.specs.Accepted.{AcceptedFile}
 use Rattle.basic_machine.specs.Links.{linked, tabled}

@@ -17,7 +17,7 @@ use Rattle.basic.specs.Basic.{Basic, ended, plain, carries, closure, branch, sav
 use Rattle.basic.specs.Tabulated.{inside, closures, tabulated}
 use Rattle.basic.specs.Checked.{entries_fit, within_limits, basic_checked}
 use Rattle.basic_program.specs.Program.{Body, body, bodies, all_bodies, no_body, basic_program}
-use Rattle.basic_program.specs.laws.Known.{Known, Accepted, checked_known}
+use Rattle.basic_program.specs.laws.Known.{Accepted, checked_known}
 use Rattle.basic_code.specs.Fetch.{basic_linked}
 use Rattle.basic_machine.specs.Links.{linked, tabled}
 use Rattle.basic_machine.specs.laws.LinksLaws.{linked_holds}

@@ -1,5 +1,5 @@
 -- The templates of basic code, as lists within the file's list and as the tabulator's. Assumes nothing.
-use Prim.Native.Nat.{ℕ, zero, suc, ◌+◌, ◌*◌, ◌≤◌}
+use Prim.Native.Nat.{ℕ, zero, suc, ◌+◌, ◌≤◌}
 use native.Mathlib.Omega.{arith}
 use Rattle.std.specs.Prelude.{◌≡◌, refl, length, get_or}
 use Rattle.std.proofs.Common.{sym, ◌∙◌}
@@ -9,12 +9,11 @@ use Rattle.std.proofs.Math.ListN.{get_or-map}
 use Rattle.files.specs.Code.{put, simple}
 use Rattle.files.specs.Tree.{Template}
 use Rattle.tree_file.specs.File.{template_bits, placed}
-use Rattle.basic.specs.Basic.{Basic, ended, plain, carries, closure, branch, save, carried_bits, bits}
+use Rattle.basic.specs.Basic.{Basic, ended, plain, carries, closure, branch, save, bits}
 use Rattle.basic.specs.Valid.{Ok, return_ok}
 use Rattle.basic.specs.Tabulated.{inside, entries_of, indexed, template_of, closures, tabulated}
 use Rattle.machines.specs.Fetched.{no_template}
-use Rattle.basic_program.specs.Program.{Body, body, bodies, all_bodies, no_body}
-use Rattle.basic_program.proofs.theorems.Spots.{least}
+use Rattle.basic_program.specs.Program.{Body, bodies, all_bodies, no_body}
 
 -- ---- the tabulator's
 pub templated : Body → Template

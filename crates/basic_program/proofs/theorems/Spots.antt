@@ -1,22 +1,22 @@
 -- Places of basic code and of its tabulated code that correspond, and that the same stands at both. Assumes nothing.
-use Rattle.std.specs.Prelude.{ℕ, suc, ◌+◌, ◌*◌, ◌≤◌, ◌<◌, ◌≡◌, Bool, true, false, cond, ◌⊎◌, ltb, eqb, length, get_or}
+use Rattle.std.specs.Prelude.{ℕ, suc, ◌+◌, ◌*◌, ◌≤◌, ◌<◌, ◌≡◌, ◌⊎◌, length, get_or}
 use native.Mathlib.Omega.{arith}
 use Rattle.std.proofs.Math.Path.{refl}
-use Rattle.std.proofs.Common.{ap, inr}
+use Rattle.std.proofs.Common.{inr}
 use Rattle.std.proofs.Math.Logic.{inl}
 use mathlib.Core.List.{List, [], ◌∷◌}
 use Rattle.std.proofs.Math.Option.{Option, none, some}
 use borrow.Author.Tests.{eq-eqb, ne_eqb, lt-ltb, le-ltb}
-use Rattle.files.specs.Code.{Code, done, return, call, put, simple, bits as treeBits}
+use Rattle.files.specs.Code.{Code, put, simple, bits as treeBits}
 use Rattle.files.specs.laws.ReadingLaws.{least_bits}
-use Rattle.files.specs.Entries.{Entry, constant, global, template}
-use Rattle.files.specs.Grammar.{is_closed, entry_of}
+use Rattle.files.specs.Entries.{Entry, template}
+use Rattle.files.specs.Grammar.{entry_of}
 use Rattle.rules.specs.declared.Plain.{Plain}
 use Rattle.rules.specs.declared.Plain.TheVariants.{Closure}
 use Rattle.basic.specs.Basic.{Basic, ended, plain as plain_code, carries, closure, branch, save, carried_bits, bits}
 use Rattle.basic.specs.Valid.{PlainOk, return_ok, call_ok, neutral_ok, CarriesOk, literal_ok, global_ok, set_global_ok, Ok}
 use Rattle.basic.specs.Tabulated.{inside, index_of, indexed}
-use Rattle.machines.specs.Fetched.{Fetched, plain, returns, calls, branches, saves, jumps, bad, named_by, as_closure, Named, rule_of, resolve, plainly, open_count}
+use Rattle.machines.specs.Fetched.{Fetched, plain, returns, calls, branches, saves, bad, named_by, as_closure, Named, rule_of, resolve, plainly}
 use Rattle.machines.specs.Fetched.{first as treeFirst, beyond, look as treeLook}
 use Rattle.machines.specs.laws.FetchedLaws.{look_first, look_neutral, look_first_arm, look_second_arm, look_after_arms, look_saved, look_after_saved}
 use Rattle.basic_program.specs.Program.{plain_at, carried, first, look}

@@ -1,6 +1,5 @@
 -- `basic_steps::act_plain` meets its contract. Assumes nothing.
 use Rattle.steps.proofs.StepLaws.{plain_goes, plain_stops}
-use borrow.Author.Rules.{rules}
 use Rattle.basic_steps.proofs.act_plain.Goals as goal
 
 pub returns-in-Next : goal.returns-in-Next

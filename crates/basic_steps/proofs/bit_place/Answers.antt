@@ -2,7 +2,6 @@
 use mathlib.Core.Path.{sym}
 use Rattle.steps.proofs.StepLaws.{tree_number}
 use Rattle.basic_steps.proofs.StepLaws.{no_byte}
-use borrow.Author.Rules.{rules}
 use Rattle.basic_steps.proofs.bit_place.Goals as goal
 
 pub returns-in-Tree : goal.returns-in-Tree

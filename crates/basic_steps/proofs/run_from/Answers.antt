@@ -1,11 +1,5 @@
 -- `basic_steps::run_from` meets its contract. Assumes nothing.
-use Prim.Native.Nat.{◌-◌, ◌≤◌}
-use mathlib.Core.Path.{◌≡◌}
-use Rattle.machines.specs.Runs.{memory}
-use Rattle.machines.specs.Steps.{ran_from}
-use Rattle.machines.specs.Instruction.{tree_form, Of}
-use Rattle.steps.specs.Step.{state_of, StepReady}
-use Rattle.basic_code.specs.Fetch.{basic_linked}
+use Prim.Native.Nat.{◌-◌}
 use Rattle.steps.proofs.RunLaws.{at_first, next_ready, next_place, next_turn, halted_turn, wrong_turn, spent_turn}
 use borrow.Author.Rules.{rules}
 use Rattle.basic_steps.proofs.run_from.Goals as goal

@@ -6,8 +6,6 @@ use Rattle.machines.specs.Steps.{ran_from}
 use Rattle.machines.specs.Instruction.{tree_form, Of}
 use Rattle.steps.specs.Step.{state_of, StepReady}
 use Rattle.basic_code.specs.Fetch.{basic_linked}
-use Rattle.steps.proofs.RunLaws.{at_first, next_ready, next_place, next_turn, halted_turn, wrong_turn, spent_turn}
-use borrow.Author.Rules.{rules}
 use Rattle.basic_steps.proofs.run_from.Given as goal
 
 abbrev pub invariant-loop-left : goal.invariant-loop-left

@@ -1,5 +1,5 @@
 -- `basic_steps::take_step` meets its contract. Assumes nothing.
-use mathlib.Core.Path.{refl, sym}
+use mathlib.Core.Path.{refl}
 use Rattle.machines.specs.Instruction.{number, form_of}
 use Rattle.steps.specs.Step.{CodeReady}
 use Rattle.steps.proofs.StepLaws.{stays, bad_stops}

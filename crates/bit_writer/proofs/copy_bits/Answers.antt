@@ -5,7 +5,6 @@ use lib.ListN.{length}
 use Rattle.fields.specs.laws.Laws.{field_small}
 use Rattle.readback.specs.laws.Lists.{field_bits}
 use Rattle.bit_writer.proofs.theorems.Laws.{put_length, copy_three}
-use borrow.Author.Rules.{rules}
 use Rattle.bit_writer.proofs.copy_bits.Goals as goal
 
 pub put_field-requires : goal.put_field-requires

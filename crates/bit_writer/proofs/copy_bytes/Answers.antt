@@ -1,12 +1,10 @@
 -- `bit_writer::copy_bytes` meets its contract. The loop's invariant: putting what is left of the bits into what is there now is putting all of them.
 -- Assumes nothing.
-use Prim.Native.Nat.{◌+◌, ◌*◌, ◌-◌, ◌≤◌}
+use Prim.Native.Nat.{◌-◌}
 use native.Mathlib.Omega.{arith}
-use mathlib.Core.Path.{◌≡◌, refl, sym, ◌∙◌}
-use lib.ListN.{length, length-set}
+use mathlib.Core.Path.{refl, sym, ◌∙◌}
+use lib.ListN.{length-set}
 use borrow.Author.Rules.{rules}
-use Rattle.readback.specs.Lists.{bits_from}
-use Rattle.bit_writer.specs.Put.{put_bits}
 use Rattle.bit_writer.proofs.theorems.Laws.{bytes_on, bytes_done, bytes_all}
 use Rattle.bit_writer.proofs.copy_bytes.Goals as goal
 

@@ -2,7 +2,6 @@
 use native.Mathlib.Omega.{arith}
 use lib.ListN.{length-set}
 use Rattle.bit_writer.proofs.theorems.Laws.{sum_fits, two_small, put_none, put_one, put_two}
-use borrow.Author.Rules.{rules}
 use Rattle.bit_writer.proofs.put_field.Goals as goal
 
 pub returns-then-n-eq0 : goal.returns-then-n-eq0

@@ -1,7 +1,6 @@
 -- `bit_writer::put_wide` meets its contract: two fields and a word one after the other. Assumes nothing.
 use native.Mathlib.Omega.{arith}
 use Rattle.bit_writer.proofs.theorems.Laws.{put_three}
-use borrow.Author.Rules.{rules}
 use Rattle.bit_writer.proofs.put_wide.Goals as goal
 
 pub returns : goal.returns

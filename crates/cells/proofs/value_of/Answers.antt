@@ -1,5 +1,4 @@
 -- `cells::value_of` meets its contract: in each arm the tag is known, and the definition goes by it. Assumes nothing.
-use borrow.Author.Rules.{rules}
 use mathlib.Core.Path.{sym, ◌∙◌}
 use Rattle.cells.specs.Cells.{value_of}
 use Rattle.cells.specs.laws.Laws.{no_value}

@@ -7,14 +7,11 @@ use Rattle.lists.specs.laws.Known.{head_within}
 use Rattle.emit.specs.laws.Steps.{deeper_arms, item_arms, arms_item, deeper_saved, item_saved, saved_item, plain, plain_room, plain_item_lem}
 use Rattle.emit.specs.laws.Steps.{saved_size, saved_cut, saved_rest, saved_to_write, saved_done}
 use Rattle.emit.specs.laws.Steps.{left_all, left_within, left_none, left_item, left_less, next_is, back_less, left_next}
-use Prim.Native.Nat.{◌+◌, ◌*◌, ◌-◌, ◌≤◌}
+use Prim.Native.Nat.{◌-◌}
 use native.Mathlib.Omega.{arith}
-use mathlib.Core.Path.{◌≡◌, refl, sym, ap, ◌∙◌}
-use lib.ListN.{length}
+use mathlib.Core.Path.{refl, sym, ap, ◌∙◌}
 use Rattle.emit.specs.laws.Steps.{first_room, arms_room, arms_near, jump_near, first_to_write, second_to_write, arms_done}
-use Rattle.emit.specs.laws.Steps.{Left}
-use borrow.Author.Rules.{rules}
-use Prim.Native.Nat.{ℕ, ◌<◌}
+use Prim.Native.Nat.{ℕ}
 use Rattle.emit.proofs.+write_conditional_write_instr_write_list_write_make_cont.Goals as goal
 
 pub write_conditional-overflow_add-turn : goal.write_conditional-overflow_add-turn

@@ -1,6 +1,5 @@
 -- `emit::measure` meets its contract: a mark is taken apart. Assumes nothing.
 use Rattle.emit.specs.laws.Steps.{mark_measured}
-use borrow.Author.Rules.{rules}
 use Rattle.emit.proofs.measure.Goals as goal
 
 pub returns : goal.returns

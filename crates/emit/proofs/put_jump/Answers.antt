@@ -1,7 +1,6 @@
 -- `emit::put_jump` meets its contract: by the test. Assumes nothing.
 use mathlib.Core.Path.{refl}
 use Rattle.emit.specs.Written.{gap, jump_bytes}
-use borrow.Author.Rules.{rules}
 use Rattle.emit.proofs.put_jump.Goals as goal
 
 pub returns-then-closed : goal.returns-then-closed

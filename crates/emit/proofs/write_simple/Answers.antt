@@ -2,7 +2,6 @@
 use native.Mathlib.Omega.{arith}
 use lib.ListN.{length-set}
 use Rattle.emit.specs.laws.Stores.{none_written, one_written, two_written}
-use borrow.Author.Rules.{rules}
 use Rattle.emit.proofs.write_simple.Goals as goal
 
 pub returns-then-n-eq0 : goal.returns-then-n-eq0

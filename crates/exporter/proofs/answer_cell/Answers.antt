@@ -1,5 +1,4 @@
 -- `exporter::answer_cell` meets its contract: in each arm the value is known, and its fields fit. Assumes nothing.
-use borrow.Author.Rules.{rules}
 use native.Mathlib.Omega.{arith}
 use Rattle.cells.specs.Cells.{cell_of}
 use Rattle.exporter.specs.Answers.{FieldsFit}

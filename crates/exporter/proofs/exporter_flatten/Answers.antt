@@ -1,5 +1,4 @@
 -- `exporter::exporter_flatten` meets its contract: nothing is done without room for two slots; else the flattener's contract. Assumes nothing.
-use borrow.Author.Rules.{rules}
 use borrow.Author.Tests.{le-leb, lt-leb}
 use Rattle.exporter.specs.Exporter.{outcome_output, outcome_result}
 use Rattle.exporter.proofs.exporter_flatten.Goals as goal

@@ -1,5 +1,4 @@
 -- `exporter::exporter_tabulate` meets its contract: nothing is done without room for two slots; else the contract of `tabulate`. Assumes nothing.
-use borrow.Author.Rules.{rules}
 use borrow.Author.Tests.{le-leb, lt-leb}
 use Rattle.exporter.specs.Exporter.{outcome_output, outcome_result}
 use Rattle.exporter.proofs.exporter_tabulate.Goals as goal

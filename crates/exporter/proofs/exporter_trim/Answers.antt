@@ -1,5 +1,4 @@
 -- `exporter::exporter_trim` meets its contract: nothing is done without room for three slots; else the contract of trim. Assumes nothing.
-use borrow.Author.Rules.{rules}
 use borrow.Author.Tests.{le-leb, lt-leb}
 use Rattle.exporter.specs.Trims.{trim_output, trim_lines, trim_result}
 use Rattle.exporter.proofs.exporter_trim.Goals as goal

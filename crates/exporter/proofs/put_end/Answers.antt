@@ -1,5 +1,4 @@
 -- `exporter::put_end` meets its contract: in each arm the end is known, and so are its slots. Assumes nothing.
-use borrow.Author.Rules.{rules}
 use Rattle.exporter.specs.Answers.{AnswerFits}
 use Rattle.exporter.specs.Exporter.{end_slot, place_slot}
 use Rattle.machines.specs.Runs.{number_of, answer_cell}

@@ -1,5 +1,4 @@
 -- `exporter::put_outcome` meets its contract: in each arm the answer is known, and so are its slots. Assumes nothing.
-use borrow.Author.Rules.{rules}
 use Rattle.exporter.specs.Exporter.{outcome_slots}
 use Rattle.exporter.proofs.put_outcome.Goals as goal
 

@@ -1,7 +1,4 @@
 -- `exporter::put_run` meets its contract: the end's slots, then four stores. Assumes nothing.
-use borrow.Author.Rules.{rules}
-use native.Mathlib.Omega.{arith}
-use lib.ListN.{length-set}
 use Rattle.exporter.proofs.put_run.Goals as goal
 
 -- slice-write-result-2 : tie.Need-slice-write-result-2

@@ -1,8 +1,4 @@
 -- `exporter::put_three` meets its contract: three stores in a row. Assumes nothing.
-use borrow.Author.Rules.{rules}
-use native.Mathlib.Omega.{arith}
-use lib.ListN.{length-set}
-use Rattle.exporter.proofs.put_three.Goals as goal
 
 -- slice-write-result-2 : tie.Need-slice-write-result-2
 -- slice-write-result-2 c = simp length-set (omega arith)

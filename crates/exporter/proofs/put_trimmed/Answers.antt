@@ -1,5 +1,4 @@
 -- `exporter::put_trimmed` meets its contract: in each arm the answer is known, and so are its slots. Assumes nothing.
-use borrow.Author.Rules.{rules}
 use Rattle.exporter.specs.Trims.{trim_slots}
 use Rattle.exporter.proofs.put_trimmed.Goals as goal
 

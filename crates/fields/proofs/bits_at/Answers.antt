@@ -5,7 +5,6 @@ use native.Mathlib.Omega.{arith}
 use lib.ListN.{get_or}
 use lib.Pow.{pow_pos}
 use Rattle.fields.specs.laws.Laws.{shl_one, shifted}
-use borrow.Author.Rules.{rules}
 use Rattle.fields.proofs.bits_at.Goals as goal
 
 pub nonzero_rem-result : goal.nonzero_rem-result

@@ -3,7 +3,6 @@ use Prim.Native.Nat.{◌+◌}
 use mathlib.Core.Path.{◌≡◌, refl, ◌∙◌}
 use native.Mathlib.Omega.{arith}
 use Rattle.fields.specs.laws.Laws.{four_field}
-use borrow.Author.Rules.{rules}
 use Rattle.fields.proofs.four_at.Goals as goal
 
 pub returns-then-i-s : goal.returns-then-i-s

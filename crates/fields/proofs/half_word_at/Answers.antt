@@ -1,7 +1,6 @@
 -- `fields::half_word_at` meets its contract: the two bytes are the field's two parts. Assumes nothing.
 use mathlib.Core.Path.{ap, ◌∙◌}
 use Prim.Native.Nat.{ℕ}
-use borrow.Author.Rules.{rules}
 use Rattle.fields.specs.Field.{field_at}
 use Rattle.fields.specs.laws.Laws.{joined, field_small}
 use Rattle.fields.proofs.half_word_at.Goals as goal

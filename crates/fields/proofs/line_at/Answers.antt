@@ -1,6 +1,5 @@
 -- `fields::line_at` meets its contract. Assumes nothing.
 use Rattle.fields.specs.laws.Laws.{line_at}
-use borrow.Author.Rules.{rules}
 use Rattle.fields.proofs.line_at.Goals as goal
 
 pub returns : goal.returns

@@ -1,8 +1,6 @@
 -- `fields::two_at` meets its contract. Assumes nothing.
-use Prim.Native.Nat.{◌+◌}
 use native.Mathlib.Omega.{arith}
 use lib.ListN.{get_or-eq_default}
-use borrow.Author.Rules.{rules}
 use Rattle.fields.proofs.two_at.Goals as goal
 
 pub returns-then-i-s : goal.returns-then-i-s

@@ -3,7 +3,6 @@ use mathlib.Core.Path.{ap, ◌∙◌}
 use Prim.Native.Nat.{ℕ}
 use Rattle.fields.specs.Field.{field_at}
 use Rattle.fields.specs.laws.Laws.{joined}
-use borrow.Author.Rules.{rules}
 use Rattle.fields.proofs.wide_at.Goals as goal
 
 pub returns : goal.returns

@@ -1,5 +1,4 @@
 -- `files::count_of` meets its contract. Assumes nothing.
-use borrow.Author.Rules.{rules}
 use Rattle.files.specs.laws.EntriesSteps.{field_cut, field_read_lem}
 use Rattle.files.specs.laws.RoomLaws.{count_long, count_cut, count_is}
 use Rattle.files.proofs.count_of.Goals as goal

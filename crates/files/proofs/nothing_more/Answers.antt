@@ -1,7 +1,6 @@
 -- `files::nothing_more` meets its contract. Assumes nothing.
 use Prim.Native.Nat.{◌*◌}
 use mathlib.Core.Path.{sym, ◌∙◌}
-use borrow.Author.Rules.{rules}
 use borrow.Author.Tests.{eqb-true, eqb-false}
 use lib.ListN.{length}
 use Rattle.files.specs.laws.PaddingSteps.{at_end, not_at_end}

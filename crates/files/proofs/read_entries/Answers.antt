@@ -1,12 +1,9 @@
 -- `files::read_entries` meets its contract. What is left to read and to store, from here, equals the whole from the start. Assumes nothing.
-use Prim.Native.Nat.{◌-◌, ◌≤◌}
+use Prim.Native.Nat.{◌-◌}
 use native.Mathlib.Nat.{add-sub_cancel_left}
-use mathlib.Core.Path.{ap, ◌≡◌, sym, ◌∙◌}
+use mathlib.Core.Path.{ap, sym, ◌∙◌}
 use borrow.Author.Rules.{rules}
-use lib.ListN.{length}
 use lib.Seq.{sets}
-use Rattle.files.specs.Entries.{entries_at}
-use Rattle.files.specs.EntriesRead.{entries_told, slots_at}
 use Rattle.files.specs.laws.EntriesSteps.{none_left, entries_on, slots_on, entries_stop, slots_stop}
 use Rattle.files.proofs.read_entries.Goals as goal
 

@@ -1,10 +1,9 @@
 -- `files::zero_bits_lem` meets its contract. The bits that are left, from here, are read as the whole is from the start. Assumes nothing.
-use Prim.Native.Nat.{ℕ, ◌+◌, ◌*◌, ◌-◌, ◌≤◌}
+use Prim.Native.Nat.{ℕ, ◌+◌, ◌-◌}
 use native.Mathlib.Nat.{add-sub_cancel_left}
 use native.Mathlib.Omega.{arith}
-use mathlib.Core.Path.{◌≡◌, sym, ap, ◌∙◌}
+use mathlib.Core.Path.{sym, ap, ◌∙◌}
 use borrow.Author.Rules.{rules}
-use lib.ListN.{length}
 use Rattle.files.specs.Entries.{zero_bits}
 use Rattle.files.specs.EntriesRead.{padding_told}
 use Rattle.files.specs.laws.PaddingSteps.{no_bits, bits_on, bits_stop}

@@ -1,6 +1,5 @@
 -- `flatten::flatten_tier` meets its contract. It calls itself once, with the size that the file has. Assumes nothing.
-use borrow.Author.Rules.{rules}
-use Prim.Native.Nat.{ℕ, ◌-◌, ◌<◌}
+use Prim.Native.Nat.{◌-◌}
 use native.Mathlib.Omega.{arith}
 use Rattle.flatten.proofs.+flatten_tier.Goals as goal
 

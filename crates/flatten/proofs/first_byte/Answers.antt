@@ -1,7 +1,6 @@
 -- `flatten::first_byte` meets its contract: whole, or shifted up. Assumes nothing.
 use mathlib.Core.Path.{◌∙◌}
 use Rattle.flatten.specs.laws.Copied.{shifted, byte_whole}
-use borrow.Author.Rules.{rules}
 use Rattle.flatten.proofs.first_byte.Goals as goal
 
 pub overflow_cast-result-then-n-lt8 : goal.overflow_cast-result-then-n-lt8

@@ -4,7 +4,6 @@ use native.Mathlib.Omega.{arith}
 use lib.ListN.{length}
 use Rattle.files.specs.laws.RoomLaws.{all_rows}
 use mathlib.Core.Path.{refl}
-use borrow.Author.Rules.{rules}
 use Rattle.flatten.proofs.flatten_many.Goals as goal
 
 pub flatten_marked-requires : goal.flatten_marked-requires

@@ -4,7 +4,6 @@ use mathlib.Core.Path.{sym, ◌∙◌}
 use lib.ListN.{length-set}
 use Rattle.tree.specs.laws.Judged.{judged_refused}
 use Rattle.flatten.specs.laws.FileSteps.{flatten_refused, flatten_far, flatten_short, some_bytes, file_short, file_rows_lem, file_to_write, flatten_written}
-use borrow.Author.Rules.{rules}
 use Rattle.flatten.proofs.flatten_marked.Goals as goal
 
 pub returns-then-sum-lt64 : goal.returns-then-sum-lt64

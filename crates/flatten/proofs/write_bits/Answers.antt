@@ -1,11 +1,8 @@
 -- `flatten::write_bits` meets its contract: the loop's invariant: what is left of the bits goes into what is left of the output. Assumes nothing.
-use Prim.Native.Nat.{◌+◌, ◌-◌, ◌/◌, ◌≤◌}
+use Prim.Native.Nat.{◌-◌}
 use native.Mathlib.Omega.{arith}
-use mathlib.Core.Path.{◌≡◌, refl, sym, ◌∙◌}
-use lib.ListN.{length, length-set}
-use lib.Seq.{sets}
-use Rattle.files.specs.Linear.{bytes_of}
-use Rattle.readback.specs.Lists.{bits_from}
+use mathlib.Core.Path.{refl, sym, ◌∙◌}
+use lib.ListN.{length-set}
 use Rattle.flatten.specs.laws.Copied.{bytes_none, bytes_on}
 use borrow.Author.Rules.{rules}
 use borrow.Author.Tests.{ltb-true, ltb-false}

@@ -1,9 +1,9 @@
 -- `flatten::write_templates` meets its contract: the loop's invariant: the templates from `own` on go into what is left of the output. Assumes nothing.
-use Prim.Native.Nat.{◌-◌, ◌≤◌}
+use Prim.Native.Nat.{◌-◌}
 use native.Mathlib.Omega.{arith}
-use mathlib.Core.Path.{◌≡◌, refl, ◌∙◌}
+use mathlib.Core.Path.{refl, ◌∙◌}
 use lib.ListN.{length}
-use Rattle.flatten.specs.laws.FileSteps.{Left, left_all, left_none, left_template, left_next}
+use Rattle.flatten.specs.laws.FileSteps.{left_all, left_none, left_template, left_next}
 use borrow.Author.Rules.{rules}
 use Rattle.flatten.proofs.write_templates.Goals as goal
 

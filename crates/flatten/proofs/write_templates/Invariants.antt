@@ -1,10 +1,8 @@
 -- `flatten::write_templates` meets its contract: the loop's invariant: the templates from `own` on go into what is left of the output. Assumes nothing.
 use Prim.Native.Nat.{◌-◌, ◌≤◌}
-use native.Mathlib.Omega.{arith}
-use mathlib.Core.Path.{◌≡◌, refl, ◌∙◌}
+use mathlib.Core.Path.{◌≡◌}
 use lib.ListN.{length}
-use Rattle.flatten.specs.laws.FileSteps.{Left, left_all, left_none, left_template, left_next}
-use borrow.Author.Rules.{rules}
+use Rattle.flatten.specs.laws.FileSteps.{Left}
 use Rattle.flatten.proofs.write_templates.Given as goal
 
 abbrev pub invariant-loop-own : goal.invariant-loop-own

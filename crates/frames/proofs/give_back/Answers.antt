@@ -1,5 +1,4 @@
 -- `frames::give_back` meets its contract. Assumes nothing.
-use borrow.Author.Rules.{rules}
 use borrow.Author.Tests.{eq-eqb, ne_eqb}
 use native.Mathlib.Omega.{arith}
 use Rattle.rules.specs.Rules.{return_rule}

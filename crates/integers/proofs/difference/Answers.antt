@@ -1,5 +1,4 @@
 -- `integers::difference` meets its contract. Assumes nothing.
-use borrow.Author.Rules.{rules}
 use mathlib.Core.Path.{◌∙◌}
 use Rattle.integers.proofs.Exact.{difference_fits, difference_is}
 use Rattle.integers.proofs.difference.Goals as goal

@@ -1,5 +1,4 @@
 -- `integers::floor_div` meets its contract. Assumes nothing.
-use borrow.Author.Rules.{rules}
 use mathlib.Core.Path.{◌∙◌}
 use Rattle.integers.proofs.Dividing.{asked, floor_value}
 use Rattle.integers.proofs.floor_div.Goals as goal

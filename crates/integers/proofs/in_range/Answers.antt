@@ -1,5 +1,4 @@
 -- `integers::in_range` meets its contract. Assumes nothing.
-use borrow.Author.Rules.{rules}
 use Rattle.integers.proofs.Exact.{below, above, negative, positive, positive_cast, bits_sfit, bits_cast, bits_answer}
 use Rattle.integers.proofs.in_range.Goals as goal
 

@@ -1,5 +1,4 @@
 -- `integers::less` meets its contract. Assumes nothing.
-use borrow.Author.Rules.{rules}
 use Rattle.integers.proofs.Exact.{value_again}
 use Rattle.integers.proofs.less.Goals as goal
 

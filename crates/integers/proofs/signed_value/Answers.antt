@@ -1,5 +1,4 @@
 -- `integers::signed_value` meets its contract. Assumes nothing.
-use borrow.Author.Rules.{rules}
 use Rattle.integers.proofs.Exact.{low_value, high_fits, high_value}
 use Rattle.integers.proofs.signed_value.Goals as goal
 

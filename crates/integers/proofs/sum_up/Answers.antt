@@ -1,14 +1,9 @@
 -- `integers::sum_up` meets its contract. The invariant: the sum from here, of what is left, is that of all. Assumes nothing.
 use borrow.Author.Rules.{rules}
-use mathlib.Core.Path.{◌≡◌, sym, ◌∙◌}
-use Prim.Native.Nat.{◌-◌, ◌≤◌}
+use mathlib.Core.Path.{sym, ◌∙◌}
+use Prim.Native.Nat.{◌-◌}
 use native.Mathlib.Omega.{arith}
-use lib.ListN.{take}
-use lib.Seq.{slice}
-use mir.Syntax.{w64}
-use mir.Val.{to_z}
-use Rattle.integers.specs.Answers.{sum_of}
-use Rattle.integers.proofs.Adding.{Near, sum_from, sum_start, sum_on, sum_other, sum_done, sum_fits, sum_is, sum_near}
+use Rattle.integers.proofs.Adding.{sum_start, sum_on, sum_other, sum_done, sum_fits, sum_is, sum_near}
 use Rattle.integers.proofs.sum_up.Goals as goal
 
 pub loop-i-init : goal.loop-i-init

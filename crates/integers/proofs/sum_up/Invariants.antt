@@ -1,12 +1,10 @@
 -- `integers::sum_up` meets its contract. The invariant: the sum from here, of what is left, is that of all. Assumes nothing.
-use borrow.Author.Rules.{rules}
-use mathlib.Core.Path.{◌≡◌, sym, ◌∙◌}
+use mathlib.Core.Path.{◌≡◌}
 use Prim.Native.Nat.{◌-◌, ◌≤◌}
-use native.Mathlib.Omega.{arith}
 use lib.ListN.{take}
 use lib.Seq.{slice}
 use Rattle.integers.specs.Answers.{sum_of}
-use Rattle.integers.proofs.Adding.{Near, sum_from, sum_start, sum_on, sum_other, sum_done, sum_fits, sum_is, sum_near}
+use Rattle.integers.proofs.Adding.{Near, sum_from}
 use Rattle.integers.proofs.sum_up.Given as goal
 
 abbrev pub invariant-loop-i : goal.invariant-loop-i

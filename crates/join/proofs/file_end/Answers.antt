@@ -2,7 +2,6 @@
 use native.Mathlib.Omega.{arith}
 use mathlib.Core.Path.{refl}
 use Rattle.join.specs.laws.PutLaws.{operand_short, operand_count_lem, end_is}
-use borrow.Author.Rules.{rules}
 use Rattle.join.proofs.file_end.Goals as goal
 
 pub overflow_sub-own : goal.overflow_sub-own

@@ -1,11 +1,8 @@
 -- `join::find_joint` meets its contract. The loop's invariant: the joint is that of the list at `here`, and as many levels deeper as were left. Assumes nothing.
 use Prim.Native.Nat.{◌*◌, ◌-◌, ◌≤◌}
-use native.Mathlib.Omega.{arith}
-use mathlib.Core.Path.{refl, sym, ◌∙◌}
 use lib.ListN.{length}
 use Rattle.join.specs.Operands.{CodeAt}
-use Rattle.join.specs.laws.TurnLaws.{code_five, Walked, walked_none, walked_past, walked_within, walked_there}
-use borrow.Author.Rules.{rules}
+use Rattle.join.specs.laws.TurnLaws.{Walked}
 use Rattle.join.proofs.find_joint.Given as goal
 
 abbrev pub invariant-loop-next : goal.invariant-loop-next

@@ -1,8 +1,6 @@
 -- `join::first_template` meets its contract: E is the second byte of the file. Assumes nothing.
 use native.Mathlib.Omega.{arith}
-use mathlib.Core.Path.{refl}
 use Rattle.join.specs.laws.PutLaws.{operand_short, operand_two, first_is}
-use borrow.Author.Rules.{rules}
 use Rattle.join.proofs.first_template.Goals as goal
 
 pub past_list-past-requires : goal.past_list-past-requires

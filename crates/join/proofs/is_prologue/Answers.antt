@@ -1,7 +1,6 @@
 -- `join::is_prologue` meets its contract: by the class of the one list. Assumes nothing.
 use mathlib.Core.Path.{sym, ◌∙◌}
 use Rattle.join.specs.laws.JudgedLaws.{more_templates, prologue_class, prologue_refused}
-use borrow.Author.Rules.{rules}
 use Rattle.join.proofs.is_prologue.Goals as goal
 
 pub returns-then-count-ne1 : goal.returns-then-count-ne1

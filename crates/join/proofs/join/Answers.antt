@@ -1,10 +1,8 @@
 -- `join::join` meets its contract: as the prologue was judged. Assumes nothing.
-use native.Mathlib.Omega.{arith}
 use mathlib.Core.Path.{refl, sym, ◌∙◌}
 use Rattle.tree.specs.laws.Judged.{judged_refused}
 use Rattle.join.specs.laws.WholeLaws.{prologue_at, prologue_refused}
 use Rattle.files.specs.laws.RoomLaws.{all_rows}
-use borrow.Author.Rules.{rules}
 use Rattle.join.proofs.join.Goals as goal
 
 pub join_second-requires : goal.join_second-requires

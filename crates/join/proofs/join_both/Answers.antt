@@ -1,11 +1,9 @@
 -- `join::join_both` meets its contract: each answer leads to its case of `joined_file`. Assumes nothing.
 use native.Mathlib.Omega.{arith}
-use mathlib.Core.Path.{refl, sym, ap, ◌∙◌}
-use lib.ListN.{length}
+use mathlib.Core.Path.{refl, sym}
 use lib.Seq.{length-take-le}
 use Rattle.join.specs.laws.PutLaws.{operand_short}
-use Rattle.join.proofs.theorems.FileLaws.{both, both_x, both_y, both_end, few, code_x, code_y, depth_few, bounds, write_bounds, join_many, join_deep, join_long, join_short, tokens_y, join_written}
-use borrow.Author.Rules.{rules}
+use Rattle.join.proofs.theorems.FileLaws.{both, both_x, both_y, both_end, few, code_x, depth_few, bounds, write_bounds, join_many, join_deep, join_long, join_short, tokens_y, join_written}
 use Rattle.join.proofs.join_both.Goals as goal
 
 pub first_template-x-requires : goal.first_template-x-requires

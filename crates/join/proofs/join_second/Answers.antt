@@ -1,10 +1,8 @@
 -- `join::join_second` meets its contract: as the second operand was judged. Assumes nothing.
-use native.Mathlib.Omega.{arith}
 use mathlib.Core.Path.{refl, sym, ◌∙◌}
 use Rattle.tree.specs.laws.Judged.{judged_refused}
 use Rattle.join.specs.laws.WholeLaws.{to_join, second_refused}
 use Rattle.files.specs.laws.RoomLaws.{all_rows}
-use borrow.Author.Rules.{rules}
 use Rattle.join.proofs.join_second.Goals as goal
 
 pub join_both-requires : goal.join_both-requires

@@ -2,7 +2,6 @@
 use mathlib.Core.Path.{sym, ◌∙◌}
 use Rattle.lists.specs.laws.ReadLaws.{listed_done, listed_refused}
 use Rattle.join.specs.laws.OperandsLaws.{levels_read, levels_refused}
-use borrow.Author.Rules.{rules}
 use Rattle.join.proofs.levels_fit.Goals as goal
 
 pub returns-in-Done : goal.returns-in-Done

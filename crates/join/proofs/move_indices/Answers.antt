@@ -1,10 +1,9 @@
 -- `join::move_indices` meets its contract. The loop's invariant: the indices below i are moved. Assumes nothing.
-use Prim.Native.Nat.{ℕ, ◌+◌, ◌-◌, ◌≤◌, ◌<◌}
+use Prim.Native.Nat.{◌-◌}
 use native.Mathlib.Omega.{arith}
-use mathlib.Core.Path.{◌≡◌, refl}
-use lib.ListN.{length, get_or, length-set}
+use mathlib.Core.Path.{refl}
+use lib.ListN.{length-set}
 use Rattle.join.specs.laws.PutLaws.{one_more}
-use borrow.Author.Rules.{rules}
 use Rattle.join.proofs.move_indices.Goals as goal
 
 pub loop-i-init : goal.loop-i-init

@@ -1,10 +1,7 @@
 -- `join::move_indices` meets its contract. The loop's invariant: the indices below i are moved. Assumes nothing.
 use Prim.Native.Nat.{ℕ, ◌+◌, ◌-◌, ◌≤◌, ◌<◌}
-use native.Mathlib.Omega.{arith}
-use mathlib.Core.Path.{◌≡◌, refl}
-use lib.ListN.{length, get_or, length-set}
-use Rattle.join.specs.laws.PutLaws.{one_more}
-use borrow.Author.Rules.{rules}
+use mathlib.Core.Path.{◌≡◌}
+use lib.ListN.{length, get_or}
 use Rattle.join.proofs.move_indices.Given as goal
 
 abbrev pub invariant-loop-i : goal.invariant-loop-i

@@ -1,8 +1,7 @@
 -- `join::past_list` meets its contract: what is read is told, and what is refused was not read. Assumes nothing.
-use mathlib.Core.Path.{sym, ap, ◌∙◌}
+use mathlib.Core.Path.{sym, ◌∙◌}
 use Rattle.files.specs.laws.AllGot.{got_value, refused_got}
 use Rattle.lists.specs.laws.ReadLaws.{listed_done, listed_refused}
-use borrow.Author.Rules.{rules}
 use Rattle.join.proofs.past_list.Goals as goal
 
 pub returns-in-Done : goal.returns-in-Done

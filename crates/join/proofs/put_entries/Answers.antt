@@ -1,8 +1,6 @@
 -- `join::put_entries` meets its contract: four parts, one after the other. Assumes nothing.
 use native.Mathlib.Omega.{arith}
-use mathlib.Core.Path.{refl}
 use Rattle.join.specs.laws.PutLaws.{entries_put}
-use borrow.Author.Rules.{rules}
 use Rattle.join.proofs.put_entries.Goals as goal
 
 pub returns : goal.returns

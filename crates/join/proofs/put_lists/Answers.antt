@@ -1,11 +1,10 @@
 -- `join::put_lists` meets its contract: four parts, one after the other. Assumes nothing.
 use native.Mathlib.Omega.{arith}
-use mathlib.Core.Path.{refl, ap, ◌∙◌}
+use mathlib.Core.Path.{ap, ◌∙◌}
 use lib.ListN.{length}
 use Prim.Native.Nat.{◌-◌}
 use Rattle.bit_writer.proofs.theorems.Laws.{put_length}
 use Rattle.join.specs.laws.PutLaws.{lists_put, room_last, room_three}
-use borrow.Author.Rules.{rules}
 use Rattle.join.proofs.put_lists.Goals as goal
 
 pub rewrite-in_file-requires : goal.rewrite-in_file-requires

@@ -1,11 +1,9 @@
 -- `join::read_prologue` meets its contract: its shape, and 7. Assumes nothing.
-use native.Mathlib.Omega.{arith}
 use mathlib.Core.Path.{sym, ap, ◌∙◌}
 use lib.ListN.{length}
 use Rattle.join.specs.laws.OperandsLaws.{file_short}
 use Rattle.join.specs.laws.JudgedLaws.{zeros_length, operand_read, prologue_told, prologue_misnamed, prologue_good, prologue_other, prologue_unread}
 use Rattle.files.specs.laws.RoomLaws.{all_rows}
-use borrow.Author.Rules.{rules}
 use Rattle.join.proofs.read_prologue.Goals as goal
 
 pub read_tree-requires : goal.read_tree-requires

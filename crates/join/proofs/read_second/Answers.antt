@@ -1,11 +1,9 @@
 -- `join::read_second` meets its contract: 6 where it is no prologue, and 7. Assumes nothing.
-use native.Mathlib.Omega.{arith}
 use mathlib.Core.Path.{sym, ap, ◌∙◌}
 use lib.ListN.{length}
 use Rattle.join.specs.laws.OperandsLaws.{file_short}
 use Rattle.join.specs.laws.JudgedLaws.{zeros_length, operand_read, prologue_told, unclosed_told, second_open_misnamed, second_open_good, second_unclosed, second_misnamed, second_good, second_unread}
 use Rattle.files.specs.laws.RoomLaws.{all_rows}
-use borrow.Author.Rules.{rules}
 use Rattle.join.proofs.read_second.Goals as goal
 
 pub read_tree-requires : goal.read_tree-requires

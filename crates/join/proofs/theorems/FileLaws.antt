@@ -1,42 +1,34 @@
 -- The joined file: its refusals, its length and its bits, by what the functions found. Assumes nothing.
-use Prim.Native.Nat.{ℕ, zero, suc, ◌+◌, ◌*◌, ◌-◌, ◌/◌, ◌≤◌, ◌<◌, max}
+use Prim.Native.Nat.{ℕ, suc, ◌+◌, ◌*◌, ◌-◌, ◌/◌, ◌≤◌, ◌<◌, max}
 use Rattle.std.proofs.Common.{arith, sym, ◌∙◌, length-append, drop_of_length-le, length-take-le}
-use Rattle.std.specs.Prelude.{◌≡◌, Bool, true, false, cond, ◌&&◌, get_or, drop, take, leb}
+use Rattle.std.specs.Prelude.{◌≡◌, Bool, true, false, get_or, drop, take, leb}
 use Rattle.std.proofs.Math.Path.{refl, ap}
-use Rattle.std.proofs.Math.Bool.{and-eq-true_iff}
-use mathlib.Core.List.{List, [], ◌∷◌, ◌++◌, map, append_assoc, append-nil}
+use mathlib.Core.List.{List, [], ◌∷◌, ◌++◌, append_assoc, append-nil}
 use Rattle.std.proofs.Math.Option.{none}
 use borrow.Author.Tests.{le-leb, lt-leb, leb-true, leb-false}
 use Rattle.std.proofs.Math.ListN.{length}
-use Rattle.std.proofs.lemmas.List.{length-map}
-use Rattle.cells.specs.laws.Laws.{clash}
-use Rattle.files.specs.Codes.{is_neutral, operands}
-use Rattle.files.specs.Code.{Code, done, neutral, return, call, unless_false, make_cont, bits}
-use Rattle.files.specs.Reading.{Got, got, refused}
+use Rattle.files.specs.Code.{Code, bits}
+use Rattle.files.specs.Reading.{got, refused}
 use Rattle.files.specs.laws.ReadingLaws.{least_bits}
 use Rattle.files.specs.Entries.{Entry, then}
 use Rattle.files.specs.laws.AllGot.{then_led, got_value}
 use Rattle.files.specs.laws.AcceptedLaws.{or_led, lowest_none}
-use Rattle.files.specs.Grammar.{entry_of, suits, index_fits, each_neutral, indices_fit, lowest, indexed_template}
-use Rattle.files.specs.laws.TableLaws.{entry_above}
+use Rattle.files.specs.Grammar.{indices_fit, lowest, indexed_template}
 use Rattle.files.specs.Tree.{Template, tree_read}
-use Rattle.files.specs.Valid.{Bytes, Valid}
 use Rattle.files.specs.Linear.{bits_of, entry_bits, entries_bits}
 use Rattle.readback.specs.Bits.{Stands}
 use Rattle.readback.specs.laws.Bits.{stands_left, stands_right, length_bits}
 use Rattle.readback.specs.Lists.{bits_from}
 use Rattle.readback.specs.laws.Lists.{stands_from}
 use Rattle.tree_file.specs.File.{list_bits, template_bits, templates_bits, file_bits, tree_file, levels}
-use Rattle.tree_file.specs.laws.Lengths.{list_length, template_length}
-use Rattle.tree_file.proofs.theorems.Back.{neutral_shape}
+use Rattle.tree_file.specs.laws.Lengths.{list_length}
 use Rattle.tree_file.proofs.theorems.Written.{file_length}
-use Rattle.rewrite.specs.Reindex.{reindexed, reindex}
+use Rattle.rewrite.specs.Reindex.{reindex}
 use Rattle.rewrite.specs.Tokens.{Token, index_in, tokens, body_bits, tokens_bits, renewed, TokensAt}
 use Rattle.rewrite.specs.laws.TokensLaws.{body_end, body_at, body_all, renewed_body}
 use Rattle.rewrite.specs.laws.ReindexLaws.{same_bits, same_levels, same_reindex}
 use Rattle.join.specs.Adjoin.{open_adjoin, joint_bits, joint_depth, front_bits, back_bits}
 use Rattle.join.specs.laws.AdjoinLaws.{adjoin_bits, adjoin_levels, depth_levels, front_back, front_length, back_length}
-use Rattle.files.specs.Accepted.{or_lowest}
 use Rattle.bit_writer.specs.Put.{put_bits}
 use Rattle.tree_file.proofs.theorems.Written.{put_tree}
 use Rattle.files.specs.Outcome.{into_bytes, answered, written}

@@ -1,5 +1,5 @@
 -- Both groupings agree (request 11). Assumes nothing.
-use Rattle.std.specs.Prelude.{ℕ, suc, ◌+◌, ◌*◌, ◌/◌, ◌≤◌, ◌<◌, max, ◌≡◌, Bool, cond, drop}
+use Rattle.std.specs.Prelude.{ℕ, ◌+◌, ◌*◌, ◌/◌, ◌≤◌, max, ◌≡◌, Bool, cond, drop}
 use Rattle.std.proofs.Common.{arith, ◌∙◌}
 use Rattle.std.proofs.Math.Path.{refl, sym, ap}
 use Rattle.std.proofs.Math.Bool.{true, false}
@@ -12,7 +12,7 @@ use Rattle.cells.specs.laws.Laws.{clash}
 use Rattle.files.specs.Code.{Code}
 use Rattle.files.specs.Reading.{Got, got, refused}
 use Rattle.files.specs.Entries.{then}
-use Rattle.files.specs.laws.AllGot.{then_led, got_value, refused_got}
+use Rattle.files.specs.laws.AllGot.{then_led, got_value}
 use Rattle.files.specs.Tree.{Template}
 use Rattle.files.specs.Grammar.{is_open}
 use Rattle.files.specs.laws.GrammarLaws.{never}
@@ -24,7 +24,6 @@ use Rattle.readback.specs.laws.Bits.{length_bits}
 use Rattle.tree_file.specs.File.{tree_file, file_bits, templates_bits, placed, levels}
 use Rattle.tree_file.specs.laws.Lengths.{template_length}
 use Rattle.tree_file.proofs.theorems.Written.{file_length}
-use Rattle.rewrite.specs.Reindex.{reindex}
 use Rattle.rewrite.specs.laws.ReindexLaws.{same_levels, reindex_twice}
 use Rattle.files.specs.Outcome.{into_bytes, answered, written}
 use Rattle.files.specs.declared.Outcome.{Outcome}

@@ -1,10 +1,9 @@
 -- `join::turn_at` meets its contract: by the shape of the code. Assumes nothing.
 use native.Mathlib.Omega.{arith}
-use mathlib.Core.Path.{refl, ap, ◌∙◌}
+use mathlib.Core.Path.{ap, ◌∙◌}
 use Rattle.fields.specs.laws.Laws.{field_small}
 use Rattle.files.specs.Codes.{shape_of}
 use Rattle.join.specs.laws.TurnLaws.{code_five, code_there, code_within, code_plain, arms_below, code_arms}
-use borrow.Author.Rules.{rules}
 use Rattle.join.proofs.turn_at.Goals as goal
 
 pub bits_at-requires : goal.bits_at-requires

@@ -1,11 +1,10 @@
 -- `join::write_joined` meets its contract: entries, and then lists. Assumes nothing.
 use native.Mathlib.Omega.{arith}
-use mathlib.Core.Path.{refl, ap, ◌∙◌}
+use mathlib.Core.Path.{ap, ◌∙◌}
 use lib.ListN.{length}
 use Rattle.bit_writer.proofs.theorems.Laws.{put_length}
 use Prim.Native.Nat.{◌+◌}
 use Rattle.join.specs.laws.PutLaws.{both_put}
-use borrow.Author.Rules.{rules}
 use Rattle.join.proofs.write_joined.Goals as goal
 
 pub put_lists-requires : goal.put_lists-requires

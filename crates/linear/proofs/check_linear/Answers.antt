@@ -1,6 +1,5 @@
 -- `linear::check_linear` meets its contract. Assumes nothing.
 use mathlib.Core.Path.{sym, ◌∙◌}
-use borrow.Author.Rules.{rules}
 use Rattle.linear.specs.laws.LinearSteps.{checked_read, checked_refused}
 use Rattle.linear.proofs.check_linear.Goals as goal
 

@@ -1,11 +1,8 @@
 -- `linear::read_templates` meets its contract. The templates that are left, from here, are read and fill the table as the whole does from the start. Assumes nothing.
-use Prim.Native.Nat.{◌-◌, ◌≤◌}
+use Prim.Native.Nat.{◌-◌}
 use native.Mathlib.Nat.{sub-zero}
-use mathlib.Core.Path.{◌≡◌, sym, ◌∙◌}
+use mathlib.Core.Path.{sym, ◌∙◌}
 use borrow.Author.Rules.{rules}
-use lib.ListN.{length}
-use Rattle.files.specs.Linear.{linear_templates_at}
-use Rattle.linear.specs.Filled.{part_told, templates_filled}
 use Rattle.linear.specs.laws.LinearSteps.{linears_none, linears_stop, linears_on}
 use Rattle.linear.proofs.read_templates.Goals as goal
 

@@ -1,12 +1,9 @@
 -- `linear::read_templates` meets its contract. The templates that are left, from here, are read and fill the table as the whole does from the start. Assumes nothing.
 use Prim.Native.Nat.{◌-◌, ◌≤◌}
-use native.Mathlib.Nat.{sub-zero}
-use mathlib.Core.Path.{◌≡◌, sym, ◌∙◌}
-use borrow.Author.Rules.{rules}
+use mathlib.Core.Path.{◌≡◌}
 use lib.ListN.{length}
 use Rattle.files.specs.Linear.{linear_templates_at}
 use Rattle.linear.specs.Filled.{part_told, templates_filled}
-use Rattle.linear.specs.laws.LinearSteps.{linears_none, linears_stop, linears_on}
 use Rattle.linear.proofs.read_templates.Given as goal
 
 abbrev pub invariant-loop-own : goal.invariant-loop-own

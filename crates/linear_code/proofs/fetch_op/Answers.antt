@@ -1,5 +1,4 @@
 -- `linear_code::fetch_op` meets its contract. Assumes nothing.
-use borrow.Author.Rules.{rules}
 use native.Mathlib.Omega.{arith}
 use Rattle.machines.specs.Instruction.{fetched_as, Places}
 use Rattle.machines.specs.laws.FetchedLaws.{operand_bytes_few}

@@ -1,5 +1,4 @@
 -- `linear_code::neutral_at` meets its contract. Assumes nothing.
-use borrow.Author.Rules.{rules}
 use native.Mathlib.Omega.{arith}
 use Rattle.machines.specs.laws.FetchedLaws.{operand_bytes_few}
 use Rattle.linear_code.specs.Neutral.{neutral_as}

@@ -1,5 +1,4 @@
 -- `linear_code::operand` meets its contract. Assumes nothing.
-use borrow.Author.Rules.{rules}
 use Rattle.linear_code.proofs.FetchLaws.{operand_there, operand_past}
 use Rattle.linear_code.proofs.operand.Goals as goal
 

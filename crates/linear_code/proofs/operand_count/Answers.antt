@@ -1,5 +1,4 @@
 -- `linear_code::operand_count` meets its contract. Assumes nothing.
-use borrow.Author.Rules.{rules}
 use mathlib.Core.Path.{refl, sym}
 use lib.ListN.{get_or-eq_default}
 use Rattle.files.specs.Codes.{linear_bytes, operand_bytes}

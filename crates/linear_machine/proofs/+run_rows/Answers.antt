@@ -1,7 +1,6 @@
 -- `linear_machine::run_rows` meets its contract. It calls itself once, with the rows that the file takes. Assumes nothing.
-use Prim.Native.Nat.{ℕ, ◌-◌, ◌<◌}
+use Prim.Native.Nat.{◌-◌}
 use native.Mathlib.Omega.{arith}
-use borrow.Author.Rules.{rules}
 use Rattle.linear_machine.proofs.+run_rows.Goals as goal
 
 pub run_rows-requires : goal.run_rows-requires

@@ -1,5 +1,4 @@
 -- `linear_machine::rows_for` meets its contract. Assumes nothing.
-use borrow.Author.Rules.{rules}
 use native.Mathlib.Omega.{arith}
 use Rattle.linear_machine.proofs.rows_for.Goals as goal
 

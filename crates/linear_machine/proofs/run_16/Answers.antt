@@ -1,5 +1,4 @@
 -- `linear_machine::run_16` meets its contract. Assumes nothing.
-use borrow.Author.Rules.{rules}
 use mathlib.Core.Path.{refl}
 use Rattle.linear_machine.proofs.run_16.Goals as goal
 

@@ -1,5 +1,4 @@
 -- `linear_machine::run_4` meets its contract. Assumes nothing.
-use borrow.Author.Rules.{rules}
 use mathlib.Core.Path.{refl}
 use Rattle.linear_machine.proofs.run_4.Goals as goal
 

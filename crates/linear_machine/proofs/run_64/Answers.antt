@@ -1,6 +1,5 @@
 -- `linear_machine::run_64` meets its contract. Assumes nothing.
 use mathlib.Core.Path.{refl}
-use borrow.Author.Rules.{rules}
 use Rattle.files.specs.laws.RoomLaws.{all_rows}
 use Rattle.linear_machine.proofs.run_64.Goals as goal
 

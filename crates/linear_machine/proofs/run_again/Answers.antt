@@ -4,7 +4,6 @@ use mathlib.Core.Path.{sym, ◌∙◌}
 use Rattle.machines.specs.Runs.{linear_run}
 use Rattle.machines.proofs.theorems.Start.{startable, started_go}
 use Rattle.linear_machine.proofs.FileLaws.{again_within, again_ran, file_owned}
-use borrow.Author.Rules.{rules}
 use Rattle.linear_machine.proofs.run_again.Goals as goal
 
 pub run_read-requires : goal.run_read-requires

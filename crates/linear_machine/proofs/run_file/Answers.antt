@@ -1,5 +1,4 @@
 -- `linear_machine::run_file` meets its contract. Assumes nothing.
-use borrow.Author.Rules.{rules}
 use native.Mathlib.Omega.{arith}
 use Rattle.files.specs.laws.RoomLaws.{table_room}
 use Rattle.linear_machine.proofs.FileLaws.{file_within_lem, file_ran, file_refused}

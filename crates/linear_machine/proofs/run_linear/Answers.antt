@@ -1,5 +1,4 @@
 -- `linear_machine::run_linear` meets its contract. Assumes nothing.
-use borrow.Author.Rules.{rules}
 use native.Mathlib.Omega.{arith}
 use Rattle.machines.specs.Runs.{linear_run}
 use Rattle.machines.proofs.theorems.Start.{may_start, start_goes, start_refused}

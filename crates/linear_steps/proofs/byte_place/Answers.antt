@@ -2,7 +2,6 @@
 use mathlib.Core.Path.{sym}
 use Rattle.steps.proofs.StepLaws.{linear_number}
 use Rattle.linear_steps.proofs.StepLaws.{no_bit}
-use borrow.Author.Rules.{rules}
 use Rattle.linear_steps.proofs.byte_place.Goals as goal
 
 pub returns-in-Tree : goal.returns-in-Tree

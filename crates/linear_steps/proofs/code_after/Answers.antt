@@ -1,7 +1,4 @@
 -- `linear_steps::code_after` meets its contract. Assumes nothing.
-use mathlib.Core.Path.{sym}
-use Rattle.linear_steps.specs.Code.{code_of}
-use borrow.Author.Rules.{rules}
 use Rattle.linear_steps.proofs.code_after.Goals as goal
 
 pub returns-then-template-before : goal.returns-then-template-before

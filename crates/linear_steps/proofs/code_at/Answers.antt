@@ -1,7 +1,6 @@
 -- `linear_steps::code_at` meets its contract. Assumes nothing.
-use mathlib.Core.Path.{◌≡◌, refl}
+use mathlib.Core.Path.{refl}
 use Rattle.linear_steps.specs.Code.{code_of}
-use borrow.Author.Rules.{rules}
 use Rattle.linear_steps.proofs.code_at.Goals as goal
 
 pub returns : goal.returns

@@ -5,7 +5,6 @@ use Rattle.machines.specs.Steps.{ran_from}
 use Rattle.machines.specs.declared.CodePlace.TheVariants.{Linear}
 use Rattle.steps.specs.Step.{CodeReady}
 use Rattle.steps.proofs.RunLaws.{first_ready, first_is}
-use borrow.Author.Rules.{rules}
 use Rattle.linear_steps.proofs.run_code.Goals as goal
 
 pub run_from-requires : goal.run_from-requires

@@ -1,15 +1,11 @@
 -- `linear_steps::run_from` meets its contract. Assumes nothing.
-use Prim.Native.Nat.{◌-◌, ◌≤◌}
-use mathlib.Core.Path.{◌≡◌, refl, sym, ◌∙◌}
+use Prim.Native.Nat.{◌-◌}
+use mathlib.Core.Path.{refl, sym, ◌∙◌}
 use Rattle.rules.specs.State.{regs}
-use Rattle.machines.specs.Runs.{memory}
-use Rattle.machines.specs.Steps.{ran_from}
-use Rattle.machines.specs.Instruction.{linear_form, form_of}
+use Rattle.machines.specs.Instruction.{form_of}
 use Rattle.machines.specs.declared.CodePlace.TheVariants.{Linear}
-use Rattle.linear_code.specs.Bytes.{bytes_program}
-use Rattle.steps.specs.Step.{control, state_of, StepReady}
+use Rattle.steps.specs.Step.{control}
 use Rattle.steps.proofs.RunLaws.{at_first, next_ready, next_place, next_turn, halted_turn, wrong_turn, spent_turn}
-use Rattle.linear_steps.specs.Code.{code_of}
 use Rattle.linear_steps.proofs.StepLaws.{placed_turn, placed_ready}
 use borrow.Author.Rules.{rules}
 use Rattle.linear_steps.proofs.run_from.Goals as goal

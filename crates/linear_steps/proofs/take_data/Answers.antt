@@ -1,6 +1,4 @@
 -- `linear_steps::take_data` meets its contract: in each arm the code is the one that is handed on. Assumes nothing.
-use mathlib.Core.Path.{refl}
-use Rattle.linear_code.specs.Neutral.{is_transfer}
 use Rattle.linear_steps.proofs.StepLaws.{coded}
 use Rattle.linear_steps.proofs.take_data.Goals as goal
 

@@ -4,7 +4,6 @@ use Rattle.machines.specs.Slots.{slot_at}
 use Rattle.linear_code.specs.Neutral.{neutral_as}
 use Rattle.steps.proofs.StepLaws.{bad_stops}
 use Rattle.linear_steps.proofs.StepLaws.{neutral_as_lem}
-use borrow.Author.Rules.{rules}
 use Rattle.linear_steps.proofs.take_neutral.Goals as goal
 
 pub returns-in-Whole : goal.returns-in-Whole

@@ -6,7 +6,6 @@ use Rattle.machines.specs.Instruction.{linear_form}
 use Rattle.linear_code.proofs.FetchLaws.{fetch_known, fetch_past, fetch_absent, fetch_past_absent}
 use Rattle.steps.proofs.StepLaws.{stays, bad_stops}
 use Rattle.linear_steps.proofs.StepLaws.{code_within, code_short, step_is}
-use borrow.Author.Rules.{rules}
 use Rattle.linear_steps.proofs.take_step.Goals as goal
 
 pub returns-then-code-ne0 : goal.returns-then-code-ne0

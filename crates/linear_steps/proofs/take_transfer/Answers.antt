@@ -5,7 +5,6 @@ use Rattle.machines.specs.Slots.{slot_at}
 use Rattle.linear_code.specs.Bytes.{bytes_program}
 use Rattle.steps.proofs.StepLaws.{acts_as, stays, neutral_place, jump_place, branch_places, save_places, jump_goes, bad_stops}
 use Rattle.linear_steps.proofs.StepLaws.{starts}
-use borrow.Author.Rules.{rules}
 use Rattle.linear_steps.proofs.take_transfer.Goals as goal
 
 pub act_branch-requires : goal.act_branch-requires

@@ -1,5 +1,4 @@
 -- `lines::flat_run` meets its contract: the machine's contract, with fresh memory. Assumes nothing.
-use borrow.Author.Rules.{rules}
 use mathlib.Core.Path.{ap}
 use Rattle.machines.specs.Runs.{run_of}
 use Rattle.lines.proofs.flat_run.Goals as goal

@@ -1,5 +1,4 @@
 -- `lines::program` meets its contract: the lines are copied where they fit. Assumes nothing.
-use borrow.Author.Rules.{rules}
 use native.Mathlib.Omega.{arith}
 use mathlib.Core.Path.{sym}
 use lib.Seq.{length-take-le}

@@ -1,5 +1,4 @@
 -- `lines::put_accepted` meets its contract: three lines, one after the other. Assumes nothing.
-use borrow.Author.Rules.{rules}
 use native.Mathlib.Omega.{arith}
 use Rattle.lines.specs.Lines.{accepted_lines}
 use Rattle.text.specs.laws.Laws.{put_then}

@@ -1,5 +1,4 @@
 -- `lines::put_answer` meets its contract: in each arm the value is known, and so is its word. Assumes nothing.
-use borrow.Author.Rules.{rules}
 use native.Mathlib.Omega.{arith}
 use Rattle.lines.specs.Lines.{answer_word}
 use Rattle.lines.proofs.put_answer.Goals as goal

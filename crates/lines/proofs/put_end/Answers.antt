@@ -1,5 +1,4 @@
 -- `lines::put_end` meets its contract: in each arm the end is known, and so are its words. Assumes nothing.
-use borrow.Author.Rules.{rules}
 use native.Mathlib.Omega.{arith}
 use Rattle.lines.specs.Lines.{end_words}
 use Rattle.lines.proofs.put_end.Goals as goal

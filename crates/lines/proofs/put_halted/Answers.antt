@@ -1,5 +1,4 @@
 -- `lines::put_halted` meets its contract: three words, each with what follows it. Assumes nothing.
-use borrow.Author.Rules.{rules}
 use native.Mathlib.Omega.{arith}
 use Rattle.lines.specs.Lines.{end_words}
 use Rattle.text.specs.laws.Laws.{put_then, put_line}

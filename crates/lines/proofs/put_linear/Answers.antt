@@ -1,5 +1,4 @@
 -- `lines::put_linear` meets its contract: a word and a number, each with what follows it. Assumes nothing.
-use borrow.Author.Rules.{rules}
 use native.Mathlib.Omega.{arith}
 use mathlib.Core.List.{append_assoc}
 use Rattle.text.specs.Text.{line}

@@ -1,5 +1,4 @@
 -- `lines::put_lines` meets its contract: by the sheet's length. Assumes nothing.
-use borrow.Author.Rules.{rules}
 use borrow.Author.Tests.{le-leb, lt-leb}
 use native.Mathlib.Omega.{arith}
 use Rattle.lines.specs.Lines.{program_lines}

@@ -1,5 +1,4 @@
 -- `lines::put_machine` meets its contract: the name with its blank, then the rest of the line. Assumes nothing.
-use borrow.Author.Rules.{rules}
 use native.Mathlib.Omega.{arith}
 use mathlib.Core.List.{append_assoc}
 use lib.ListN.{length-append}

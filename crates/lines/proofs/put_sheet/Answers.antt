@@ -1,5 +1,4 @@
 -- `lines::put_sheet` meets its contract: by what the flattener answers; 16,384 bytes are enough for it. Assumes nothing.
-use borrow.Author.Rules.{rules}
 use native.Mathlib.Omega.{arith}
 use mathlib.Core.Path.{sym, ◌∙◌}
 use lib.Seq.{length-take-le}

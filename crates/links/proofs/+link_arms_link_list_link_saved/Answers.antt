@@ -1,16 +1,12 @@
 -- The cycle of calls {link_arms, link_list, link_saved}: levels fall where an instruction's lists are linked; within a list unread bits
 -- fall. Assumes nothing.
-use Prim.Native.Nat.{◌+◌, ◌*◌, ◌-◌}
+use Prim.Native.Nat.{◌-◌}
 use native.Mathlib.Omega.{arith}
 use mathlib.Core.Path.{◌≡◌, refl, sym, ◌∙◌}
-use lib.ListN.{length}
-use Rattle.files.specs.Reading.{list_at}
-use Rattle.links.specs.Parts.{ToLink, linked_got}
 use Rattle.links.specs.laws.LinkSteps.{Outcome, outcome, arms_room, first_to_link, second_to_link, saved_room, saved_to_link, arms_linked, saved_linked, linked_on}
 use Rattle.links.specs.laws.PartsLaws.{here_within}
 use Rattle.links.specs.declared.Parts.{Parts}
-use borrow.Author.Rules.{rules}
-use Prim.Native.Nat.{ℕ, ◌<◌}
+use Prim.Native.Nat.{ℕ}
 use Rattle.links.proofs.+link_arms_link_list_link_saved.Goals as goal
 use Rattle.links.proofs.+link_arms_link_list_link_saved.Goals.{link_list-After-parts_at}
 

@@ -1,15 +1,12 @@
 -- `links::link_tree` meets its contract. The loop's invariant: what is left to link from template `own` on gives what the whole gives.
 -- Assumes nothing.
 use Prim.Native.Nat.{ℕ, ◌-◌, ◌≤◌}
-use native.Mathlib.Omega.{arith}
-use mathlib.Core.Path.{◌≡◌, refl, sym, ◌∙◌}
+use mathlib.Core.Path.{◌≡◌}
 use mathlib.Core.List.{List}
 use lib.ListN.{length}
 use Rattle.files.specs.Reading.{got}
 use Rattle.files.specs.Tree.{Template, tree_read}
 use Rattle.links.specs.TreeSteps.{linked_from, HasPasts}
-use Rattle.links.specs.laws.TreeSteps.{ready_short, at_most_64, linked_all_lem, list_to_link, next_has, templates_same, template_linked, linked_on}
-use borrow.Author.Rules.{rules}
 use Rattle.links.proofs.link_tree.Given as goal
 
 abbrev pub invariant-loop-own : goal.invariant-loop-own

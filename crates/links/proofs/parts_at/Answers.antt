@@ -4,7 +4,6 @@ use mathlib.Core.Path.{sym, ap, ◌∙◌}
 use Rattle.fields.specs.laws.Laws.{field_small}
 use Rattle.files.specs.Codes.{shape_of}
 use Rattle.links.specs.laws.PartsLaws.{end_here, simple_here, arms_here, saved_here, bad_here}
-use borrow.Author.Rules.{rules}
 use Rattle.links.proofs.parts_at.Goals as goal
 
 pub shape_of-shape-requires : goal.shape_of-shape-requires

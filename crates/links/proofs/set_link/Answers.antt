@@ -1,7 +1,6 @@
 -- `links::set_link` meets its contract. Assumes nothing.
 use mathlib.Core.Path.{refl, sym}
 use lib.Seq.{set_out}
-use borrow.Author.Rules.{rules}
 use Rattle.links.proofs.set_link.Goals as goal
 
 pub returns-then-i-links : goal.returns-then-i-links

@@ -1,11 +1,9 @@
 -- The cycle of calls {read_conditional, read_instr, read_list, read_make_cont}: levels fall where an instruction's lists are read; within
 -- a list unread bits fall. Assumes nothing.
-use borrow.Author.Rules.{rules}
-use Prim.Native.Nat.{ℕ, ◌<◌}
+use Prim.Native.Nat.{ℕ}
 use Prim.Native.Nat.{◌+◌, ◌*◌, ◌-◌, ◌/◌, ◌≤◌}
 use native.Mathlib.Omega.{arith}
 use mathlib.Core.Path.{◌≡◌, refl, sym, ap, ◌∙◌}
-use borrow.Author.Rules.{rules}
 use lib.ListN.{length}
 use Rattle.files.specs.Reading.{shaped, head_at, deep_of, list_at}
 use Rattle.files.specs.laws.Heads.{code_cut, code_read, no_code, first_arm_refused, second_arm_refused, conditional_read, count_cut, saved_refused, make_cont_read}
@@ -14,13 +12,13 @@ use Rattle.lists.specs.Pass.{added_by, begun, listed_from, itemed, simple_at, de
 use Rattle.fields.specs.laws.Laws.{value_of, cut}
 use Rattle.fields.specs.Field.{field_read}
 use Rattle.fields.specs.declared.Field.TheVariants.{Read}
-use borrow.Author.Tests.{leb-true, leb-false, not-true, not-false}
+use borrow.Author.Tests.{leb-true, leb-false}
 use Rattle.lists.specs.declared.Listed.TheVariants.{Done}
 use Rattle.lists.specs.Marks.{list_marked, head_marked}
-use Rattle.lists.specs.laws.MarkSteps.{simple_marked, code_marked, arms_marked, saved_marked, Marking, marking_begun, marking_more, marking_end, list_marked_lem, listed_near}
+use Rattle.lists.specs.laws.MarkSteps.{simple_marked, code_marked, arms_marked, saved_marked, marking_begun, marking_more, marking_end, list_marked_lem, listed_near}
 use Rattle.lists.specs.laws.PassLaws.{listed_begun}
 use Rattle.lists.specs.laws.RunLaws.{run_listed, run_marking, run_bits, run_sizes}
-use Rattle.lists.specs.laws.ReadLaws.{line_read, read_below, simple_anywhere, deep_anywhere, deep_last, listed_done, listed_refused, listed_size, turn_end, turn_more, turn_bad, turn_bits, tail_size}
+use Rattle.lists.specs.laws.ReadLaws.{line_read, simple_anywhere, deep_anywhere, deep_last, listed_done, listed_refused, listed_size, turn_end, turn_more, turn_bad, turn_bits, tail_size}
 use Rattle.lists.proofs.+read_conditional_read_instr_read_list_read_make_cont.Goals as goal
 use Rattle.lists.proofs.+read_conditional_read_instr_read_list_read_make_cont.Goals.{read_instr-After-past-next, read_instr-After-shape_by_words-shape, read_list-After-run_after-so_far}
 

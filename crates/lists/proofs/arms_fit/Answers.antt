@@ -1,5 +1,4 @@
 -- `lists::arms_fit` meets its contract. Assumes nothing.
-use borrow.Author.Rules.{rules}
 use Rattle.files.specs.Flat.{arms_fit}
 use mathlib.Core.Path.{refl, ◌∙◌}
 use borrow.Author.Tests.{eq-eqb, ne_eqb}

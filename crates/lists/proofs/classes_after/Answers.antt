@@ -1,5 +1,4 @@
 -- `lists::classes_after` meets its contract. Assumes nothing.
-use borrow.Author.Rules.{rules}
 use Rattle.lists.specs.Pass.{classes_after}
 use mathlib.Core.Path.{refl}
 use Rattle.lists.proofs.classes_after.Goals as goal

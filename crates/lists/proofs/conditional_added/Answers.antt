@@ -1,5 +1,4 @@
 -- `lists::conditional_added` meets its contract. Assumes nothing.
-use borrow.Author.Rules.{rules}
 use Rattle.lists.specs.Pass.{conditional_added}
 use mathlib.Core.Path.{refl}
 use Rattle.lists.proofs.conditional_added.Goals as goal

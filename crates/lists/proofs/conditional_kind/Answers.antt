@@ -1,5 +1,4 @@
 -- `lists::conditional_kind` meets its contract. Assumes nothing.
-use borrow.Author.Rules.{rules}
 use Rattle.lists.specs.Pass.{conditional_kind}
 use mathlib.Core.Path.{refl, sym, ◌∙◌}
 use Rattle.lists.proofs.conditional_kind.Goals as goal

@@ -1,5 +1,4 @@
 -- `lists::conditional_size` meets its contract. Assumes nothing.
-use borrow.Author.Rules.{rules}
 use Rattle.lists.specs.Pass.{conditional_size}
 use mathlib.Core.Path.{refl}
 use borrow.Author.Tests.{eq-eqb, ne_eqb}

@@ -1,5 +1,4 @@
 -- `lists::finished` meets its contract. Assumes nothing.
-use borrow.Author.Rules.{rules}
 use Rattle.lists.specs.Pass.{finish}
 use mathlib.Core.Path.{refl}
 use Rattle.lists.proofs.finished.Goals as goal

@@ -1,5 +1,4 @@
 -- `lists::is_save` meets its contract. Assumes nothing.
-use borrow.Author.Rules.{rules}
 use Rattle.lists.specs.Pass.{is_save}
 use mathlib.Core.Path.{refl}
 use Rattle.lists.proofs.is_save.Goals as goal

@@ -1,9 +1,7 @@
 -- `lists::line_in` meets its contract. Assumes nothing.
-use Prim.Native.Nat.{◌%◌, ◌^◌}
 use mathlib.Core.Path.{refl}
 use native.Mathlib.Omega.{arith}
 use Rattle.lists.specs.laws.RunLaws.{shifted_out}
-use borrow.Author.Rules.{rules}
 use Rattle.lists.proofs.line_in.Goals as goal
 
 pub returns : goal.returns

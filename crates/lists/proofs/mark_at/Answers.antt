@@ -2,7 +2,6 @@
 use Prim.Native.Nat.{ℕ}
 use mathlib.Core.Path.{sym, ap, ◌∙◌}
 use lib.ListN.{get_or, get_or-eq_default}
-use borrow.Author.Rules.{rules}
 use Rattle.lists.proofs.mark_at.Goals as goal
 
 pub returns-then-i-marks : goal.returns-then-i-marks

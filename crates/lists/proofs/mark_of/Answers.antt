@@ -1,6 +1,5 @@
 -- `lists::mark_of` meets its contract: by what is kept. Assumes nothing.
 use mathlib.Core.Path.{refl, ◌∙◌}
-use borrow.Author.Rules.{rules}
 use Rattle.lists.specs.Marks.{mark_by}
 use Rattle.lists.proofs.mark_of.Goals as goal
 

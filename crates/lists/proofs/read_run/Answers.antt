@@ -1,12 +1,10 @@
 -- `lists::read_run` meets its contract: each turn takes one neutral instruction on, and unread bits fall. Assumes nothing.
-use Prim.Native.Nat.{◌+◌, ◌*◌, ◌-◌, ◌/◌, ◌≤◌, ◌<◌}
+use Prim.Native.Nat.{◌+◌, ◌-◌, ◌/◌, ◌≤◌, ◌<◌}
 use native.Mathlib.Omega.{arith}
-use mathlib.Core.Path.{◌≡◌, refl, ◌∙◌}
+use mathlib.Core.Path.{refl, ◌∙◌}
 use lib.ListN.{length}
-use Rattle.fields.specs.Field.{field_at}
-use Rattle.lists.specs.Pass.{run_shape, Neutrals, none}
-use Rattle.lists.specs.laws.RunLaws.{run_bits, Window, window_at, window_line, run_line}
-use borrow.Author.Rules.{rules}
+use Rattle.lists.specs.Pass.{run_shape, none}
+use Rattle.lists.specs.laws.RunLaws.{run_bits, window_at, window_line, run_line}
 use Rattle.lists.proofs.read_run.Goals as goal
 use Rattle.lists.proofs.read_run.Goals.{Else-shape-eq0}
 

@@ -1,12 +1,8 @@
 -- `lists::read_run` meets its contract: each turn takes one neutral instruction on, and unread bits fall. Assumes nothing.
-use Prim.Native.Nat.{◌+◌, ◌*◌, ◌-◌, ◌/◌, ◌≤◌, ◌<◌}
-use native.Mathlib.Omega.{arith}
-use mathlib.Core.Path.{◌≡◌, refl, ◌∙◌}
+use Prim.Native.Nat.{◌*◌, ◌-◌, ◌≤◌}
 use lib.ListN.{length}
-use Rattle.fields.specs.Field.{field_at}
-use Rattle.lists.specs.Pass.{run_shape, Neutrals, none}
-use Rattle.lists.specs.laws.RunLaws.{run_bits, Window, window_at, window_line, run_line}
-use borrow.Author.Rules.{rules}
+use Rattle.lists.specs.Pass.{Neutrals}
+use Rattle.lists.specs.laws.RunLaws.{Window}
 use Rattle.lists.proofs.read_run.Given as goal
 
 abbrev pub invariant-loop-line : goal.invariant-loop-line

@@ -5,7 +5,6 @@ use mathlib.Core.Path.{sym, ◌∙◌}
 use borrow.Author.Tests.{leb-true, leb-false}
 use lib.ListN.{length}
 use Rattle.lists.specs.laws.ReadLaws.{line_first_cut, line_second_cut, line_whole}
-use borrow.Author.Rules.{rules}
 use Rattle.lists.proofs.read_simple.Goals as goal
 
 pub returns-then-within : goal.returns-then-within

@@ -2,7 +2,6 @@
 use mathlib.Core.Path.{refl}
 use borrow.Author.Tests.{eq-eqb, ne_eqb}
 use Rattle.lists.specs.Pass.{run_after}
-use borrow.Author.Rules.{rules}
 use Rattle.lists.proofs.run_after.Goals as goal
 use Rattle.lists.proofs.run_after.Goals.{then-run-eq0, else-run-eq0}
 

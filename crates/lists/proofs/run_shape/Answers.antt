@@ -1,14 +1,13 @@
 -- `lists::run_shape` meets its contract: each code's two bits. Assumes nothing.
 use Prim.Native.Nat.{ℕ, ◌*◌, ◌/◌, ◌%◌, ◌^◌, ◌≤◌, ◌<◌}
-use mathlib.Core.Path.{◌≡◌, refl, sym, ◌∙◌}
+use mathlib.Core.Path.{◌≡◌, refl, sym}
 use mathlib.Core.Bool.{Bool, true, false, not, ◌&&◌, ◌||◌, and-eq-true_iff}
 use native.Mathlib.Omega.{arith}
-use borrow.Author.Tests.{eqb-true, eqb-false, eq-eqb, leb-true, not-true}
+use borrow.Author.Tests.{eqb-true, eqb-false, leb-true}
 use lib.Dec.{eqb, leb}
 use Rattle.files.specs.Codes.{shape_of}
 use Rattle.lists.specs.Pass.{run_shape}
 use Rattle.lists.specs.laws.Each.{below, below_at}
-use borrow.Author.Rules.{rules}
 use Rattle.lists.proofs.run_shape.Goals as goal
 
 suits : ℕ → ℕ → Bool

@@ -1,5 +1,4 @@
 -- `lists::save_added` meets its contract. Assumes nothing.
-use borrow.Author.Rules.{rules}
 use Rattle.lists.specs.Pass.{save_added}
 use mathlib.Core.Path.{refl}
 use Rattle.lists.proofs.save_added.Goals as goal

@@ -1,7 +1,6 @@
 -- `lists::set_mark` meets its contract. Assumes nothing.
 use mathlib.Core.Path.{refl, sym}
 use lib.Seq.{set_out}
-use borrow.Author.Rules.{rules}
 use Rattle.lists.proofs.set_mark.Goals as goal
 
 pub returns-then-i-marks : goal.returns-then-i-marks

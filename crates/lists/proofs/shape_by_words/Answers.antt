@@ -4,7 +4,6 @@ use mathlib.Core.Path.{◌≡◌, refl}
 use native.Mathlib.Omega.{arith}
 use Rattle.files.specs.Codes.{shape_of}
 use Rattle.lists.specs.laws.Each.{each}
-use borrow.Author.Rules.{rules}
 use Rattle.lists.proofs.shape_by_words.Goals as goal
 use Rattle.lists.proofs.shape_by_words.Goals.{then-code-lt16, else-code-lt16}
 

@@ -1,8 +1,7 @@
 -- `lists::shape_of` meets its contract: each row is the table's. Assumes nothing.
 use Prim.Native.Nat.{◌≤◌}
 use native.Mathlib.Omega.{arith}
-use mathlib.Core.Path.{◌≡◌, refl, ap}
-use borrow.Author.Rules.{rules}
+use mathlib.Core.Path.{◌≡◌, refl}
 use Rattle.files.specs.Codes.{shape_of}
 use Rattle.lists.proofs.shape_of.Goals as goal
 

@@ -1,5 +1,4 @@
 -- `lists::simple_added` meets its contract. Assumes nothing.
-use borrow.Author.Rules.{rules}
 use Rattle.lists.specs.Pass.{simple_added}
 use mathlib.Core.Path.{refl}
 use borrow.Author.Tests.{lt-ltb, le-ltb}

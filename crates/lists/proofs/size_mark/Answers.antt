@@ -1,6 +1,5 @@
 -- `lists::size_mark` meets its contract: by the test. Assumes nothing.
 use native.Mathlib.Omega.{arith}
-use borrow.Author.Rules.{rules}
 use Rattle.lists.specs.Marks.{size_mark}
 use Rattle.lists.proofs.size_mark.Goals as goal
 

@@ -3,7 +3,6 @@ use mathlib.Core.Path.{sym, ◌∙◌}
 use native.Mathlib.Omega.{arith}
 use Rattle.fields.specs.laws.Laws.{shl_one}
 use Rattle.lists.specs.laws.ReadLaws.{closes_any}
-use borrow.Author.Rules.{rules}
 use Rattle.lists.proofs.slot_closes.Goals as goal
 
 pub returns-then-both : goal.returns-then-both

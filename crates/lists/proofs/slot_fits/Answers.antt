@@ -7,7 +7,6 @@ use borrow.Author.Tests.{eqb-true}
 use lib.Dec.{eqb, leb}
 use Rattle.lists.specs.Facts.{slot_fits}
 use Rattle.lists.specs.laws.Each.{each, below, below_at}
-use borrow.Author.Rules.{rules}
 use Rattle.lists.proofs.slot_fits.Goals as goal
 
 suits : ℕ → ℕ → Bool

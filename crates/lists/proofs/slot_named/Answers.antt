@@ -1,7 +1,6 @@
 -- `lists::slot_named` meets its contract. Assumes nothing.
 use mathlib.Core.Path.{◌∙◌}
 use Rattle.lists.specs.laws.ReadLaws.{named_any}
-use borrow.Author.Rules.{rules}
 use Rattle.lists.proofs.slot_named.Goals as goal
 
 pub returns : goal.returns

@@ -1,5 +1,4 @@
 -- `lists::state_after` meets its contract. Assumes nothing.
-use borrow.Author.Rules.{rules}
 use Rattle.lists.specs.Pass.{state_after}
 use mathlib.Core.Path.{refl}
 use Rattle.lists.proofs.state_after.Goals as goal

@@ -1,5 +1,4 @@
 -- `lists::tail_after` meets its contract. Assumes nothing.
-use borrow.Author.Rules.{rules}
 use mathlib.Core.Path.{refl}
 use Rattle.lists.proofs.tail_after.Goals as goal
 

@@ -1,5 +1,5 @@
 -- The plain rules, the call and the conditional's test keep registers and memory alike. Assumes nothing.
-use Rattle.std.specs.Prelude.{◌≡◌, Bool, true, false, cond, ◌&&◌, List, ℤ, ◌-ℤ◌, length, get_or, set, take, ltb, leb}
+use Rattle.std.specs.Prelude.{◌≡◌, Bool, true, false, cond, ◌&&◌, List, ℤ, ◌-ℤ◌, get_or, set, take, ltb, leb}
 use Rattle.std.proofs.Math.Path.{refl}
 use Rattle.std.proofs.Common.{ap, subst, length-set}
 use Rattle.std.proofs.Math.Bool.{not, and-eq-true_iff}
@@ -10,7 +10,6 @@ use Rattle.std.specs.Int.Signed.{lt_z}
 use Rattle.std.proofs.Math.Dec.{eqb}
 use borrow.Author.Tests.{leb-true, eqb-true}
 use Rattle.cells.specs.Cells.{tag_of, int_of, closure_env, unspecified_cell, true_cell, false_cell, layer_parent, pair_first, pair_second}
-use Rattle.owners.specs.Owners.{may_read, may_set}
 use Rattle.owners.specs.declared.Owner.{Owner}
 use Rattle.rules.specs.Owned.{may_do, owned_rule}
 use Rattle.rules.specs.State.{Mem, regs, Held, Res, need}

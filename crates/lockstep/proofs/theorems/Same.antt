@@ -16,7 +16,7 @@ use Rattle.machines.specs.Runs.{start_state}
 use Rattle.lockstep.specs.laws.Lockstep.{Kin}
 use Rattle.lockstep.specs.laws.Likeness.{Likeness, Each, none_e, more_e, each_of}
 use Rattle.lockstep.specs.laws.Plain.{PlainLike, Allowed, closure_i, global_i, set_global_i, same_i, regs_l}
-use Rattle.lockstep.proofs.theorems.Frames.{data_of, FrameFits, Savable, FramesLike, none_f, more_f, FramesAlike, Like, like_d, keep_like, back_like}
+use Rattle.lockstep.proofs.theorems.Frames.{data_of, Savable, FramesLike, none_f, more_f, FramesAlike, Like, like_d, keep_like, back_like}
 use Rattle.lockstep.proofs.theorems.Kept.{more, more_back, apply_like, call_like, false_like}
 
 -- ---- equal cells

@@ -1,5 +1,4 @@
 -- `machines::clear_all` meets its contract. Assumes nothing.
-use borrow.Author.Rules.{rules}
 use Rattle.machines.proofs.Laws.{zeroed_whole}
 use Rattle.machines.proofs.clear_all.Goals as goal
 

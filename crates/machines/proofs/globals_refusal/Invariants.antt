@@ -1,12 +1,8 @@
 -- `machines::globals_refusal` meets its contract. Assumes nothing.
-use borrow.Author.Rules.{rules}
-use borrow.Author.Tests.{not-true, not-false}
 use Prim.Native.Nat.{◌≤◌, ◌-◌}
-use mathlib.Core.Path.{◌≡◌, ap}
+use mathlib.Core.Path.{◌≡◌}
 use lib.ListN.{length, drop}
 use Rattle.machines.specs.Runs.{lowest_unfit}
-use Rattle.machines.specs.Start.{globals_refusal}
-use Rattle.machines.proofs.Laws.{unfit_here, unfit_later, unfit_nowhere}
 use Rattle.machines.proofs.globals_refusal.Given as goal
 
 abbrev pub invariant-loop-i : goal.invariant-loop-i

@@ -1,5 +1,4 @@
 -- `machines::literal` meets its contract. Assumes nothing.
-use borrow.Author.Rules.{rules}
 use borrow.Author.Tests.{eq-eqb, ne_eqb, le-leb}
 use Rattle.machines.specs.Fetched.{as_literal}
 use Rattle.machines.specs.Slots.{slot_names, resolved_as}

@@ -1,6 +1,5 @@
 -- `machines::resolve` meets its contract. Assumes nothing.
-use borrow.Author.Rules.{rules}
-use mathlib.Core.Path.{refl, ap, ◌∙◌}
+use mathlib.Core.Path.{ap, ◌∙◌}
 use Rattle.rules.specs.declared.Plain.TheVariants.{Closure, Global, SetGlobal}
 use Rattle.machines.specs.Fetched.{as_literal, rule_of}
 use Rattle.machines.specs.Slots.{slot_at, slot_names, slot_resolve, resolved_as, marked_as}

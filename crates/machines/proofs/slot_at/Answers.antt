@@ -1,5 +1,4 @@
 -- `machines::slot_at` meets its contract. Assumes nothing.
-use borrow.Author.Rules.{rules}
 use mathlib.Core.Path.{refl, sym}
 use lib.ListN.{get_or-eq_default}
 use Rattle.machines.specs.Slots.{slot_at}

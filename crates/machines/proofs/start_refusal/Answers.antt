@@ -1,7 +1,6 @@
 -- `machines::start_refusal` meets its contract. Assumes nothing.
-use borrow.Author.Rules.{rules}
 use mathlib.Core.Path.{sym, ◌∙◌}
-use borrow.Author.Tests.{eq-eqb, ne_eqb, le-leb, lt-leb, not-true, not-false}
+use borrow.Author.Tests.{eq-eqb, ne_eqb, le-leb, lt-leb}
 use Rattle.machines.specs.Runs.{right_lengths}
 use Rattle.machines.specs.Start.{start_refusal}
 use Rattle.machines.proofs.start_refusal.Goals as goal

@@ -1,5 +1,4 @@
 -- `machines::under_tag` meets its contract. Assumes nothing.
-use borrow.Author.Rules.{rules}
 use borrow.Author.Tests.{eq-eqb, ne_eqb}
 use Rattle.machines.specs.Slots.{marked_as}
 use Rattle.machines.proofs.under_tag.Goals as goal

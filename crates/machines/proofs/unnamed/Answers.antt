@@ -1,5 +1,4 @@
 -- `machines::unnamed` meets its contract. Assumes nothing.
-use borrow.Author.Rules.{rules}
 use mathlib.Core.Path.{refl}
 use Rattle.machines.specs.Fetched.{rule_of}
 use Rattle.machines.specs.Slots.{slot_resolve, resolved_as}

@@ -1,5 +1,4 @@
 -- `owners::may_read` meets its contract. Assumes nothing.
-use borrow.Author.Rules.{rules}
 use mathlib.Core.Path.{refl}
 use Rattle.owners.specs.Owners.{may_read}
 use Rattle.owners.proofs.may_read.Goals as goal

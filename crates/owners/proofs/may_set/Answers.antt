@@ -1,5 +1,4 @@
 -- `owners::may_set` meets its contract. Assumes nothing.
-use borrow.Author.Rules.{rules}
 use mathlib.Core.Path.{refl}
 use Rattle.owners.specs.Owners.{may_set}
 use Rattle.owners.proofs.may_set.Goals as goal

@@ -1,6 +1,5 @@
 -- `pull::check_clips` meets its contract. Assumes nothing.
 use Rattle.pull.proofs.Checks.{many, cut, no_speed_lem, speeds}
-use borrow.Author.Rules.{rules}
 use Rattle.pull.proofs.check_clips.Goals as goal
 
 pub returns-then-count-gt256 : goal.returns-then-count-gt256

@@ -1,7 +1,5 @@
 -- `pull::check_room` meets its contract. Assumes nothing.
-use native.Mathlib.Omega.{arith}
 use Rattle.pull.proofs.Checks.{no_room_lem, large, fits}
-use borrow.Author.Rules.{rules}
 use Rattle.pull.proofs.check_room.Goals as goal
 
 pub returns-then-room-count : goal.returns-then-room-count

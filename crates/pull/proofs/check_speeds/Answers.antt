@@ -1,10 +1,9 @@
 -- `pull::check_speeds` meets its contract: by each clip in turn; the measure is how many are left. Assumes nothing.
 use native.Mathlib.Omega.{arith}
-use Prim.Native.Nat.{◌-◌, ◌/◌, ◌≤◌}
+use Prim.Native.Nat.{◌-◌}
 use native.Mathlib.Nat.{sub-zero}
-use mathlib.Core.Path.{◌≡◌, refl, sym, ap, ◌∙◌}
-use lib.ListN.{length}
-use Rattle.pull.specs.Pull.{clip_count, lowest_still, speeds_checked}
+use mathlib.Core.Path.{sym, ◌∙◌}
+use Rattle.pull.specs.Pull.{clip_count, speeds_checked}
 use Rattle.pull.proofs.Checks.{still, moves, none_still}
 use borrow.Author.Rules.{rules}
 use Rattle.pull.proofs.check_speeds.Goals as goal

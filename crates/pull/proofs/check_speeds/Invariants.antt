@@ -1,12 +1,8 @@
 -- `pull::check_speeds` meets its contract: by each clip in turn; the measure is how many are left. Assumes nothing.
-use native.Mathlib.Omega.{arith}
 use Prim.Native.Nat.{◌-◌, ◌/◌, ◌≤◌}
-use native.Mathlib.Nat.{sub-zero}
-use mathlib.Core.Path.{◌≡◌, refl, sym, ap, ◌∙◌}
+use mathlib.Core.Path.{◌≡◌}
 use lib.ListN.{length}
-use Rattle.pull.specs.Pull.{clip_count, lowest_still, speeds_checked}
-use Rattle.pull.proofs.Checks.{still, moves, none_still}
-use borrow.Author.Rules.{rules}
+use Rattle.pull.specs.Pull.{lowest_still}
 use Rattle.pull.proofs.check_speeds.Given as goal
 
 abbrev pub invariant-loop-k : goal.invariant-loop-k

@@ -1,9 +1,6 @@
 -- `pull::pull_clip` meets its contract: its run, and its line. Assumes nothing.
 use native.Mathlib.Omega.{arith}
-use mathlib.Core.Path.{sym, ◌∙◌}
-use mathlib.Core.Path.{ap}
 use Rattle.pull.proofs.Clips.{clip_part, put_clip}
-use borrow.Author.Rules.{rules}
 use Rattle.pull.proofs.pull_clip.Goals as goal
 
 pub run_clip-found-requires : goal.run_clip-found-requires

@@ -1,11 +1,7 @@
 -- `pull::pull_clips` meets its contract: the lines of the first k clips are put; the measure is how many clips are left. Assumes nothing.
 use native.Mathlib.Omega.{arith}
-use Prim.Native.Nat.{◌+◌, ◌-◌, ◌*◌, ◌/◌, ◌≤◌}
-use mathlib.Core.Path.{◌≡◌, sym, ◌∙◌}
-use lib.ListN.{length}
-use Rattle.text.specs.Put.{Put}
-use Rattle.text.specs.laws.Laws.{put_length}
-use Rattle.pull.specs.Pull.{clip_count, pull_lines}
+use Prim.Native.Nat.{◌-◌}
+use Rattle.pull.specs.Pull.{clip_count}
 use Rattle.pull.proofs.Clips.{no_lines, one_line_more, all_lines}
 use borrow.Author.Rules.{rules}
 use Rattle.pull.proofs.pull_clips.Goals as goal

@@ -1,10 +1,7 @@
 -- `pull::pull_file` meets its contract: by what reading the file answers. Assumes nothing.
-use native.Mathlib.Omega.{arith}
 use mathlib.Core.Path.{sym, ◌∙◌}
-use mathlib.Core.Path.{refl}
 use Rattle.machines.specs.Start.{zeros}
 use Rattle.pull.proofs.Checks.{accepted_fit, file_refused, all_pulled}
-use borrow.Author.Rules.{rules}
 use Rattle.pull.proofs.pull_file.Goals as goal
 
 pub pull_read-requires : goal.pull_read-requires

@@ -1,7 +1,6 @@
 -- `pull::pull_list` meets its contract: by what is said of clips, list and budget. Assumes nothing.
 use mathlib.Core.Path.{sym, ◌∙◌}
 use Rattle.pull.proofs.Checks.{clips_refused}
-use borrow.Author.Rules.{rules}
 use Rattle.pull.proofs.pull_list.Goals as goal
 
 pub pull_file-requires : goal.pull_file-requires

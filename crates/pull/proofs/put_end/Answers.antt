@@ -1,7 +1,6 @@
 -- `pull::put_end` meets its contract: in each arm the end is known, and so are its words. Assumes nothing.
 use native.Mathlib.Omega.{arith}
 use Rattle.pull.specs.Pull.{end_words}
-use borrow.Author.Rules.{rules}
 use Rattle.pull.proofs.put_end.Goals as goal
 
 pub returns-in-Halted : goal.returns-in-Halted

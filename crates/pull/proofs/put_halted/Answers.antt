@@ -3,7 +3,6 @@ use native.Mathlib.Omega.{arith}
 use mathlib.Core.Path.{sym, ◌∙◌}
 use Rattle.text.specs.Text.{line}
 use Rattle.pull.proofs.Lines.{no_in, no_out, both}
-use borrow.Author.Rules.{rules}
 use Rattle.pull.proofs.put_halted.Goals as goal
 
 pub returns-then-tag_of-ne6 : goal.returns-then-tag_of-ne6

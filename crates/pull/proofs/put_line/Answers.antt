@@ -2,7 +2,6 @@
 use native.Mathlib.Omega.{arith}
 use Rattle.text.specs.laws.Laws.{put_length}
 use Rattle.pull.proofs.Lines.{number_after, put_found}
-use borrow.Author.Rules.{rules}
 use Rattle.pull.proofs.put_line.Goals as goal
 
 pub put_end-requires : goal.put_end-requires

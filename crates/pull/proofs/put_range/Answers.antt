@@ -2,7 +2,6 @@
 use native.Mathlib.Omega.{arith}
 use Rattle.text.specs.laws.Laws.{put_before}
 use Rattle.pull.specs.Pull.{source_words}
-use borrow.Author.Rules.{rules}
 use Rattle.pull.proofs.put_range.Goals as goal
 
 pub returns : goal.returns

@@ -2,7 +2,6 @@
 use native.Mathlib.Omega.{arith}
 use Rattle.text.specs.laws.Laws.{put_then, put_length}
 use Rattle.pull.proofs.Lines.{integer_short, put_two}
-use borrow.Author.Rules.{rules}
 use Rattle.pull.proofs.put_source.Goals as goal
 
 pub put_integer-newline-requires : goal.put_integer-newline-requires

@@ -3,7 +3,6 @@ use native.Mathlib.Omega.{arith}
 use mathlib.Core.Path.{sym, ◌∙◌}
 use Rattle.integers.specs.Integers.{signed}
 use Rattle.pull.proofs.Lines.{verdict_order, verdict_low, verdict_high, verdict_ok}
-use borrow.Author.Rules.{rules}
 use Rattle.pull.proofs.put_verdict.Goals as goal
 
 pub returns-then-less : goal.returns-then-less

@@ -1,7 +1,6 @@
 -- `pull::put_wrong` meets its contract: a word and a number, each with what follows it. Assumes nothing.
 use native.Mathlib.Omega.{arith}
 use Rattle.pull.proofs.Lines.{put_two}
-use borrow.Author.Rules.{rules}
 use Rattle.pull.proofs.put_wrong.Goals as goal
 
 pub returns : goal.returns

@@ -3,7 +3,6 @@ use native.Mathlib.Omega.{arith}
 use Rattle.linear_machine.specs.laws.Again.{may_run}
 use Rattle.pull.proofs.Clips.{run_found}
 use Rattle.pull.specs.Pull.{found_of}
-use borrow.Author.Rules.{rules}
 use Rattle.pull.proofs.run_clip.Goals as goal
 
 pub run_again-run-requires : goal.run_again-run-requires

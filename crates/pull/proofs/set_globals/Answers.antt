@@ -2,7 +2,6 @@
 use Rattle.pull.proofs.Clips.{six_set, six_fit}
 use native.Mathlib.Omega.{arith}
 use lib.ListN.{length-set}
-use borrow.Author.Rules.{rules}
 use Rattle.pull.proofs.set_globals.Goals as goal
 
 pub bounds-globals-1 : goal.bounds-globals-1

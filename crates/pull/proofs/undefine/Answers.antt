@@ -1,9 +1,8 @@
 -- `pull::undefine` meets its contract: what is left to fill, filled, gives globals that are all undefined; the measure is how many are left. Assumes nothing.
 use native.Mathlib.Omega.{arith}
-use Prim.Native.Nat.{◌-◌, ◌≤◌}
-use mathlib.Core.Path.{◌≡◌, refl, sym, ◌∙◌}
-use lib.ListN.{length, replicate, length-set}
-use lib.Seq.{sets}
+use Prim.Native.Nat.{◌-◌}
+use mathlib.Core.Path.{refl, sym, ◌∙◌}
+use lib.ListN.{length-set}
 use Rattle.cells.specs.Cells.{undefined_cell}
 use Rattle.pull.proofs.Clips.{fill_on, fill_done, fill_all}
 use borrow.Author.Rules.{rules}

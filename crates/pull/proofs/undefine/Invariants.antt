@@ -1,12 +1,9 @@
 -- `pull::undefine` meets its contract: what is left to fill, filled, gives globals that are all undefined; the measure is how many are left. Assumes nothing.
-use native.Mathlib.Omega.{arith}
 use Prim.Native.Nat.{◌-◌, ◌≤◌}
-use mathlib.Core.Path.{◌≡◌, refl, sym, ◌∙◌}
-use lib.ListN.{length, replicate, length-set}
+use mathlib.Core.Path.{◌≡◌}
+use lib.ListN.{length, replicate}
 use lib.Seq.{sets}
 use Rattle.cells.specs.Cells.{undefined_cell}
-use Rattle.pull.proofs.Clips.{fill_on, fill_done, fill_all}
-use borrow.Author.Rules.{rules}
 use Rattle.pull.proofs.undefine.Given as goal
 
 abbrev pub invariant-loop-i : goal.invariant-loop-i

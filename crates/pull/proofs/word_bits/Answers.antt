@@ -1,7 +1,6 @@
 -- `pull::word_bits` meets its contract: by the word's sign. Assumes nothing.
 use Rattle.pull.proofs.Words.{word_fits, word_wide, sum_fits, sum_cast, negative_bits, positive_cast, positive_bits}
 use Rattle.pull.specs.Pull.{word}
-use borrow.Author.Rules.{rules}
 use Rattle.pull.proofs.word_bits.Goals as goal
 
 pub overflow_cast-result : goal.overflow_cast-result

@@ -1,9 +1,8 @@
 -- `pull::word_cell` meets its contract. Assumes nothing.
-use mathlib.Core.Path.{sym, ap, ◌∙◌}
+use mathlib.Core.Path.{ap, ◌∙◌}
 use Rattle.cells.specs.Cells.{int_cell, starting_global}
 use Rattle.pull.proofs.Clips.{integer_fits}
 use Rattle.pull.specs.Pull.{word_cell}
-use borrow.Author.Rules.{rules}
 use Rattle.pull.proofs.word_cell.Goals as goal
 
 pub returns : goal.returns

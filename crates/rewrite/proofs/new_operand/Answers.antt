@@ -1,9 +1,7 @@
 -- `rewrite::new_operand` meets its contract. Assumes nothing.
 use native.Mathlib.Omega.{arith}
 use borrow.Author.Tests.{lt-ltb, le-ltb}
-use mathlib.Core.Path.{refl}
 use Rattle.rewrite.specs.Tokens.{new_operand, index_in}
-use borrow.Author.Rules.{rules}
 use Rattle.rewrite.proofs.new_operand.Goals as goal
 
 pub returns-then-code-lt6 : goal.returns-then-code-lt6

@@ -1,5 +1,4 @@
 -- `rewrite::operand_count` meets its contract. Assumes nothing.
-use mathlib.Core.Path.{refl}
 use borrow.Author.Tests.{ne_eqb}
 use Rattle.rewrite.specs.Tokens.{operand_count}
 use Rattle.rewrite.proofs.operand_count.Goals as goal

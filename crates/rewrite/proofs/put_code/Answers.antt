@@ -5,7 +5,6 @@ use lib.ListN.{length}
 use Rattle.fields.specs.laws.Laws.{field_small}
 use Rattle.bit_writer.proofs.theorems.Laws.{put_length}
 use Rattle.rewrite.specs.laws.Steps.{put_none, put_one, put_two}
-use borrow.Author.Rules.{rules}
 use Rattle.rewrite.proofs.put_code.Goals as goal
 
 pub returns-then-count-eq0 : goal.returns-then-count-eq0

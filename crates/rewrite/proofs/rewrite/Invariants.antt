@@ -1,13 +1,10 @@
 -- `rewrite::rewrite` meets its contract. The loop's invariant: the bits of the tokens that are passed are written, and the others stand from `here` on.
 -- Assumes nothing.
-use Prim.Native.Nat.{◌+◌, ◌*◌, ◌≤◌}
-use native.Mathlib.Omega.{arith}
-use mathlib.Core.Path.{◌≡◌, refl, ap, ◌∙◌}
+use Prim.Native.Nat.{◌+◌}
+use mathlib.Core.Path.{◌≡◌}
 use lib.ListN.{length}
-use Rattle.bit_writer.proofs.theorems.Laws.{put_length}
-use Rattle.rewrite.specs.Tokens.{operand_count, index_in, TokensAt}
-use Rattle.rewrite.specs.laws.Steps.{Left, left_all, left_code, left_small, left_operands, left_next, left_none, cleared_then, cleared_still}
-use borrow.Author.Rules.{rules}
+use Rattle.rewrite.specs.Tokens.{index_in, TokensAt}
+use Rattle.rewrite.specs.laws.Steps.{Left}
 use Rattle.rewrite.proofs.rewrite.Given as goal
 
 abbrev pub invariant-loop-left : goal.invariant-loop-left

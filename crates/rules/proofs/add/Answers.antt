@@ -1,5 +1,4 @@
 -- `rules::add` meets its contract: the rule goes by what `sum_up` answers. Assumes nothing.
-use borrow.Author.Rules.{rules}
 use mathlib.Core.Path.{sym, ◌∙◌}
 use Rattle.rules.specs.State.{mem, told}
 use Rattle.rules.proofs.Laws.{added, add_by_sum, sum_fits}

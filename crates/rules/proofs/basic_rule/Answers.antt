@@ -1,5 +1,4 @@
 -- `rules::basic_rule` meets its contract: in each arm the instruction is known, and the rule's function gives its equation. Assumes nothing.
-use borrow.Author.Rules.{rules}
 use Rattle.rules.specs.Rules.{plain_rule}
 use Rattle.rules.specs.Owned.{may_do, owned_rule}
 use Rattle.rules.proofs.Laws.{ended}

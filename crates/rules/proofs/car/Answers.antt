@@ -1,5 +1,4 @@
 -- `rules::car` meets its contract: it is `part` at the pair's first location. Assumes nothing.
-use borrow.Author.Rules.{rules}
 use mathlib.Core.Path.{sym, ap, ◌∙◌}
 use Rattle.cells.specs.Cells.{pair_first}
 use Rattle.rules.specs.Rules.{car_rule}

@@ -1,5 +1,4 @@
 -- `rules::cdr` meets its contract: it is `part` at the pair's second location. Assumes nothing.
-use borrow.Author.Rules.{rules}
 use mathlib.Core.Path.{sym, ap, ◌∙◌}
 use Rattle.cells.specs.Cells.{pair_second}
 use Rattle.rules.specs.Rules.{cdr_rule}

@@ -1,5 +1,4 @@
 -- `rules::closure` meets its contract. Assumes nothing.
-use borrow.Author.Rules.{rules}
 use borrow.Author.Tests.{le-leb, lt-leb}
 use Rattle.rules.specs.Rules.{closure_rule}
 use Rattle.rules.specs.State.{told}

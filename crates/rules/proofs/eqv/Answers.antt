@@ -1,5 +1,4 @@
 -- `rules::eqv` meets its contract. Assumes nothing.
-use borrow.Author.Rules.{rules}
 use borrow.Author.Tests.{le-leb, lt-leb, eq-eqb, ne_eqb}
 use Rattle.rules.specs.Rules.{eqv_rule}
 use Rattle.rules.specs.State.{told}

@@ -1,8 +1,5 @@
 -- `rules::floor_div` meets its contract: the rule goes by the two operands, and by whether the right one is zero. Assumes nothing.
-use borrow.Author.Rules.{rules}
-use borrow.Author.Tests.{eq-eqb, ne_eqb}
-use mathlib.Core.Path.{sym, ap, ◌∙◌}
-use mathlib.Core.Bool.{not}
+use mathlib.Core.Path.{ap, ◌∙◌}
 use Rattle.rules.specs.State.{mem, told}
 use Rattle.rules.specs.Rules.{divided, floor_div_rule}
 use Rattle.rules.proofs.Laws.{two_are, two_wrong, integer_of, fits_of, by_zero, by_other}

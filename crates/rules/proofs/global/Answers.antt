@@ -1,6 +1,4 @@
 -- `rules::global` meets its contract. Assumes nothing.
-use borrow.Author.Rules.{rules}
-use borrow.Author.Tests.{not-true, not-false}
 use mathlib.Core.Path.{ap, ◌∙◌}
 use Rattle.rules.specs.Rules.{global_rule, plain_rule}
 use Rattle.rules.specs.Owned.{may_do}

@@ -1,5 +1,4 @@
 -- `rules::held` meets its contract. Assumes nothing.
-use borrow.Author.Rules.{rules}
 use borrow.Author.Tests.{eq-eqb, ne_eqb}
 use Rattle.rules.specs.Rules.{held_rule}
 use Rattle.rules.specs.State.{told}

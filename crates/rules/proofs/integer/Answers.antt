@@ -1,6 +1,4 @@
 -- `rules::integer` meets its contract: the rule goes by whether the number is in range. Assumes nothing.
-use borrow.Author.Rules.{rules}
-use native.Mathlib.Omega.{arith}
 use Rattle.rules.specs.Answers.{integer_by}
 use Rattle.rules.specs.State.{told}
 use Rattle.rules.proofs.integer.Goals as goal

@@ -1,5 +1,4 @@
 -- `rules::less` meets its contract: the rule goes by the two operands. Assumes nothing.
-use borrow.Author.Rules.{rules}
 use mathlib.Core.Path.{ap}
 use Rattle.rules.specs.State.{mem, told}
 use Rattle.rules.specs.Rules.{compared, less_rule}

@@ -1,5 +1,4 @@
 -- `rules::literal` meets its contract. Assumes nothing.
-use borrow.Author.Rules.{rules}
 use Rattle.rules.specs.Rules.{literal_rule}
 use Rattle.rules.specs.State.{told}
 use Rattle.rules.proofs.literal.Goals as goal

@@ -1,5 +1,4 @@
 -- `rules::local` meets its contract. Assumes nothing.
-use borrow.Author.Rules.{rules}
 use mathlib.Core.Path.{sym, ◌∙◌}
 use Rattle.rules.specs.Rules.{local_rule}
 use Rattle.rules.specs.State.{told}

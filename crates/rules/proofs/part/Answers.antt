@@ -1,5 +1,4 @@
 -- `rules::part` meets its contract. Assumes nothing.
-use borrow.Author.Rules.{rules}
 use borrow.Author.Tests.{le-leb, lt-leb, eq-eqb, ne_eqb}
 use mathlib.Core.Path.{sym, ◌∙◌}
 use Rattle.rules.specs.State.{told}

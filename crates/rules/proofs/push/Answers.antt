@@ -1,5 +1,4 @@
 -- `rules::push` meets its contract. Assumes nothing.
-use borrow.Author.Rules.{rules}
 use borrow.Author.Tests.{lt-ltb, le-ltb}
 use Rattle.rules.specs.Rules.{push_rule}
 use Rattle.rules.specs.State.{told}

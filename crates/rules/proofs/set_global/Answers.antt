@@ -1,7 +1,5 @@
 -- `rules::set_global` meets its contract. Assumes nothing.
-use borrow.Author.Rules.{rules}
-use borrow.Author.Tests.{not-true, not-false}
-use mathlib.Core.Path.{ap, ◌∙◌}
+use mathlib.Core.Path.{ap}
 use Rattle.rules.specs.Rules.{set_global_rule, plain_rule}
 use Rattle.rules.specs.Owned.{may_do}
 use Rattle.rules.specs.State.{told}

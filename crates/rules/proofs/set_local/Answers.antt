@@ -1,5 +1,4 @@
 -- `rules::set_local` meets its contract. Assumes nothing.
-use borrow.Author.Rules.{rules}
 use mathlib.Core.Path.{sym, ◌∙◌}
 use Rattle.rules.specs.Rules.{set_local_rule}
 use Rattle.rules.specs.State.{told}

@@ -1,6 +1,5 @@
 -- `rules::sub` meets its contract: the rule goes by the two operands. Assumes nothing.
-use borrow.Author.Rules.{rules}
-use mathlib.Core.Path.{sym, ap, ◌∙◌}
+use mathlib.Core.Path.{ap, ◌∙◌}
 use Rattle.rules.specs.State.{mem, told}
 use Rattle.rules.specs.Rules.{subtracted, sub_rule}
 use Rattle.rules.proofs.Laws.{two_are, two_wrong, integer_of, fits_of}

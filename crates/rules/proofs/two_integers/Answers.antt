@@ -1,5 +1,4 @@
 -- `rules::two_integers` meets its contract: by its tests, in their order. Assumes nothing.
-use borrow.Author.Rules.{rules}
 use native.Mathlib.Omega.{arith}
 use mathlib.Core.Path.{sym, ◌∙◌}
 use Rattle.rules.specs.State.{mem}

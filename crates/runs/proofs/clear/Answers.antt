@@ -1,11 +1,8 @@
 -- `runs::clear` meets its contract. Assumes nothing.
 use borrow.Author.Rules.{rules}
-use mathlib.Core.Path.{◌≡◌, refl}
-use Prim.Native.Nat.{◌≤◌, ◌+◌, ◌-◌}
+use mathlib.Core.Path.{refl}
+use Prim.Native.Nat.{◌-◌}
 use native.Mathlib.Nat.{add-sub_cancel_left}
-use lib.ListN.{length, replicate}
-use lib.Seq.{sets}
-use Rattle.runs.specs.Runs.{zeroed}
 use Rattle.runs.proofs.Laws.{sets_on, zeros_on, zeros_done}
 use Rattle.runs.proofs.clear.Goals as goal
 

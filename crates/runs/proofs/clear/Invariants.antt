@@ -1,12 +1,9 @@
 -- `runs::clear` meets its contract. Assumes nothing.
-use borrow.Author.Rules.{rules}
-use mathlib.Core.Path.{◌≡◌, refl}
+use mathlib.Core.Path.{◌≡◌}
 use Prim.Native.Nat.{◌≤◌, ◌+◌, ◌-◌}
-use native.Mathlib.Nat.{add-sub_cancel_left}
 use lib.ListN.{length, replicate}
 use lib.Seq.{sets}
 use Rattle.runs.specs.Runs.{zeroed}
-use Rattle.runs.proofs.Laws.{sets_on, zeros_on, zeros_done}
 use Rattle.runs.proofs.clear.Given as goal
 
 abbrev pub invariant-loop-i : goal.invariant-loop-i

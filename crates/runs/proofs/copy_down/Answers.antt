@@ -1,10 +1,7 @@
 -- `runs::copy_down` meets its contract. Assumes nothing.
 use borrow.Author.Rules.{rules}
-use mathlib.Core.Path.{◌≡◌, refl}
-use mathlib.Core.List.{reverse}
-use Prim.Native.Nat.{◌≤◌, ◌+◌, ◌-◌}
-use lib.ListN.{length, take}
-use lib.Seq.{sets}
+use mathlib.Core.Path.{refl}
+use Prim.Native.Nat.{◌-◌}
 use Rattle.runs.proofs.Laws.{sets_on, down_on, down_done}
 use Rattle.runs.proofs.copy_down.Goals as goal
 

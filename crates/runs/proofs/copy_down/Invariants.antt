@@ -1,11 +1,9 @@
 -- `runs::copy_down` meets its contract. Assumes nothing.
-use borrow.Author.Rules.{rules}
-use mathlib.Core.Path.{◌≡◌, refl}
+use mathlib.Core.Path.{◌≡◌}
 use mathlib.Core.List.{reverse}
 use Prim.Native.Nat.{◌≤◌, ◌+◌, ◌-◌}
 use lib.ListN.{length, take}
 use lib.Seq.{sets}
-use Rattle.runs.proofs.Laws.{sets_on, down_on, down_done}
 use Rattle.runs.proofs.copy_down.Given as goal
 
 abbrev pub invariant-loop-k : goal.invariant-loop-k

@@ -1,13 +1,9 @@
 -- `runs::copy_up` meets its contract. Assumes nothing.
-use borrow.Author.Rules.{rules}
 use mathlib.Core.Path.{◌≡◌}
 use Prim.Native.Nat.{◌≤◌, ◌+◌, ◌-◌}
-use native.Mathlib.Omega.{arith}
-use native.Mathlib.Nat.{sub-zero, add-zero}
 use lib.ListN.{length}
 use lib.Seq.{sets}
 use Rattle.runs.specs.Runs.{part}
-use Rattle.runs.proofs.Laws.{sets_on, part_on}
 use Rattle.runs.proofs.copy_up.Given as goal
 
 abbrev pub invariant-loop-i : goal.invariant-loop-i

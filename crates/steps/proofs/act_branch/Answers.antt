@@ -1,6 +1,5 @@
 -- `steps::act_branch` meets its contract. Assumes nothing.
 use Rattle.steps.proofs.StepLaws.{branch_first, branch_second}
-use borrow.Author.Rules.{rules}
 use Rattle.steps.proofs.act_branch.Goals as goal
 
 pub returns-then-r-eq-FALSE : goal.returns-then-r-eq-FALSE

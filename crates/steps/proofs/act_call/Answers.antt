@@ -1,7 +1,6 @@
 -- `steps::act_call` meets its contract. Assumes nothing.
 use mathlib.Core.Path.{◌∙◌}
 use Rattle.steps.proofs.StepLaws.{call_goes, call_stops}
-use borrow.Author.Rules.{rules}
 use Rattle.steps.proofs.act_call.Goals as goal
 
 pub returns-in-To : goal.returns-in-To

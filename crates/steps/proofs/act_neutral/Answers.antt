@@ -1,6 +1,5 @@
 -- `steps::act_neutral` meets its contract. Assumes nothing.
 use Rattle.steps.proofs.StepLaws.{neutral_goes, neutral_stops}
-use borrow.Author.Rules.{rules}
 use Rattle.steps.proofs.act_neutral.Goals as goal
 
 pub returns-in-Fit : goal.returns-in-Fit

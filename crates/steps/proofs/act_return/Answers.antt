@@ -1,6 +1,5 @@
 -- `steps::act_return` meets its contract. Assumes nothing.
 use Rattle.steps.proofs.StepLaws.{return_goes, return_halts}
-use borrow.Author.Rules.{rules}
 use Rattle.steps.proofs.act_return.Goals as goal
 
 pub returns-in-To : goal.returns-in-To

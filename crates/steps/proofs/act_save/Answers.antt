@@ -1,6 +1,5 @@
 -- `steps::act_save` meets its contract. Assumes nothing.
 use Rattle.steps.proofs.StepLaws.{save_goes, save_stops}
-use borrow.Author.Rules.{rules}
 use Rattle.steps.proofs.act_save.Goals as goal
 
 pub returns-in-On : goal.returns-in-On

@@ -1,6 +1,5 @@
 -- `steps::frame_of` meets its contract. Assumes nothing.
 use Rattle.steps.proofs.StepLaws.{tree_number, linear_number, framed}
-use borrow.Author.Rules.{rules}
 use Rattle.steps.proofs.frame_of.Goals as goal
 
 pub returns-in-Tree : goal.returns-in-Tree

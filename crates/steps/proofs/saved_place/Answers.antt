@@ -2,7 +2,6 @@
 use mathlib.Core.Path.{sym}
 use Rattle.machines.specs.Instruction.{number, form_of}
 use Rattle.steps.proofs.StepLaws.{in_tree, in_linear}
-use borrow.Author.Rules.{rules}
 use Rattle.steps.proofs.saved_place.Goals as goal
 
 pub returns-in-Tree : goal.returns-in-Tree

@@ -3,7 +3,6 @@ use mathlib.Core.Path.{refl, sym, ◌∙◌}
 use Rattle.machines.specs.Instruction.{number, form_of}
 use Rattle.steps.specs.Step.{start_at}
 use Rattle.steps.proofs.StepLaws.{in_tree, in_linear}
-use borrow.Author.Rules.{rules}
 use Rattle.steps.proofs.start_place.Goals as goal
 
 pub returns-in-Tree : goal.returns-in-Tree

@@ -1,7 +1,6 @@
 -- `tabulate::add` meets its contract: it is there, or it is put there. Assumes nothing.
 use Rattle.tabulate.specs.laws.SlotLaws.{kept_slots, more_slots}
 use native.Mathlib.Omega.{arith}
-use borrow.Author.Rules.{rules}
 use Rattle.tabulate.proofs.add.Goals as goal
 
 pub returns-then-find-count : goal.returns-then-find-count

@@ -1,7 +1,6 @@
 -- `tabulate::check_basic` meets its contract: 1 to 5, 6, 26. Assumes nothing.
 use Rattle.tabulate.specs.laws.CheckLaws.{file_unread, list_in, not_closed_lem, judged_in}
 use mathlib.Core.Path.{sym, ◌∙◌}
-use borrow.Author.Rules.{rules}
 use Rattle.tabulate.proofs.check_basic.Goals as goal
 
 pub judge_lists-requires : goal.judge_lists-requires

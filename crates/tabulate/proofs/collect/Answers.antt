@@ -1,16 +1,13 @@
 -- `tabulate::collect` meets its contract: code by code; the entries so far and the uses that are left come to the template's entries. Assumes nothing.
-use Prim.Native.Nat.{ℕ, ◌+◌, ◌*◌, ◌-◌, ◌≤◌, ◌<◌}
+use Prim.Native.Nat.{ℕ, ◌+◌, ◌-◌}
 use Rattle.tabulate.specs.laws.CollectLaws.{closure_far, closure_many, collect_closure, collect_end}
 use Rattle.tabulate.specs.laws.CollectLaws.{own_list_bound, collect_begin, collect_size, collect_copy, collect_entry, entry_many, closure_number}
 use Rattle.tabulate.specs.laws.WalkLaws.{step_as, step_nothing, copy_far, entry_far, closure_read}
-use Rattle.tabulate.specs.Collect.{OwnList, Collecting, many_entries}
-use Rattle.basic.specs.laws.StepLaws.{list_is, list_refused}
-use Rattle.basic.specs.laws.ReadLaws.{list_facts}
-use lib.ListN.{length}
+use Rattle.tabulate.specs.Collect.{many_entries}
+use Rattle.basic.specs.laws.StepLaws.{list_is}
 use borrow.Author.Tests.{ltb-true, ltb-false}
-use mathlib.Core.Path.{◌≡◌, refl, sym, ap, ◌∙◌}
+use mathlib.Core.Path.{refl, sym, ap, ◌∙◌}
 use native.Mathlib.Omega.{arith}
-use borrow.Author.Rules.{rules}
 use Rattle.tabulate.proofs.collect.Goals as goal
 
 pub loop-end-init : goal.loop-end-init

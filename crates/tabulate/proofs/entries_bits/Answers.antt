@@ -1,11 +1,10 @@
 -- `tabulate::entries_bits` meets its contract: one slot after the other. Assumes nothing.
-use mathlib.Core.Path.{◌≡◌, sym, ap, ◌∙◌}
-use Prim.Native.Nat.{ℕ, ◌+◌, ◌*◌, ◌-◌, ◌≤◌}
+use mathlib.Core.Path.{◌≡◌, ap, ◌∙◌}
+use Prim.Native.Nat.{ℕ, ◌-◌}
 use Rattle.tabulate.specs.laws.BitsLaws.{bits_none, bits_on, bits_bound}
 use Rattle.tabulate.specs.Collect.{slots_bits}
 use lib.ListN.{take}
 use native.Mathlib.Omega.{arith}
-use borrow.Author.Rules.{rules}
 use Rattle.tabulate.proofs.entries_bits.Goals as goal
 
 pub loop-i-init : goal.loop-i-init

@@ -1,11 +1,8 @@
 -- `tabulate::entries_bits` meets its contract: one slot after the other. Assumes nothing.
-use mathlib.Core.Path.{◌≡◌, sym, ap, ◌∙◌}
-use Prim.Native.Nat.{ℕ, ◌+◌, ◌*◌, ◌-◌, ◌≤◌}
-use Rattle.tabulate.specs.laws.BitsLaws.{bits_none, bits_on, bits_bound}
+use mathlib.Core.Path.{◌≡◌}
+use Prim.Native.Nat.{◌*◌, ◌-◌, ◌≤◌}
 use Rattle.tabulate.specs.Collect.{slots_bits}
 use lib.ListN.{take}
-use native.Mathlib.Omega.{arith}
-use borrow.Author.Rules.{rules}
 use Rattle.tabulate.proofs.entries_bits.Given as goal
 
 abbrev pub invariant-loop-i : goal.invariant-loop-i

@@ -1,10 +1,8 @@
 -- `tabulate::find` meets its contract: one slot after the other. Assumes nothing.
 use Rattle.tabulate.specs.laws.SlotLaws.{position_at, position_none, not_yet}
-use lib.ListN.{get_or}
-use mathlib.Core.Path.{◌≡◌, sym, ◌∙◌}
-use Prim.Native.Nat.{ℕ, ◌+◌, ◌-◌, ◌≤◌, ◌<◌}
+use mathlib.Core.Path.{sym}
+use Prim.Native.Nat.{◌-◌}
 use native.Mathlib.Omega.{arith}
-use borrow.Author.Rules.{rules}
 use Rattle.tabulate.proofs.find.Goals as goal
 
 pub loop-i-init : goal.loop-i-init

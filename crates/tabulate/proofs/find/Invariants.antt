@@ -1,10 +1,7 @@
 -- `tabulate::find` meets its contract: one slot after the other. Assumes nothing.
-use Rattle.tabulate.specs.laws.SlotLaws.{position_at, position_none, not_yet}
 use lib.ListN.{get_or}
-use mathlib.Core.Path.{◌≡◌, sym, ◌∙◌}
-use Prim.Native.Nat.{ℕ, ◌+◌, ◌-◌, ◌≤◌, ◌<◌}
-use native.Mathlib.Omega.{arith}
-use borrow.Author.Rules.{rules}
+use mathlib.Core.Path.{◌≡◌}
+use Prim.Native.Nat.{ℕ, ◌-◌, ◌≤◌, ◌<◌}
 use Rattle.tabulate.proofs.find.Given as goal
 
 abbrev pub invariant-loop-i : goal.invariant-loop-i

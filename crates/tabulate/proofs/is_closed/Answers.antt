@@ -1,8 +1,7 @@
 -- `tabulate::is_closed` meets its contract: by its class. Assumes nothing.
 use Rattle.tabulate.specs.laws.JudgeLaws.{told_class, told_none}
 use Rattle.basic.specs.laws.StepLaws.{list_is}
-use mathlib.Core.Path.{◌≡◌, sym, ap, ◌∙◌}
-use borrow.Author.Rules.{rules}
+use mathlib.Core.Path.{sym, ◌∙◌}
 use Rattle.tabulate.proofs.is_closed.Goals as goal
 
 pub returns-in-Done : goal.returns-in-Done

@@ -1,12 +1,9 @@
 -- `tabulate::judge_lists` meets its contract: template after template. Assumes nothing.
 use Rattle.tabulate.specs.laws.JudgeLaws.{from_first, from_first_all, from_walk, from_low, number_small, judge_end, judge_next, judge_but, next_as}
-use Rattle.tabulate.specs.Judge.{ListIn, From, templates_from}
-use Rattle.basic.specs.Tabulated.{inside, tabulated}
 use Rattle.files.specs.Grammar.{lowest, closed_template}
-use mathlib.Core.Path.{◌≡◌, sym, ap, ◌∙◌}
-use Prim.Native.Nat.{ℕ, ◌+◌, ◌*◌, ◌-◌, ◌≤◌, ◌<◌}
+use mathlib.Core.Path.{ap}
+use Prim.Native.Nat.{◌-◌}
 use native.Mathlib.Omega.{arith}
-use borrow.Author.Rules.{rules}
 use Rattle.tabulate.proofs.judge_lists.Goals as goal
 
 pub loop-here-init : goal.loop-here-init

@@ -1,12 +1,9 @@
 -- `tabulate::judge_lists` meets its contract: template after template. Assumes nothing.
-use Rattle.tabulate.specs.laws.JudgeLaws.{from_first, from_first_all, from_walk, from_low, number_small, judge_end, judge_next, judge_but, next_as}
 use Rattle.tabulate.specs.Judge.{ListIn, From, templates_from}
 use Rattle.basic.specs.Tabulated.{inside, tabulated}
 use Rattle.files.specs.Grammar.{lowest, closed_template}
-use mathlib.Core.Path.{◌≡◌, sym, ap, ◌∙◌}
-use Prim.Native.Nat.{ℕ, ◌+◌, ◌*◌, ◌-◌, ◌≤◌, ◌<◌}
-use native.Mathlib.Omega.{arith}
-use borrow.Author.Rules.{rules}
+use mathlib.Core.Path.{◌≡◌}
+use Prim.Native.Nat.{◌-◌}
 use Rattle.tabulate.proofs.judge_lists.Given as goal
 
 abbrev pub invariant-loop-here : goal.invariant-loop-here

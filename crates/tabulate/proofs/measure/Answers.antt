@@ -1,14 +1,11 @@
 -- `tabulate::measure` meets its contract: template after template. Assumes nothing.
 use Rattle.tabulate.specs.laws.JudgeLaws.{own_list, told_none, next_as, collected_as}
-use Rattle.tabulate.specs.laws.JudgeLaws.{Measuring, measure_begin, measure_large, collected_few, measure_end, measure_next, from_walk, from_low, from_read}
+use Rattle.tabulate.specs.laws.JudgeLaws.{measure_begin, measure_large, collected_few, measure_end, measure_next, from_walk, from_low, from_read}
 use Rattle.tabulate.specs.laws.CollectLaws.{own_list_bound}
-use Rattle.tabulate.specs.Judge.{FewIn}
 use Rattle.basic.specs.laws.StepLaws.{list_is}
-use lib.ListN.{length}
-use mathlib.Core.Path.{◌≡◌, sym, ap, ◌∙◌}
-use Prim.Native.Nat.{ℕ, ◌+◌, ◌*◌, ◌-◌, ◌≤◌, ◌<◌}
+use mathlib.Core.Path.{sym, ◌∙◌}
+use Prim.Native.Nat.{◌-◌}
 use native.Mathlib.Omega.{arith}
-use borrow.Author.Rules.{rules}
 use Rattle.tabulate.proofs.measure.Goals as goal
 
 pub loop-past-init : goal.loop-past-init

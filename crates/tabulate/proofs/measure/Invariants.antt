@@ -1,14 +1,9 @@
 -- `tabulate::measure` meets its contract: template after template. Assumes nothing.
-use Rattle.tabulate.specs.laws.JudgeLaws.{own_list, told_none, next_as, collected_as}
-use Rattle.tabulate.specs.laws.JudgeLaws.{Measuring, measure_begin, measure_large, collected_few, measure_end, measure_next, from_walk, from_low, from_read}
-use Rattle.tabulate.specs.laws.CollectLaws.{own_list_bound}
+use Rattle.tabulate.specs.laws.JudgeLaws.{Measuring}
 use Rattle.tabulate.specs.Judge.{FewIn}
-use Rattle.basic.specs.laws.StepLaws.{list_is}
 use lib.ListN.{length}
-use mathlib.Core.Path.{◌≡◌, sym, ap, ◌∙◌}
-use Prim.Native.Nat.{ℕ, ◌+◌, ◌*◌, ◌-◌, ◌≤◌, ◌<◌}
-use native.Mathlib.Omega.{arith}
-use borrow.Author.Rules.{rules}
+use mathlib.Core.Path.{◌≡◌}
+use Prim.Native.Nat.{◌*◌, ◌-◌, ◌≤◌, ◌<◌}
 use Rattle.tabulate.proofs.measure.Given as goal
 
 abbrev pub invariant-loop-past : goal.invariant-loop-past

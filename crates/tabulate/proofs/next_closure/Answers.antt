@@ -1,12 +1,9 @@
 -- `tabulate::next_closure` meets its contract: code by code; the lists that are left have the same closures. Assumes nothing.
 use Rattle.tabulate.specs.laws.WalkLaws.{walked_none, walked_copy, walked_entry, walked_closure, walked_end, step_as, step_nothing, copy_far, entry_far}
-use Rattle.tabulate.specs.Walk.{Walk, Walked}
-use lib.ListN.{length}
 use mathlib.Core.Path.{sym, ◌∙◌}
 use borrow.Author.Tests.{ltb-true, ltb-false}
-use Prim.Native.Nat.{◌*◌, ◌-◌, ◌≤◌, ◌<◌}
+use Prim.Native.Nat.{◌-◌}
 use native.Mathlib.Omega.{arith}
-use borrow.Author.Rules.{rules}
 use Rattle.tabulate.proofs.next_closure.Goals as goal
 
 pub loop-end-init : goal.loop-end-init

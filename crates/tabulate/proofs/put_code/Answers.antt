@@ -2,15 +2,12 @@
 use Rattle.tabulate.specs.laws.CodeLaws.{coding_end}
 use Rattle.tabulate.specs.laws.CodeLaws.{coding_begin, code_copy_room, code_copy, entry_ready, code_entry, closure_ready, closure_past, code_closure}
 use Rattle.tabulate.specs.laws.WalkLaws.{step_as, step_nothing, entry_far, closure_read}
-use Rattle.tabulate.specs.Put.{CodeIn, Coding}
 use Rattle.basic.specs.laws.StepLaws.{list_is}
 use Rattle.basic.specs.laws.ReadLaws.{list_facts}
-use lib.ListN.{length}
 use borrow.Author.Tests.{ltb-true, ltb-false}
-use mathlib.Core.Path.{◌≡◌, refl, sym, ap, ◌∙◌}
-use Prim.Native.Nat.{ℕ, ◌+◌, ◌*◌, ◌-◌, ◌≤◌, ◌<◌}
+use mathlib.Core.Path.{refl, sym, ◌∙◌}
+use Prim.Native.Nat.{◌-◌}
 use native.Mathlib.Omega.{arith}
-use borrow.Author.Rules.{rules}
 use Rattle.tabulate.proofs.put_code.Goals as goal
 
 pub loop-end-init : goal.loop-end-init

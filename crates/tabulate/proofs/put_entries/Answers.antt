@@ -1,11 +1,8 @@
 -- `tabulate::put_entries` meets its contract: one slot after the other. Assumes nothing.
-use Rattle.tabulate.specs.laws.PutLaws.{Listing, listing_begin, slot_next, listing_room, listing_on, listing_end}
-use Rattle.tabulate.specs.Put.{EntriesIn}
-use lib.ListN.{length}
-use mathlib.Core.Path.{◌≡◌, refl, sym, ap, ◌∙◌}
-use Prim.Native.Nat.{ℕ, ◌+◌, ◌-◌, ◌≤◌}
+use Rattle.tabulate.specs.laws.PutLaws.{listing_begin, slot_next, listing_room, listing_on, listing_end}
+use mathlib.Core.Path.{refl}
+use Prim.Native.Nat.{◌-◌}
 use native.Mathlib.Omega.{arith}
-use borrow.Author.Rules.{rules}
 use Rattle.tabulate.proofs.put_entries.Goals as goal
 
 pub loop-i-init : goal.loop-i-init

@@ -1,11 +1,9 @@
 -- `tabulate::put_entries` meets its contract: one slot after the other. Assumes nothing.
-use Rattle.tabulate.specs.laws.PutLaws.{Listing, listing_begin, slot_next, listing_room, listing_on, listing_end}
+use Rattle.tabulate.specs.laws.PutLaws.{Listing}
 use Rattle.tabulate.specs.Put.{EntriesIn}
 use lib.ListN.{length}
-use mathlib.Core.Path.{◌≡◌, refl, sym, ap, ◌∙◌}
-use Prim.Native.Nat.{ℕ, ◌+◌, ◌-◌, ◌≤◌}
-use native.Mathlib.Omega.{arith}
-use borrow.Author.Rules.{rules}
+use mathlib.Core.Path.{◌≡◌}
+use Prim.Native.Nat.{◌-◌, ◌≤◌}
 use Rattle.tabulate.proofs.put_entries.Given as goal
 
 abbrev pub invariant-loop-i : goal.invariant-loop-i

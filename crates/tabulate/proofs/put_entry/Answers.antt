@@ -1,9 +1,9 @@
 -- `tabulate::put_entry` meets its contract: by its kind. Assumes nothing.
 use Rattle.tabulate.specs.laws.PutLaws.{bits_of_tag}
-use Rattle.tabulate.specs.laws.PutLaws.{slot_global, slot_template, slot_constant, entry_length, put_global, put_template, put_const, bits_of_6, bits_of_7}
+use Rattle.tabulate.specs.laws.PutLaws.{slot_global, slot_template, slot_constant, put_global, put_template, put_const, bits_of_6, bits_of_7}
 use Rattle.bit_writer.proofs.theorems.Laws.{put_length}
 use lib.ListN.{length}
-use mathlib.Core.Path.{◌≡◌, refl, sym, ap, ◌∙◌}
+use mathlib.Core.Path.{ap, ◌∙◌}
 use native.Mathlib.Omega.{arith}
 use Rattle.tabulate.proofs.put_entry.Goals as goal
 

@@ -1,13 +1,9 @@
 -- `tabulate::put_index` meets its contract: the code, and the place of the slot and one more. Assumes nothing.
-use Prim.Native.Nat.{ℕ, suc, ◌+◌}
 use Rattle.tabulate.specs.laws.PutLaws.{put_code_index}
 use Rattle.bit_writer.proofs.theorems.Laws.{put_length}
-use Rattle.bit_writer.specs.Put.{put_bits}
-use Rattle.files.specs.Linear.{bits_of}
 use lib.ListN.{length}
-use mathlib.Core.Path.{◌≡◌, refl, sym, ap, ◌∙◌}
+use mathlib.Core.Path.{ap, ◌∙◌}
 use native.Mathlib.Omega.{arith}
-use borrow.Author.Rules.{rules}
 use Rattle.tabulate.proofs.put_index.Goals as goal
 
 pub put_field-requires : goal.put_field-requires

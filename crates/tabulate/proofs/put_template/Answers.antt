@@ -3,9 +3,8 @@ use Rattle.tabulate.specs.laws.WriteLaws.{no_many, count_small, entries_in, code
 use Rattle.tabulate.specs.laws.JudgeLaws.{collected_as}
 use Rattle.bit_writer.proofs.theorems.Laws.{put_length}
 use lib.ListN.{length}
-use mathlib.Core.Path.{◌≡◌, refl, sym, ap, ◌∙◌}
+use mathlib.Core.Path.{sym, ap, ◌∙◌}
 use native.Mathlib.Omega.{arith}
-use borrow.Author.Rules.{rules}
 use Rattle.tabulate.proofs.put_template.Goals as goal
 
 pub collect-requires : goal.collect-requires

@@ -2,13 +2,11 @@
 use Rattle.tabulate.specs.laws.WriteLaws.{writing_begin, template_in, one_put, writing_end, writing_next}
 use Rattle.tabulate.specs.laws.JudgeLaws.{from_walk, from_low, from_read, own_list, own_list_is, told_none, next_as}
 use Rattle.bit_writer.proofs.theorems.Laws.{put_length}
-use Rattle.tabulate.specs.Put.{TemplatesIn, Writing}
 use Rattle.basic.specs.laws.StepLaws.{list_is}
 use lib.ListN.{length}
-use mathlib.Core.Path.{◌≡◌, refl, sym, ap, ◌∙◌}
-use Prim.Native.Nat.{ℕ, ◌+◌, ◌*◌, ◌-◌, ◌≤◌, ◌<◌}
+use mathlib.Core.Path.{refl, sym, ap, ◌∙◌}
+use Prim.Native.Nat.{◌-◌}
 use native.Mathlib.Omega.{arith}
-use borrow.Author.Rules.{rules}
 use Rattle.tabulate.proofs.put_templates.Goals as goal
 
 pub loop-past-init : goal.loop-past-init

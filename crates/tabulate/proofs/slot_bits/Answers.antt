@@ -1,6 +1,6 @@
 -- `tabulate::slot_bits` meets its contract: by its kind. Assumes nothing.
 use Rattle.tabulate.specs.Collect.{slot_bits}
-use borrow.Author.Tests.{eq-eqb, ne_eqb}
+use borrow.Author.Tests.{ne_eqb}
 use mathlib.Core.Path.{refl}
 use Rattle.tabulate.proofs.slot_bits.Goals as goal
 

@@ -3,7 +3,6 @@ use Rattle.tabulate.specs.laws.WalkLaws.{literal_small}
 use Rattle.tabulate.specs.laws.WalkLaws.{copy_end, copy_ending, copy_plain, copy_branch, copy_save, step_closure, step_literal, step_global, no_refusal}
 use Rattle.basic.specs.laws.StepLaws.{turned}
 use native.Mathlib.Omega.{arith}
-use borrow.Author.Rules.{rules}
 use Rattle.tabulate.proofs.step_at.Goals as goal
 
 pub overflow_mul-result : goal.overflow_mul-result

@@ -1,6 +1,5 @@
 -- `tabulate::tabulate` meets its contract: checked, then tabulated. Assumes nothing.
 use Rattle.tabulate.specs.laws.TabulateLaws.{refused_checked, checked_as}
-use borrow.Author.Rules.{rules}
 use Rattle.tabulate.proofs.tabulate.Goals as goal
 
 pub tabulate_checked-requires : goal.tabulate_checked-requires

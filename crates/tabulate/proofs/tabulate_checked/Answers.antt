@@ -1,9 +1,8 @@
 -- `tabulate::tabulate_checked` meets its contract: 9, or the file. Assumes nothing.
 use Rattle.tabulate.specs.laws.TabulateLaws.{checked_short, whole_in, short_output_lem, file_written}
 use lib.Seq.{length-take-le}
-use mathlib.Core.Path.{◌≡◌, refl, sym, ap, ◌∙◌}
+use mathlib.Core.Path.{refl, sym}
 use native.Mathlib.Omega.{arith}
-use borrow.Author.Rules.{rules}
 use Rattle.tabulate.proofs.tabulate_checked.Goals as goal
 
 pub overflow_add-size : goal.overflow_add-size

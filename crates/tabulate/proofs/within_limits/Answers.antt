@@ -2,7 +2,6 @@
 use Rattle.tabulate.specs.laws.CheckLaws.{many_templates, few_in, many_in_one, bits_small, long_file, accepted_file, measured_as}
 use mathlib.Core.Path.{refl, sym, ◌∙◌}
 use native.Mathlib.Omega.{arith}
-use borrow.Author.Rules.{rules}
 use Rattle.tabulate.proofs.within_limits.Goals as goal
 
 pub returns-then-count-gt64 : goal.returns-then-count-gt64

@@ -2,9 +2,8 @@
 use Rattle.tabulate.specs.laws.TabulateLaws.{count_fits, templates_in, file_put}
 use Rattle.bit_writer.proofs.theorems.Laws.{put_length}
 use lib.ListN.{length}
-use mathlib.Core.Path.{◌≡◌, refl, sym, ap, ◌∙◌}
+use mathlib.Core.Path.{ap, ◌∙◌}
 use native.Mathlib.Omega.{arith}
-use borrow.Author.Rules.{rules}
 use Rattle.tabulate.proofs.write_tabulated.Goals as goal
 
 pub overflow_cast-count : goal.overflow_cast-count

@@ -1,11 +1,9 @@
 -- `text::put_bytes` meets its contract: the bytes left to put, put into the buffer as it is now, give the buffer that is wanted; the measure is how many are left. Assumes nothing.
 use borrow.Author.Rules.{rules}
-use Prim.Native.Nat.{◌+◌, ◌-◌, ◌≤◌}
+use Prim.Native.Nat.{◌-◌}
 use native.Mathlib.Nat.{add-zero}
 use native.Mathlib.Omega.{arith}
-use mathlib.Core.Path.{◌≡◌, sym, ◌∙◌}
-use lib.ListN.{length, drop}
-use lib.Seq.{sets}
+use mathlib.Core.Path.{sym, ◌∙◌}
 use Rattle.text.proofs.Laws.{put_on, put_done}
 use Rattle.text.proofs.put_bytes.Goals as goal
 

@@ -1,5 +1,4 @@
 -- `text::put_decimal` meets its contract: the kit's digits are the number's decimal, at most 20 of them. Assumes nothing.
-use borrow.Author.Rules.{rules}
 use native.Mathlib.Omega.{arith}
 use mathlib.Core.Path.{◌∙◌}
 use Rattle.text.proofs.Decimal.{decimal_short, decimal_spelled}

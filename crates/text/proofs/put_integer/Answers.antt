@@ -1,5 +1,4 @@
 -- `text::put_integer` meets its contract: by the highest bit; `full` less the bits is the magnitude of a negative integer. Assumes nothing.
-use borrow.Author.Rules.{rules}
 use borrow.Author.Tests.{lt-ltb, le-ltb}
 use Prim.Native.Nat.{◌-◌}
 use native.Mathlib.Omega.{arith}

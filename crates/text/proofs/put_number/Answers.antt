@@ -1,5 +1,4 @@
 -- `text::put_number` meets its contract: a number, then what follows it. Assumes nothing.
-use borrow.Author.Rules.{rules}
 use native.Mathlib.Omega.{arith}
 use Rattle.text.specs.laws.Laws.{put_then}
 use Rattle.text.proofs.put_number.Goals as goal

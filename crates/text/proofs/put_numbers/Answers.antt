@@ -1,5 +1,4 @@
 -- `text::put_numbers` meets its contract: three words, each with what follows it. Assumes nothing.
-use borrow.Author.Rules.{rules}
 use native.Mathlib.Omega.{arith}
 use lib.ListN.{length-append}
 use Rattle.text.specs.laws.Laws.{put_line, put_length}

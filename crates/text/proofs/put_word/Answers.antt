@@ -1,5 +1,4 @@
 -- `text::put_word` meets its contract: a word, then a blank. Assumes nothing.
-use borrow.Author.Rules.{rules}
 use Rattle.text.specs.laws.Laws.{put_then}
 use Rattle.text.proofs.put_word.Goals as goal
 

@@ -3,7 +3,6 @@ use mathlib.Core.Path.{refl, sym, ap, ◌∙◌}
 use Rattle.tree.specs.Summary.{checked_told}
 use Rattle.tree.specs.laws.Judged.{judged_told_lem, judged_refused}
 use Rattle.files.specs.laws.RoomLaws.{all_rows}
-use borrow.Author.Rules.{rules}
 use Rattle.tree.proofs.check_tree.Goals as goal
 
 pub read_accepted-requires : goal.read_accepted-requires

@@ -1,10 +1,8 @@
 -- `tree::lowest_missing` meets its contract. The invariant: what is found from here on is what is found from 1 on. Assumes nothing.
-use Prim.Native.Nat.{◌+◌, ◌-◌, ◌/◌, ◌≤◌}
+use Prim.Native.Nat.{◌-◌}
 use native.Mathlib.Omega.{arith}
-use mathlib.Core.Path.{◌≡◌, refl, sym, ◌∙◌}
-use Rattle.tree.specs.Summary.{lowest_missing}
+use mathlib.Core.Path.{refl, sym, ◌∙◌}
 use Rattle.tree.specs.laws.Judged.{missing_here, missing_on, missing_none}
-use borrow.Author.Rules.{rules}
 use Rattle.tree.proofs.lowest_missing.Goals as goal
 
 pub loop-own-init : goal.loop-own-init

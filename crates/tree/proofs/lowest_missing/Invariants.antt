@@ -1,10 +1,7 @@
 -- `tree::lowest_missing` meets its contract. The invariant: what is found from here on is what is found from 1 on. Assumes nothing.
-use Prim.Native.Nat.{◌+◌, ◌-◌, ◌/◌, ◌≤◌}
-use native.Mathlib.Omega.{arith}
-use mathlib.Core.Path.{◌≡◌, refl, sym, ◌∙◌}
+use Prim.Native.Nat.{◌-◌, ◌/◌, ◌≤◌}
+use mathlib.Core.Path.{◌≡◌}
 use Rattle.tree.specs.Summary.{lowest_missing}
-use Rattle.tree.specs.laws.Judged.{missing_here, missing_on, missing_none}
-use borrow.Author.Rules.{rules}
 use Rattle.tree.proofs.lowest_missing.Given as goal
 
 abbrev pub invariant-loop-own : goal.invariant-loop-own

@@ -2,7 +2,6 @@
 use mathlib.Core.Path.{sym, ap, ◌∙◌}
 use Rattle.tree.specs.Summary.{judged_told}
 use Rattle.tree.specs.laws.Judged.{judged_orphan, judged_accepted, judged_refused, accepted_refused}
-use borrow.Author.Rules.{rules}
 use Rattle.tree.proofs.read_accepted.Goals as goal
 
 pub returns-then-orphan-lt64 : goal.returns-then-orphan-lt64

@@ -1,8 +1,7 @@
 -- `tree::read_checked` meets its contract. Assumes nothing.
-use mathlib.Core.Path.{refl, sym, ap, ◌∙◌}
+use mathlib.Core.Path.{sym, ap, ◌∙◌}
 use Rattle.tree.specs.Summary.{judged_told}
 use Rattle.tree.specs.laws.Judged.{judged_unclosed, judged_misnamed, judged_good, checked_refused}
-use borrow.Author.Rules.{rules}
 use Rattle.tree.proofs.read_checked.Goals as goal
 
 pub returns-then-sum-lt64 : goal.returns-then-sum-lt64

@@ -2,7 +2,6 @@
 use mathlib.Core.Path.{sym, ap, ◌∙◌}
 use Rattle.files.specs.EntriesRead.{padding_told}
 use Rattle.tree.specs.laws.TreeSteps.{end_on, end_set}
-use borrow.Author.Rules.{rules}
 use Rattle.tree.proofs.read_end.Goals as goal
 
 pub returns-in-Zero : goal.returns-in-Zero

@@ -7,8 +7,7 @@ use Rattle.files.specs.laws.EntriesLaws.{entries_read}
 use Rattle.files.specs.laws.ReadingLaws.{list_bits_lem}
 use Rattle.lists.specs.laws.ReadLaws.{listed_done, listed_refused, listed_size}
 use Rattle.tree.specs.laws.TemplateSteps.{count_cut, entries_stop, list_stop, list_done}
-use Rattle.tree.specs.laws.MarkedSteps.{also, also_by, template_unmarked, template_marked_lem}
-use borrow.Author.Rules.{rules}
+use Rattle.tree.specs.laws.MarkedSteps.{also_by, template_unmarked, template_marked_lem}
 use Rattle.tree.proofs.read_template.Goals as goal
 
 pub returns-in_default : goal.returns-in_default

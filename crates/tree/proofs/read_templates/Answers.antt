@@ -1,16 +1,12 @@
 -- `tree::read_templates` meets its contract. Assumes nothing.
-use Rattle.tree.specs.Summary.{templates_told, told_from, summary_after, begun}
-use Prim.Native.Nat.{◌+◌, ◌*◌, ◌-◌, ◌≤◌}
+use Rattle.tree.specs.Summary.{summary_after, begun}
+use Prim.Native.Nat.{◌-◌}
 use native.Mathlib.Nat.{sub-zero}
 use native.Mathlib.Omega.{arith}
-use mathlib.Core.Path.{◌≡◌, refl, sym, ◌∙◌}
-use Rattle.files.specs.Tree.{templates_at}
-use Rattle.files.specs.RowFilled.{Unfilled}
-use Rattle.tree.specs.Summary.{templates_told, told_from, summary_after}
-use Rattle.tree.specs.Filled.{templates_filled}
+use mathlib.Core.Path.{refl, sym, ◌∙◌}
+use Rattle.tree.specs.Summary.{summary_after}
 use Rattle.tree.specs.laws.TemplateSteps.{templates_none, templates_stop, templates_on, next_unfilled, next_small, this, told_all}
-use lib.ListN.{length}
-use Rattle.tree.specs.laws.MarkedSteps.{also_by, templates_unmarked, Marking, marking_begun, marking_more, marking_done}
+use Rattle.tree.specs.laws.MarkedSteps.{also_by, templates_unmarked, marking_begun, marking_more, marking_done}
 use borrow.Author.Rules.{rules}
 use Rattle.tree.proofs.read_templates.Goals as goal
 

@@ -5,7 +5,6 @@ use Rattle.files.specs.laws.RoomLaws.{room_rows}
 use native.Mathlib.Omega.{arith}
 use Rattle.tree.specs.laws.TreeSteps.{too_long_lem, count_cut, count_none, count_many, file_stop, file_within_lem, file_set, file_read}
 use Rattle.tree.specs.laws.MarkedSteps.{also, also_by, tree_unmarked, tree_marked}
-use borrow.Author.Rules.{rules}
 use Rattle.tree.proofs.read_tree.Goals as goal
 
 pub returns-then-s-gt65536 : goal.returns-then-s-gt65536

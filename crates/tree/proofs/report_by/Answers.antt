@@ -1,7 +1,6 @@
 -- `tree::report_by` meets its contract. Assumes nothing.
 use mathlib.Core.Path.{refl}
 use Rattle.tree.specs.Summary.{report_by}
-use borrow.Author.Rules.{rules}
 use Rattle.tree.proofs.report_by.Goals as goal
 
 pub returns : goal.returns

@@ -2,7 +2,6 @@
 use mathlib.Core.Path.{refl}
 use Rattle.lists.specs.Sets.{unite}
 use Rattle.tree.specs.Summary.{summary_after}
-use borrow.Author.Rules.{rules}
 use Rattle.tree.proofs.summary_after.Goals as goal
 
 pub returns : goal.returns

@@ -1,5 +1,4 @@
 -- `tree::tier_of` meets its contract. Assumes nothing.
-use borrow.Author.Rules.{rules}
 use native.Mathlib.Omega.{arith}
 use Rattle.tree.proofs.tier_of.Goals as goal
 

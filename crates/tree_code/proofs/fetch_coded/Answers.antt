@@ -7,7 +7,6 @@ use borrow.Author.Tests.{leb-true, leb-false}
 use Rattle.machines.specs.Slots.{slot_at}
 use Rattle.machines.specs.Instruction.{number, form_of, fetched_as, Places}
 use Rattle.tree_code.specs.laws.LineLaws.{line_cut, line_transfer, line_neutral}
-use borrow.Author.Rules.{rules}
 use Rattle.tree_code.proofs.fetch_coded.Goals as goal
 
 pub overflow_mul-bits : goal.overflow_mul-bits

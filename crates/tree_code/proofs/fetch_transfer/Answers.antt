@@ -3,7 +3,6 @@ use mathlib.Core.Path.{refl}
 use borrow.Author.Tests.{ne_eqb}
 use Rattle.machines.specs.Instruction.{number, form_of, fetched_as, Places}
 use Rattle.tree_code.specs.Fetch.{transfer_as}
-use borrow.Author.Rules.{rules}
 use Rattle.tree_code.proofs.fetch_transfer.Goals as goal
 
 pub returns-in-1 : goal.returns-in-1

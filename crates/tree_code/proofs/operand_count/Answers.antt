@@ -2,7 +2,6 @@
 use Rattle.tree_code.specs.laws.LineLaws.{packed, counts_packed}
 use mathlib.Core.Path.{refl}
 use native.Mathlib.Omega.{arith}
-use borrow.Author.Rules.{rules}
 use Rattle.tree_code.proofs.operand_count.Goals as goal
 
 pub returns : goal.returns

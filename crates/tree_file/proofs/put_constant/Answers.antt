@@ -5,7 +5,6 @@ use lib.ListN.{length}
 use Rattle.files.specs.laws.EntriesLaws.{width_none, width_narrow, width_wide}
 use Rattle.bit_writer.proofs.theorems.Laws.{put_length}
 use Rattle.tree_file.proofs.theorems.Written.{plain_constant, integer_constant}
-use borrow.Author.Rules.{rules}
 use Rattle.tree_file.proofs.put_constant.Goals as goal
 
 pub overflow_cast-value : goal.overflow_cast-value

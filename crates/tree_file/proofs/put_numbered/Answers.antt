@@ -1,7 +1,6 @@
 -- `tree_file::put_numbered` meets its contract: two fields one after the other. Assumes nothing.
 use native.Mathlib.Omega.{arith}
 use Rattle.tree_file.proofs.theorems.Written.{put_numbered}
-use borrow.Author.Rules.{rules}
 use Rattle.tree_file.proofs.put_numbered.Goals as goal
 
 pub returns : goal.returns

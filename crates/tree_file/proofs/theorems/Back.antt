@@ -17,8 +17,7 @@ use Rattle.files.specs.Valid.{Bytes, Valid}
 use Rattle.files.specs.Reading.{got, item, below, shaped, head_at, before, after, deep_of, list_at}
 use Rattle.files.specs.laws.ReadingLaws.{list_step}
 use Rattle.files.specs.laws.Heads.{code_read, one_read, two_read, conditional_read, make_cont_read}
-use Rattle.files.specs.Entries.{then, field, nothing_more}
-use Rattle.files.specs.laws.EntriesLaws.{EntriesOk}
+use Rattle.files.specs.Entries.{then, nothing_more}
 use Rattle.files.specs.laws.AllGot.{Each, field_got_lem}
 use Rattle.files.specs.Linear.{bits_of, entries_bits, bytes_of}
 use Rattle.files.specs.Tree.{Template, template_at, templates_at, padded_end, tree_read}

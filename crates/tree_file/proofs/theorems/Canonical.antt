@@ -1,5 +1,5 @@
 -- A tree file that is read is the tree file of its templates: reading loses nothing. Assumes nothing.
-use Rattle.std.specs.Prelude.{ℕ, ◌+◌, ◌*◌, ◌/◌, ◌≤◌, ◌<◌, ◌≡◌, refl, ◌&&◌, List, ◌++◌, length, get_or, leb}
+use Rattle.std.specs.Prelude.{ℕ, ◌+◌, ◌*◌, ◌/◌, ◌≤◌, ◌<◌, ◌≡◌, ◌&&◌, List, ◌++◌, length, get_or, leb}
 use Rattle.std.proofs.Common.{zero-add, arith, sym, ap, ◌∙◌, length-append}
 use Rattle.std.proofs.Math.Seq.{take-length}
 use Rattle.fields.specs.Field.{bit_at}

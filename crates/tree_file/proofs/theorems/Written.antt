@@ -5,7 +5,7 @@ use Rattle.std.proofs.Common.{arith, sym, ap, ◌∙◌}
 use Rattle.std.proofs.Math.Path.{refl}
 use mathlib.Core.List.{List, [], ◌∷◌, ◌++◌, append-nil, append_assoc}
 use Rattle.std.proofs.Math.ListN.{length, length-append}
-use Rattle.files.specs.Code.{Code, bits}
+use Rattle.files.specs.Code.{Code}
 use Rattle.files.specs.Reading.{got, list_at}
 use Rattle.files.specs.Entries.{constant, tag_width}
 use Rattle.files.specs.laws.EntriesLaws.{bytes_length}

@@ -3,7 +3,6 @@ use Prim.Native.Nat.{◌+◌, ◌/◌}
 use native.Mathlib.Omega.{arith}
 use mathlib.Core.Path.{◌≡◌, ◌∙◌}
 use Rattle.tree_file.proofs.theorems.Written.{file_written}
-use borrow.Author.Rules.{rules}
 use Rattle.tree_file.proofs.write_file.Goals as goal
 
 pub returns : goal.returns

@@ -1,6 +1,5 @@
 -- `tree_machine::run_tier` meets its contract. It calls itself once, with the size that the file has. Assumes nothing.
-use borrow.Author.Rules.{rules}
-use Prim.Native.Nat.{ℕ, ◌-◌, ◌<◌}
+use Prim.Native.Nat.{◌-◌}
 use native.Mathlib.Omega.{arith}
 use Rattle.tree_machine.proofs.+run_tier.Goals as goal
 

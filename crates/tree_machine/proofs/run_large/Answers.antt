@@ -4,7 +4,6 @@ use native.Mathlib.Omega.{arith}
 use lib.ListN.{length}
 use Rattle.files.specs.laws.RoomLaws.{all_rows}
 use mathlib.Core.Path.{refl}
-use borrow.Author.Rules.{rules}
 use Rattle.tree_machine.proofs.run_large.Goals as goal
 
 pub run_marked-requires : goal.run_marked-requires

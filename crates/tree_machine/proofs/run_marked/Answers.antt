@@ -1,6 +1,5 @@
 -- `tree_machine::run_marked` meets its contract. Assumes nothing.
 use Rattle.tree_machine.specs.laws.FileLaws.{file_rows_lem, file_ready, file_short, file_good, file_marked, file_refused}
-use borrow.Author.Rules.{rules}
 use Rattle.tree_machine.proofs.run_marked.Goals as goal
 
 pub read_accepted-requires : goal.read_accepted-requires

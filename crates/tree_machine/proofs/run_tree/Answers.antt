@@ -2,7 +2,6 @@
 use Rattle.machines.proofs.theorems.Start.{may_start, start_goes, start_refused}
 use Rattle.machines.specs.Runs.{tree_run}
 use native.Mathlib.Omega.{arith}
-use borrow.Author.Rules.{rules}
 use Rattle.tree_machine.specs.laws.FileLaws.{file_owned}
 use Rattle.tree_machine.proofs.run_tree.Goals as goal
 

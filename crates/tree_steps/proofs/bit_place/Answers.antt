@@ -3,7 +3,6 @@ use mathlib.Core.Path.{◌≡◌, sym, ◌∙◌}
 use Rattle.cells.specs.laws.Laws.{clash}
 use Rattle.machines.specs.Instruction.{tree_form, linear_form}
 use Rattle.steps.proofs.StepLaws.{in_linear}
-use borrow.Author.Rules.{rules}
 use Rattle.tree_steps.proofs.bit_place.Goals as goal
 
 pub returns-in-Tree : goal.returns-in-Tree

@@ -1,18 +1,13 @@
 -- `tree_steps::run_from` meets its contract. Assumes nothing.
 use Prim.Native.Nat.{◌-◌, ◌≤◌}
-use mathlib.Core.Path.{◌≡◌, refl}
-use native.Mathlib.Omega.{arith}
+use mathlib.Core.Path.{◌≡◌}
 use Rattle.rules.specs.State.{regs}
 use Rattle.machines.specs.Runs.{memory}
 use Rattle.machines.specs.Steps.{ran_from}
-use Rattle.machines.specs.Instruction.{form_of}
 use Rattle.machines.specs.declared.CodePlace.TheVariants.{Tree}
 use Rattle.tree_code.specs.Fetch.{linked_program}
 use Rattle.steps.specs.Step.{control, state_of, StepReady}
 use Rattle.tree_steps.specs.Ready.{first_regs, beginning}
-use Rattle.steps.proofs.RunLaws.{at_first, next_ready, next_place, next_turn, halted_turn, wrong_turn, spent_turn}
-use Rattle.tree_steps.proofs.StepLaws.{ready_apart, turn_apart}
-use borrow.Author.Rules.{rules}
 use Rattle.tree_steps.proofs.run_from.Given as goal
 
 abbrev pub invariant-loop-left : goal.invariant-loop-left

@@ -1,6 +1,4 @@
 -- `tree_steps::take_above_10` meets its contract: in each arm the code is the one that is handed on. Assumes nothing.
-use mathlib.Core.Path.{sym}
-use native.Mathlib.Omega.{arith}
 use Rattle.tree_steps.proofs.StepLaws.{past_code}
 use Rattle.tree_steps.proofs.take_above_10.Goals as goal
 

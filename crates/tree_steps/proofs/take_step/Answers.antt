@@ -1,17 +1,14 @@
 -- `tree_steps::take_step` meets its contract. Assumes nothing.
-use Prim.Native.Nat.{◌≤◌}
-use mathlib.Core.Path.{◌≡◌, refl, sym, ap, ◌∙◌}
+use mathlib.Core.Path.{refl, sym, ◌∙◌}
 use native.Mathlib.Omega.{arith}
-use lib.ListN.{length}
 use borrow.Author.Tests.{eqb-true, eqb-false, leb-true, leb-false}
 use Rattle.fields.specs.laws.Laws.{cut, lies}
 use Rattle.machines.specs.Instruction.{fetched_as}
-use Rattle.tree_code.specs.Fetch.{settled, linked_program}
+use Rattle.tree_code.specs.Fetch.{linked_program}
 use Rattle.tree_code.specs.laws.FetchSteps.{nowhere_fetched, cut_fetched, code_fetched, end_fetched, end_followed}
 use Rattle.tree_code.specs.laws.LineLaws.{line_read}
 use Rattle.steps.proofs.StepLaws.{tree_number, stays, bad_stops}
 use Rattle.tree_steps.proofs.StepLaws.{short, steps_as, same_memory, ready_still}
-use borrow.Author.Rules.{rules}
 use Rattle.tree_steps.proofs.take_step.Goals as goal
 
 pub returns-then-is_first : goal.returns-then-is_first

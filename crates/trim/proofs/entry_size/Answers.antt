@@ -1,6 +1,5 @@
 -- `trim::entry_size` meets its contract. Assumes nothing.
 use Rattle.trim.proofs.theorems.EntryLaws.{size_other, size_narrow, size_wide, size_plain}
-use borrow.Author.Rules.{rules}
 use Rattle.trim.proofs.entry_size.Goals as goal
 
 pub returns-then-bits_at-ne1 : goal.returns-then-bits_at-ne1

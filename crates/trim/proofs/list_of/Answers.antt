@@ -1,7 +1,6 @@
 -- `trim::list_of` meets its contract: by the list that is read at the table's slot. Assumes nothing.
 use mathlib.Core.Path.{sym, ◌∙◌}
 use Rattle.trim.specs.laws.StandLaws.{span_done, span_refused}
-use borrow.Author.Rules.{rules}
 use Rattle.trim.proofs.list_of.Goals as goal
 
 pub returns-in-Done : goal.returns-in-Done

@@ -1,7 +1,6 @@
 -- `trim::mark_code` meets its contract. Assumes nothing.
 use native.Mathlib.Omega.{arith}
 use Rattle.trim.proofs.theorems.MarkLaws.{mark_low, mark_high, mark_read}
-use borrow.Author.Rules.{rules}
 use Rattle.trim.proofs.mark_code.Goals as goal
 
 pub returns-then-code-lt6 : goal.returns-then-code-lt6

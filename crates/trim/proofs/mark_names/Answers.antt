@@ -1,10 +1,9 @@
 -- `trim::mark_names` meets its contract. The loop's invariant: what is left of the codes marks the rest. Assumes nothing.
 use native.Mathlib.Omega.{arith}
-use mathlib.Core.Path.{◌≡◌, ◌∙◌, ap}
+use mathlib.Core.Path.{◌∙◌, ap}
 use lib.ListN.{length}
-use Rattle.rewrite.specs.Tokens.{operand_count, TokensAt}
-use Rattle.trim.proofs.theorems.MarkLaws.{Marking, marking_all, marking_none, marking_code, marking_small, marking_operands, marking_index, marking_on, mark_length}
-use borrow.Author.Rules.{rules}
+use Rattle.rewrite.specs.Tokens.{operand_count}
+use Rattle.trim.proofs.theorems.MarkLaws.{marking_all, marking_none, marking_code, marking_small, marking_operands, marking_index, marking_on, mark_length}
 use Rattle.trim.proofs.mark_names.Goals as goal
 
 pub loop-left-init : goal.loop-left-init

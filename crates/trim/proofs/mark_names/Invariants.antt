@@ -1,10 +1,8 @@
 -- `trim::mark_names` meets its contract. The loop's invariant: what is left of the codes marks the rest. Assumes nothing.
-use native.Mathlib.Omega.{arith}
-use mathlib.Core.Path.{◌≡◌, ◌∙◌, ap}
+use mathlib.Core.Path.{◌≡◌}
 use lib.ListN.{length}
-use Rattle.rewrite.specs.Tokens.{operand_count, TokensAt}
-use Rattle.trim.proofs.theorems.MarkLaws.{Marking, marking_all, marking_none, marking_code, marking_small, marking_operands, marking_index, marking_on, mark_length}
-use borrow.Author.Rules.{rules}
+use Rattle.rewrite.specs.Tokens.{TokensAt}
+use Rattle.trim.proofs.theorems.MarkLaws.{Marking}
 use Rattle.trim.proofs.mark_names.Given as goal
 
 abbrev pub invariant-loop-left : goal.invariant-loop-left

@@ -1,11 +1,9 @@
 -- `trim::mark_reached` meets its contract. The loop's invariant: the set and the marks after the templates below `own`. Assumes nothing.
-use Prim.Native.Nat.{◌-◌, ◌≤◌}
+use Prim.Native.Nat.{◌-◌}
 use native.Mathlib.Omega.{arith}
-use mathlib.Core.Path.{◌≡◌, refl, sym, ap, ◌∙◌}
+use mathlib.Core.Path.{ap, ◌∙◌}
 use lib.ListN.{length}
-use Rattle.trim.specs.Standing.{FileIn}
-use Rattle.trim.specs.laws.ReachedLaws.{Reaching, reaching_none, reaching_first, reaching_on, marked_length, zeros_length}
-use borrow.Author.Rules.{rules}
+use Rattle.trim.specs.laws.ReachedLaws.{reaching_none, reaching_first, reaching_on, marked_length, zeros_length}
 use Rattle.trim.proofs.mark_reached.Goals as goal
 
 pub loop-own-init : goal.loop-own-init

@@ -1,9 +1,6 @@
 -- `trim::number` meets its contract. Assumes nothing.
 use Prim.Native.Nat.{◌-◌, ◌≤◌}
-use native.Mathlib.Omega.{arith}
-use mathlib.Core.Path.{◌≡◌, refl, sym, ◌∙◌}
-use Rattle.trim.proofs.theorems.MarkLaws.{Numbering, numbering_none, numbering_fits, numbering_on, numbering_all}
-use borrow.Author.Rules.{rules}
+use Rattle.trim.proofs.theorems.MarkLaws.{Numbering}
 use Rattle.trim.proofs.number.Given as goal
 
 abbrev pub invariant-loop-i : goal.invariant-loop-i

@@ -3,7 +3,6 @@ use native.Mathlib.Omega.{arith}
 use Rattle.trim.specs.laws.ReachedLaws.{zeros_length}
 use Rattle.trim.proofs.theorems.MarkLaws.{span_tokens, names_fit, names_numbered}
 use Rattle.trim.proofs.theorems.TemplateLaws.{span_places}
-use borrow.Author.Rules.{rules}
 use Rattle.trim.proofs.number_names.Goals as goal
 
 pub since-requires : goal.since-requires

@@ -1,7 +1,6 @@
 -- `trim::number_one` meets its contract. Assumes nothing.
 use native.Mathlib.Omega.{arith}
 use Rattle.trim.proofs.theorems.MarkLaws.{one_unset, one_set, one_fits}
-use borrow.Author.Rules.{rules}
 use Rattle.trim.proofs.number_one.Goals as goal
 
 pub returns-then-marks-i-lt1 : goal.returns-then-marks-i-lt1

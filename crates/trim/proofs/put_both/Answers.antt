@@ -3,7 +3,6 @@ use native.Mathlib.Omega.{arith}
 use mathlib.Core.Path.{sym}
 use lib.Seq.{length-take-le}
 use Rattle.trim.proofs.theorems.WholeLaws.{short_file, short_list_lem, both_put}
-use borrow.Author.Rules.{rules}
 use Rattle.trim.proofs.put_both.Goals as goal
 
 pub returns-then-out-size : goal.returns-then-out-size

@@ -1,11 +1,8 @@
 -- `trim::put_entries` meets its contract. The loop's invariant: the entries from n on, at `here`, are left. Assumes nothing.
-use Prim.Native.Nat.{◌+◌, ◌-◌, ◌≤◌}
+use Prim.Native.Nat.{◌-◌}
 use native.Mathlib.Omega.{arith}
-use mathlib.Core.Path.{◌≡◌, refl, ap, ◌∙◌}
-use lib.ListN.{length}
-use Rattle.trim.specs.Standing.{EntriesIn}
-use Rattle.trim.proofs.theorems.EntryLaws.{Entering, entering_none, entering_first, entering_size, entering_room, entering_on, entering_all, entry_inside}
-use borrow.Author.Rules.{rules}
+use mathlib.Core.Path.{refl, ◌∙◌}
+use Rattle.trim.proofs.theorems.EntryLaws.{entering_none, entering_first, entering_size, entering_room, entering_on, entering_all, entry_inside}
 use Rattle.trim.proofs.put_entries.Goals as goal
 
 pub loop-n-init : goal.loop-n-init

@@ -1,11 +1,9 @@
 -- `trim::put_entries` meets its contract. The loop's invariant: the entries from n on, at `here`, are left. Assumes nothing.
 use Prim.Native.Nat.{◌+◌, ◌-◌, ◌≤◌}
-use native.Mathlib.Omega.{arith}
-use mathlib.Core.Path.{◌≡◌, refl, ap, ◌∙◌}
+use mathlib.Core.Path.{◌≡◌}
 use lib.ListN.{length}
 use Rattle.trim.specs.Standing.{EntriesIn}
-use Rattle.trim.proofs.theorems.EntryLaws.{Entering, entering_none, entering_first, entering_size, entering_room, entering_on, entering_all, entry_inside}
-use borrow.Author.Rules.{rules}
+use Rattle.trim.proofs.theorems.EntryLaws.{Entering}
 use Rattle.trim.proofs.put_entries.Given as goal
 
 abbrev pub invariant-loop-n : goal.invariant-loop-n

@@ -3,7 +3,6 @@ use native.Mathlib.Omega.{arith}
 use mathlib.Core.Path.{refl, ap, ◌∙◌}
 use Rattle.bit_writer.specs.Put.{put_bits}
 use Rattle.trim.proofs.theorems.EntryLaws.{entry_inside, entry_template, template_put, entry_other}
-use borrow.Author.Rules.{rules}
 use Rattle.trim.proofs.put_entry.Goals as goal
 
 pub bits_at-requires : goal.bits_at-requires

@@ -1,7 +1,6 @@
 -- `trim::put_line` meets its contract. Assumes nothing.
 use native.Mathlib.Omega.{arith}
 use Rattle.trim.specs.laws.LineLaws.{line_gone, line_new, line_short, put_short}
-use borrow.Author.Rules.{rules}
 use Rattle.trim.proofs.put_line.Goals as goal
 
 pub returns-then-mark-lt1 : goal.returns-then-mark-lt1

@@ -1,12 +1,9 @@
 -- `trim::put_lines` meets its contract. The loop's invariant: the lines from entry n on are left. Assumes nothing.
-use Prim.Native.Nat.{◌+◌, ◌*◌, ◌-◌, ◌≤◌}
+use Prim.Native.Nat.{◌-◌}
 use native.Mathlib.Omega.{arith}
-use mathlib.Core.Path.{◌≡◌, refl, ◌∙◌}
-use lib.ListN.{length}
+use mathlib.Core.Path.{refl, ◌∙◌}
 use Rattle.text.specs.laws.Laws.{put_then, put_length}
-use Rattle.trim.specs.Standing.{row_lines}
-use Rattle.trim.specs.laws.LineLaws.{Lining, lining_none, lining_on, lining_all}
-use borrow.Author.Rules.{rules}
+use Rattle.trim.specs.laws.LineLaws.{lining_none, lining_on, lining_all}
 use Rattle.trim.proofs.put_lines.Goals as goal
 
 pub put_line-there-requires : goal.put_line-there-requires

@@ -1,12 +1,9 @@
 -- `trim::put_lines` meets its contract. The loop's invariant: the lines from entry n on are left. Assumes nothing.
 use Prim.Native.Nat.{◌+◌, ◌*◌, ◌-◌, ◌≤◌}
-use native.Mathlib.Omega.{arith}
-use mathlib.Core.Path.{◌≡◌, refl, ◌∙◌}
+use mathlib.Core.Path.{◌≡◌}
 use lib.ListN.{length}
-use Rattle.text.specs.laws.Laws.{put_then, put_length}
 use Rattle.trim.specs.Standing.{row_lines}
-use Rattle.trim.specs.laws.LineLaws.{Lining, lining_none, lining_on, lining_all}
-use borrow.Author.Rules.{rules}
+use Rattle.trim.specs.laws.LineLaws.{Lining}
 use Rattle.trim.proofs.put_lines.Given as goal
 
 abbrev pub invariant-loop-n : goal.invariant-loop-n

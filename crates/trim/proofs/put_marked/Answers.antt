@@ -1,7 +1,6 @@
 -- `trim::put_marked` meets its contract. Assumes nothing.
 use native.Mathlib.Omega.{arith}
 use Rattle.trim.proofs.theorems.EntryLaws.{marked_gone, marked_put}
-use borrow.Author.Rules.{rules}
 use Rattle.trim.proofs.put_marked.Goals as goal
 
 pub returns-then-mark-lt1 : goal.returns-then-mark-lt1

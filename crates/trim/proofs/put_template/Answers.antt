@@ -5,7 +5,6 @@ use lib.ListN.{length}
 use Rattle.bit_writer.proofs.theorems.Laws.{put_length}
 use Rattle.trim.proofs.theorems.MarkLaws.{span_tokens}
 use Rattle.trim.proofs.theorems.TemplateLaws.{count_few, span_places, template_room, template_entries, template_put}
-use borrow.Author.Rules.{rules}
 use Rattle.trim.proofs.put_template.Goals as goal
 
 pub put_field-second-requires : goal.put_field-second-requires

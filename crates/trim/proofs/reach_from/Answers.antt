@@ -1,7 +1,6 @@
 -- `trim::reach_from` meets its contract. Assumes nothing.
 use mathlib.Core.Path.{sym}
 use Rattle.trim.specs.laws.ReachedLaws.{bit_in, bit_out, reached_in, reached_out, marked_in_lem, marked_out}
-use borrow.Author.Rules.{rules}
 use Rattle.trim.proofs.reach_from.Goals as goal
 
 pub returns-then-reach-own-ne1 : goal.returns-then-reach-own-ne1

@@ -1,39 +1,27 @@
 -- A template into the file and into the list, and all of them. Assumes nothing.
-use Prim.Native.Nat.{ℕ, zero, suc, ◌+◌, ◌*◌, ◌-◌, ◌/◌, ◌≤◌, ◌<◌}
-use Rattle.std.proofs.Common.{zero-add, add-one, subst, ◌∙◌, append-nil, append_assoc, lt-ltb, le-ltb, eqb-true, eq-eqb, length-append}
+use Prim.Native.Nat.{ℕ, zero, suc, ◌+◌, ◌*◌, ◌-◌, ◌≤◌, ◌<◌}
+use Rattle.std.proofs.Common.{zero-add, subst, ◌∙◌, lt-ltb, eqb-true, eq-eqb}
 use native.Mathlib.Omega.{arith}
 use Rattle.std.specs.Prelude.{◌≡◌, Bool, ◌&&◌, ◌||◌, List, [], ◌∷◌, ◌++◌, map, ltb, leb, eqb, length, replicate}
 use Rattle.std.proofs.Math.Path.{refl, sym, ap}
 use Rattle.std.proofs.Math.Bool.{true, false, cond, and-eq-true_iff}
-use Rattle.std.proofs.Math.Option.{Option, none, some}
+use Rattle.std.proofs.Math.Option.{some}
 use Rattle.std.proofs.Math.ListN.{get_or}
-use Rattle.std.proofs.lemmas.List.{length-map}
-use Rattle.cells.specs.laws.Laws.{clash}
-use Rattle.files.specs.Code.{Code, done, neutral, return, call, unless_false, make_cont, bits}
+use Rattle.files.specs.Code.{Code, done, neutral, return, call, unless_false, make_cont}
 use Rattle.files.specs.Entries.{Entry, constant, global, template}
 use Rattle.files.specs.Grammar.{entry_of, suits, index_fits, each_neutral, indices_fit}
-use Rattle.files.specs.Linear.{bits_of, entries_bits}
 use Rattle.files.specs.Orphans.{is_template, closes}
 use Rattle.files.specs.Tree.{Template}
-use Rattle.files.specs.laws.AllGot.{Each}
-use Rattle.files.specs.laws.EntriesLaws.{EntriesOk}
 use Rattle.files.specs.laws.TableLaws.{zeros_at}
-use Rattle.bit_writer.specs.Put.{put_bits}
-use Rattle.bit_writer.specs.laws.Wrote.{Wrote}
-use Rattle.readback.specs.laws.Bits.{length_bits}
-use Rattle.readback.specs.laws.Lists.{bits_are}
-use Rattle.tree_file.specs.File.{template_bits, templates_bits, file_bits}
+use Rattle.tree_file.specs.File.{template_bits}
 use Rattle.tree_file.specs.laws.Lengths.{template_length}
-use Rattle.text.specs.Put.{Put}
-use Rattle.text.specs.laws.Laws.{put_then}
 use Rattle.trim.specs.declared.Span.{Span}
 use Rattle.trim.specs.Kept.{sift, rank}
-use Rattle.trim.specs.Trim.{names, new_index, renumber, trim_template, trim}
-use Rattle.trim.specs.Lines.{kept, new_line, entry_lines, template_lines, lines_from}
-use Rattle.trim.specs.Standing.{FileIn, TemplateIn, ListIn, span_of, Leads, Numbers, RowOf, PutMore, kept_bits, mark_line, row_lines}
-use Rattle.trim.specs.laws.KeptLaws.{sift_length}
+use Rattle.trim.specs.Trim.{names, new_index, renumber, trim_template}
+use Rattle.trim.specs.Lines.{kept, new_line, template_lines}
+use Rattle.trim.specs.Standing.{TemplateIn, ListIn, span_of, Leads, Numbers, RowOf, PutMore, kept_bits, mark_line, row_lines}
 use Rattle.trim.specs.laws.ReachedLaws.{or_cases, or_left, or_right, never, closes_up}
-use Rattle.trim.specs.laws.StandLaws.{Walk, walk_first, walk_next, walk_all, count_in, next_in, inside}
+use Rattle.trim.specs.laws.StandLaws.{next_in}
 use Rattle.trim.proofs.theorems.EntryLaws.{more_none}
 use Rattle.trim.specs.laws.LineLaws.{rows_lines}
 

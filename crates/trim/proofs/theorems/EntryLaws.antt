@@ -1,5 +1,5 @@
 -- Entries that stand in a file: their sizes, and each put with the new number of the template that it names. Assumes nothing.
-use Prim.Native.Nat.{ℕ, zero, suc, ◌+◌, ◌*◌, ◌-◌, ◌^◌, ◌≤◌, ◌<◌}
+use Prim.Native.Nat.{ℕ, suc, ◌+◌, ◌*◌, ◌-◌, ◌^◌, ◌≤◌, ◌<◌}
 use Rattle.std.proofs.Common.{arith, ◌∙◌, lt-ltb, le-ltb}
 use Rattle.std.specs.Prelude.{◌≡◌, Bool, true, false, cond, ltb}
 use Rattle.std.proofs.Math.Path.{refl, sym, ap, subst}
@@ -13,8 +13,7 @@ use Rattle.files.specs.laws.EntriesLaws.{EntryOk, EntriesOk, width_none, width_n
 use Rattle.readback.specs.Bits.{Stands}
 use Rattle.readback.specs.laws.Bits.{AreBits, length_bits, stands_left, stands_right, field_stands}
 use Rattle.readback.specs.Lists.{bits_from}
-use Rattle.readback.specs.laws.Lists.{none_are, bits_are, append_are, stands_from}
-use Rattle.readback.specs.laws.Entries.{entries_are}
+use Rattle.readback.specs.laws.Lists.{bits_are, append_are, stands_from}
 use Rattle.bit_writer.specs.Put.{put_bits}
 use Rattle.bit_writer.specs.laws.Wrote.{Wrote}
 use Rattle.bit_writer.proofs.theorems.Laws.{wrote_on}
@@ -22,7 +21,6 @@ use Rattle.tree_file.proofs.theorems.Written.{constant_length}
 use Rattle.trim.specs.Kept.{sift}
 use Rattle.trim.specs.Trim.{renumber}
 use Rattle.trim.specs.Standing.{EntryIn, EntriesIn, is_marked, PutMore, kept_entries}
-use Rattle.trim.specs.laws.ReachedLaws.{never}
 
 -- ---- what is read of an entry
 abbrev kind_of : Entry → ℕ

@@ -1,23 +1,21 @@
 -- Marks: those of the entries that code names, and their numbers. Assumes nothing.
 use Prim.Native.Nat.{ℕ, zero, suc, ◌+◌, ◌*◌, ◌-◌, ◌≤◌, ◌<◌}
-use Rattle.std.proofs.Common.{add-zero, zero-add, add-one, arith, sym, ap₂, ◌∙◌, length-set, get_or-set_same, get_or-set_other}
+use Rattle.std.proofs.Common.{zero-add, add-one, arith, sym, ap₂, ◌∙◌, length-set, get_or-set_same, get_or-set_other}
 use Rattle.std.specs.Prelude.{◌≡◌, Bool, ◌&&◌, ◌||◌, eqb, leb, set, replicate}
 use Rattle.std.proofs.Math.Path.{refl, ap, subst}
 use Rattle.std.proofs.Math.Bool.{true, false, cond, and-eq-true_iff}
 use mathlib.Core.List.{List, [], ◌∷◌, ◌++◌}
-use Rattle.std.proofs.Math.Option.{Option, none, some}
-use borrow.Author.Tests.{eqb-true, eq-eqb, ne_eqb, lt-ltb, le-ltb, ltb-true, ltb-false, leb-true, leb-false, le-leb}
+use Rattle.std.proofs.Math.Option.{none, some}
+use borrow.Author.Tests.{eqb-true, eq-eqb, lt-ltb, le-ltb, ltb-false, leb-true, leb-false}
 use Rattle.std.proofs.Math.Dec.{ltb}
 use Rattle.std.proofs.Math.ListN.{length, get_or, length-append}
-use Rattle.std.proofs.lemmas.List.{length-replicate}
 use Rattle.fields.specs.Field.{field_at}
-use Rattle.cells.specs.laws.Laws.{clash}
 use Rattle.files.specs.Codes.{shape_of, is_neutral, operands}
 use Rattle.files.specs.Code.{Code, done, neutral, return, call, unless_false, make_cont, bits}
-use Rattle.files.specs.Entries.{Entry, constant, global, template}
+use Rattle.files.specs.Entries.{Entry, template}
 use Rattle.files.specs.Grammar.{entry_of, suits, index_fits, each_neutral, indices_fit}
 use Rattle.files.specs.Valid.{Bytes, Valid}
-use Rattle.files.specs.laws.TableLaws.{zeros_at, entry_above}
+use Rattle.files.specs.laws.TableLaws.{zeros_at}
 use Rattle.readback.specs.Bits.{Stands}
 use Rattle.readback.specs.laws.Bits.{stands_left, stands_right}
 use Rattle.lists.specs.Pass.{operands_at}

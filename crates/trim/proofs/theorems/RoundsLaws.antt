@@ -1,6 +1,6 @@
 -- THE LAW of rounds: what stays after them all is what one pass upward reaches, and nothing more goes. Assumes nothing.
-use Rattle.std.specs.Prelude.{ℕ, zero, suc, ◌+◌, ◌≤◌, ◌<◌, ◌≡◌, refl, Bool, true, false, cond, ◌&&◌, ◌||◌, List, [], ◌∷◌, eqb, length}
-use Rattle.std.proofs.Common.{zero-add, arith, sym, ap, ap₂, ◌∙◌}
+use Rattle.std.specs.Prelude.{ℕ, zero, suc, ◌+◌, ◌≤◌, ◌<◌, ◌≡◌, refl, Bool, true, false, ◌&&◌, ◌||◌, List, [], ◌∷◌, eqb, length}
+use Rattle.std.proofs.Common.{arith, sym, ap, ap₂, ◌∙◌}
 use Rattle.files.specs.Tree.{Template}
 use Rattle.files.specs.Orphans.{closes}
 use Rattle.files.specs.laws.AllGot.{Each, each_weaker}
@@ -8,7 +8,7 @@ use Rattle.tree_file.specs.laws.Writable.{TreeWritable}
 use Rattle.trim.specs.Trim.{named_from, there, stays}
 use Rattle.trim.specs.Reached.{marked, reached}
 use Rattle.trim.specs.Standing.{Leads}
-use Rattle.trim.specs.laws.ReachedLaws.{or_left, or_right, not_true, Up, up_each, closes_up, marked_back}
+use Rattle.trim.specs.laws.ReachedLaws.{or_left, or_right, Up, up_each, closes_up, marked_back}
 
 or_assoc : (a b c : Bool) → ((a || b) || c) ≡ (a || (b || c))
 or_assoc true b c = refl

@@ -3,36 +3,36 @@ use Prim.Native.Nat.{ℕ, zero, suc, ◌+◌, ◌*◌, ◌-◌, ◌≤◌, ◌<�
 use native.Mathlib.Omega.{arith}
 use Rattle.std.specs.Prelude.{◌≡◌, Bool, cond, ◌&&◌, ◌||◌, leb, get_or}
 use Rattle.std.proofs.Math.Path.{refl, sym, ap, subst}
-use Rattle.std.proofs.Common.{◌∙◌, length-append}
+use Rattle.std.proofs.Common.{◌∙◌}
 use Rattle.std.proofs.Math.Bool.{true, false}
-use mathlib.Core.List.{List, [], ◌∷◌, ◌++◌, map}
-use borrow.Author.Tests.{lt-ltb, leb-true, leb-false, le-leb, eq-eqb}
+use mathlib.Core.List.{List, [], ◌∷◌, map}
+use borrow.Author.Tests.{lt-ltb, leb-true, eq-eqb}
 use Rattle.std.proofs.Math.Dec.{ltb, eqb}
 use Rattle.std.proofs.Math.ListN.{length}
 use Rattle.std.proofs.lemmas.List.{length-map}
-use Rattle.files.specs.Codes.{shape_of, is_neutral, operands}
+use Rattle.files.specs.Codes.{is_neutral, operands}
 use Rattle.files.specs.Code.{Code, done, neutral, return, call, unless_false, make_cont, bits}
 use Rattle.files.specs.Entries.{Entry}
 use Rattle.files.specs.Linear.{bits_of, entries_bits}
 use Rattle.files.specs.Tree.{Template}
 use Rattle.files.specs.Valid.{Valid}
 use Rattle.readback.specs.Bits.{Stands}
-use Rattle.readback.specs.laws.Bits.{AreBits, length_bits}
+use Rattle.readback.specs.laws.Bits.{length_bits}
 use Rattle.readback.specs.laws.Lists.{bits_are}
 use Rattle.bit_writer.specs.Put.{put_bits}
 use Rattle.tree_file.specs.File.{list_bits, template_bits}
 use Rattle.tree_file.proofs.theorems.Back.{neutral_shape}
-use Rattle.tree_file.specs.laws.Lengths.{list_length, list_are, template_length}
+use Rattle.tree_file.specs.laws.Lengths.{list_are, template_length}
 use Rattle.rewrite.specs.Reindex.{reindexed, reindex}
-use Rattle.rewrite.specs.Tokens.{Token, TokensAt, tokens, end, tokens_bits, renewed, index_in}
+use Rattle.rewrite.specs.Tokens.{Token, tokens_bits, renewed, index_in}
 use Rattle.rewrite.specs.laws.TokensLaws.{one_operand, renewed_list, renewed_length}
 use Rattle.trim.specs.declared.Span.{Span}
 use Rattle.trim.specs.Kept.{sift, rank}
 use Rattle.trim.specs.Trim.{names, new_index, renumber, trim_template}
-use Rattle.trim.specs.Standing.{TemplateIn, ListIn, EntriesIn, span_of, is_marked, RowOf, PutMore, kept_entries}
-use Rattle.trim.specs.laws.KeptLaws.{rank_same, rank_most, sift_same, sift_length}
+use Rattle.trim.specs.Standing.{ListIn, EntriesIn, span_of, is_marked, RowOf, PutMore, kept_entries}
+use Rattle.trim.specs.laws.KeptLaws.{rank_most, sift_same, sift_length}
 use Rattle.trim.specs.laws.ReachedLaws.{or_left, or_right}
-use Rattle.trim.specs.laws.StandLaws.{entries_in, list_in, inside}
+use Rattle.trim.specs.laws.StandLaws.{entries_in}
 use Rattle.trim.proofs.theorems.MarkLaws.{names_within, span_tokens, span_all}
 use Rattle.trim.proofs.theorems.EntryLaws.{more_then, more_put}
 

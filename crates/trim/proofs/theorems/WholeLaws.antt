@@ -1,6 +1,6 @@
 -- All templates, and the function as the file was judged. Assumes nothing.
-use Rattle.std.specs.Prelude.{ℕ, zero, suc, ◌+◌, ◌*◌, ◌-◌, ◌/◌, ◌%◌, ◌≤◌, ◌<◌, ◌≡◌, Bool, leb, get_or, replicate}
-use Rattle.std.proofs.Common.{zero-add, arith, ◌∙◌, length-append, length-take, take_at, length-take-le}
+use Rattle.std.specs.Prelude.{ℕ, suc, ◌+◌, ◌*◌, ◌-◌, ◌/◌, ◌%◌, ◌≤◌, ◌<◌, ◌≡◌, Bool, leb}
+use Rattle.std.proofs.Common.{zero-add, arith, ◌∙◌, take_at, length-take-le}
 use Rattle.std.proofs.Math.Numerals.{add-one}
 use Rattle.std.proofs.Math.Path.{refl, sym, ap, subst}
 use Rattle.std.proofs.Math.Bool.{true, false, cond}
@@ -9,7 +9,6 @@ use borrow.Author.Tests.{le-leb, lt-leb}
 use Rattle.std.proofs.Math.Dec.{ltb}
 use Rattle.std.proofs.Math.ListN.{length, take, drop}
 use Rattle.std.proofs.lemmas.List.{length-map}
-use Rattle.std.proofs.lemmas.List.Edits.{sets}
 use Rattle.std.proofs.Math.Seq.{sets-eq}
 use Rattle.cells.specs.Numbers.{short_output}
 use Rattle.files.specs.Reading.{Got, got, refused}

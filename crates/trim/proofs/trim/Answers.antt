@@ -3,7 +3,6 @@ use mathlib.Core.Path.{refl, sym, ◌∙◌}
 use Rattle.tree.specs.laws.Judged.{judged_refused}
 use Rattle.trim.proofs.theorems.WholeLaws.{judged_file, all_refused}
 use Rattle.files.specs.laws.RoomLaws.{all_rows}
-use borrow.Author.Rules.{rules}
 use Rattle.trim.proofs.trim.Goals as goal
 
 pub read_checked-requires : goal.read_checked-requires

@@ -1,11 +1,10 @@
 -- `trim::trim_into` meets its contract. Assumes nothing.
 use native.Mathlib.Omega.{arith}
-use mathlib.Core.Path.{ap, ◌∙◌}
+use mathlib.Core.Path.{◌∙◌}
 use mathlib.Core.List.{[]}
 use Rattle.trim.specs.Trim.{stays}
 use Rattle.trim.specs.laws.StandLaws.{file_short, file_count}
 use Rattle.trim.proofs.theorems.WholeLaws.{few_marks, byte_size, stays_numbers, stays_count, file_leads, all_into}
-use borrow.Author.Rules.{rules}
 use Rattle.trim.proofs.trim_into.Goals as goal
 
 pub mark_reached-requires : goal.mark_reached-requires

@@ -1,12 +1,10 @@
 -- `trim::trim_template` meets its contract. Assumes nothing.
 use native.Mathlib.Omega.{arith}
-use mathlib.Core.Path.{refl, sym, ap, subst, ◌∙◌}
-use lib.ListN.{length}
+use mathlib.Core.Path.{refl, ◌∙◌}
 use Rattle.trim.specs.laws.StandLaws.{count_in}
 use Rattle.trim.proofs.theorems.TemplateLaws.{count_few}
 use Rattle.trim.specs.laws.LineLaws.{put_same}
 use Rattle.trim.proofs.theorems.BothLaws.{head_inside, span_next, with_list_lem, gone_both, kept_both}
-use borrow.Author.Rules.{rules}
 use Rattle.trim.proofs.trim_template.Goals as goal
 
 pub bits_at-entries-requires : goal.bits_at-entries-requires

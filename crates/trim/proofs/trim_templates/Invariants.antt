@@ -1,14 +1,11 @@
 -- `trim::trim_templates` meets its contract. The loop's invariant: the templates from `own` on, at `here`, are left. Assumes nothing.
 use Prim.Native.Nat.{ℕ, ◌*◌, ◌-◌, ◌≤◌}
-use native.Mathlib.Omega.{arith}
-use mathlib.Core.Path.{◌≡◌, refl, ap, ◌∙◌}
+use mathlib.Core.Path.{◌≡◌}
 use mathlib.Core.Bool.{Bool}
 use lib.ListN.{length}
 use Rattle.files.specs.laws.AllGot.{Each}
-use Rattle.bit_writer.proofs.theorems.Laws.{put_length}
 use Rattle.trim.specs.Standing.{FileIn, Numbers, Leads}
-use Rattle.trim.proofs.theorems.WholeLaws.{Passing, passing_all, passing_inside, passing_first, passing_on, Trimming, trimming_none, trimming_first, first_leads, first_numbers, trimming_on, trimming_all, trimming_file, file_walk}
-use borrow.Author.Rules.{rules}
+use Rattle.trim.proofs.theorems.WholeLaws.{Passing, Trimming}
 use Rattle.trim.proofs.trim_templates.Given as goal
 
 abbrev pub invariant-loop-own : goal.invariant-loop-own

@@ -1,14 +1,8 @@
 -- The cycle of calls {put_arms, put_conditional, put_instr, put_list, put_make_cont} meets its contracts: a level falls at each list inside an
 -- instruction, and the bytes of the region within a list. Assumes nothing.
 use Prim.Native.Nat.{◌+◌, ◌*◌, ◌-◌}
-use native.Mathlib.Omega.{arith}
-use mathlib.Core.Path.{refl, sym, ◌∙◌}
 use Rattle.lists.specs.Facts.{slot_named}
-use Rattle.unflatten.specs.ToPut.{Going, ArmsIn}
-use Rattle.unflatten.specs.laws.PutLaws.{puts_none, puts_some, two_first, two_from, stepped_none, stepped_on, arms_none, arms_more, saved_none, saved_more}
-use Rattle.unflatten.specs.laws.PutLaws.{head_as, head_none, going_begun, going_no_end, going_end, going_none, going_on}
-use borrow.Author.Rules.{rules}
-use Prim.Native.Nat.{ℕ, ◌<◌}
+use Rattle.unflatten.specs.ToPut.{Going}
 use Rattle.unflatten.proofs.+put_arms_put_conditional_put_instr_put_list_put_make_cont.Given as goal
 
 abbrev pub decreases-put_arms : goal.decreases-put_arms

@@ -3,10 +3,8 @@ use Rattle.unflatten.specs.laws.HeadLaws.{shape_some, after_other}
 use Rattle.back.specs.Unflat.{after}
 use Rattle.files.specs.Codes.{shape_of, operands}
 use native.Mathlib.Omega.{arith}
-use mathlib.Core.Path.{refl, sym, ap, ◌∙◌}
+use mathlib.Core.Path.{refl, sym}
 use Prim.Native.Nat.{◌-◌}
-use borrow.Author.Rules.{rules}
-use Rattle.unflatten.proofs.after.Lts as lts
 use Rattle.unflatten.proofs.after.Goals as goal
 
 pub overflow_sub-result : goal.overflow_sub-result

@@ -2,7 +2,6 @@
 use mathlib.Core.Path.{refl}
 use Rattle.unflatten.specs.laws.GrowLaws.{accepted_file, refused_file}
 use borrow.Author.Rules.{rules}
-use Rattle.unflatten.proofs.back.Lts as lts
 use Rattle.unflatten.proofs.back.Goals as goal
 
 pub back_read-requires : goal.back_read-requires

@@ -1,12 +1,10 @@
 -- `unflatten::back_read` meets its contract. Assumes nothing.
-use Prim.Native.Nat.{ℕ, ◌+◌, ◌*◌, ◌/◌}
+use Prim.Native.Nat.{ℕ, ◌/◌}
 use native.Mathlib.Omega.{arith}
-use mathlib.Core.Path.{refl, sym, ap, ◌∙◌}
+use mathlib.Core.Path.{sym, ap, ◌∙◌}
 use lib.ListN.{length, length-replicate}
 use Rattle.files.specs.Outcome.{answered, written}
 use Rattle.unflatten.specs.laws.GrowLaws.{bytes_all, file, templates_in, back_stuck, back_given}
-use borrow.Author.Rules.{rules}
-use Rattle.unflatten.proofs.back_read.Lts as lts
 use Rattle.unflatten.proofs.back_read.Goals as goal
 
 pub bits_at-count-requires : goal.bits_at-count-requires

@@ -1,10 +1,7 @@
 -- `unflatten::conditional` meets its contract. Assumes nothing.
 use native.Mathlib.Omega.{arith}
 use Rattle.unflatten.specs.laws.HeadLaws.{head_last_3, cond_short, cond_far, cond_loose, cond_closed, open_told, levelled}
-use Rattle.unflatten.specs.Heads.{HeadIs}
-use mathlib.Core.Path.{sym, ◌∙◌, subst}
-use borrow.Author.Rules.{rules}
-use Rattle.unflatten.proofs.conditional.Lts as lts
+use mathlib.Core.Path.{sym, ◌∙◌}
 use Rattle.unflatten.proofs.conditional.Goals as goal
 
 pub returns-then-levels-eq0 : goal.returns-then-levels-eq0

@@ -1,8 +1,5 @@
 -- `unflatten::ending` meets its contract. Assumes nothing.
-use native.Mathlib.Omega.{arith}
 use Rattle.unflatten.specs.laws.HeadLaws.{head_not_ending, head_loose, head_ending}
-use borrow.Author.Rules.{rules}
-use Rattle.unflatten.proofs.ending.Lts as lts
 use Rattle.unflatten.proofs.ending.Goals as goal
 
 pub returns-then-to-p : goal.returns-then-to-p

@@ -1,12 +1,6 @@
 -- `unflatten::ends_in_jump` meets its contract: the loop is at an instruction's start, or past the end. Assumes nothing.
-use Rattle.unflatten.specs.laws.HeadLaws.{after_low}
-use Rattle.unflatten.specs.laws.Regions.{Scanned, scan_begun, scan_on, scan_end}
-use lib.ListN.{length}
-use native.Mathlib.Omega.{arith}
-use mathlib.Core.Path.{refl, sym, ◌∙◌}
+use Rattle.unflatten.specs.laws.Regions.{Scanned}
 use Prim.Native.Nat.{◌+◌, ◌-◌, ◌≤◌}
-use borrow.Author.Rules.{rules}
-use Rattle.unflatten.proofs.ends_in_jump.Lts as lts
 use Rattle.unflatten.proofs.ends_in_jump.Given as goal
 
 abbrev pub invariant-loop-p : goal.invariant-loop-p

@@ -1,8 +1,5 @@
 -- `unflatten::first_of` meets its contract. Assumes nothing.
 use Rattle.unflatten.specs.laws.HeadLaws.{head_zero}
-use native.Mathlib.Omega.{arith}
-use borrow.Author.Rules.{rules}
-use Rattle.unflatten.proofs.first_of.Lts as lts
 use Rattle.unflatten.proofs.first_of.Goals as goal
 
 pub returns-in-0 : goal.returns-in-0

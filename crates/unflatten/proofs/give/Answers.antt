@@ -1,14 +1,10 @@
 -- `unflatten::give` meets its contract: so many bytes are copied. Assumes nothing.
-use Prim.Native.Nat.{◌-◌, ◌+◌, ◌≤◌}
-use native.Mathlib.Nat.{zero-add}
-use native.Mathlib.Numerals.{add-one}
+use Prim.Native.Nat.{◌-◌}
 use native.Mathlib.Omega.{arith}
-use mathlib.Core.Path.{◌≡◌, refl, sym, ap, ◌∙◌}
-use lib.ListN.{length, length-set}
-use lib.Seq.{paste, paste-zero, paste-suc}
+use mathlib.Core.Path.{◌≡◌, refl, ap, ◌∙◌}
+use lib.ListN.{length-set}
+use lib.Seq.{paste, paste-zero}
 use Rattle.unflatten.specs.laws.GrowLaws.{give_long, give_short, give_all, copy_on}
-use borrow.Author.Rules.{rules}
-use Rattle.unflatten.proofs.give.Lts as lts
 use Rattle.unflatten.proofs.give.Goals as goal
 
 pub returns-then-n-gt65536 : goal.returns-then-n-gt65536

@@ -1,14 +1,8 @@
 -- `unflatten::give` meets its contract: so many bytes are copied. Assumes nothing.
-use Prim.Native.Nat.{◌-◌, ◌+◌, ◌≤◌}
-use native.Mathlib.Nat.{zero-add}
-use native.Mathlib.Numerals.{add-one}
-use native.Mathlib.Omega.{arith}
-use mathlib.Core.Path.{◌≡◌, refl, sym, ap, ◌∙◌}
-use lib.ListN.{length, length-set}
-use lib.Seq.{paste, paste-zero, paste-suc}
-use Rattle.unflatten.specs.laws.GrowLaws.{give_long, give_short, give_all, copy_on}
-use borrow.Author.Rules.{rules}
-use Rattle.unflatten.proofs.give.Lts as lts
+use Prim.Native.Nat.{◌-◌, ◌≤◌}
+use mathlib.Core.Path.{◌≡◌}
+use lib.ListN.{length}
+use lib.Seq.{paste}
 use Rattle.unflatten.proofs.give.Given as goal
 
 abbrev pub invariant-loop-i : goal.invariant-loop-i

@@ -1,8 +1,6 @@
 -- `unflatten::make_cont` meets its contract. Assumes nothing.
 use native.Mathlib.Omega.{arith}
 use Rattle.unflatten.specs.laws.HeadLaws.{head_last_4, cont_short, cont_far, cont_head, levelled}
-use borrow.Author.Rules.{rules}
-use Rattle.unflatten.proofs.make_cont.Lts as lts
 use Rattle.unflatten.proofs.make_cont.Goals as goal
 
 pub returns-then-levels-eq0 : goal.returns-then-levels-eq0

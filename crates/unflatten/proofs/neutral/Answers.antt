@@ -1,9 +1,7 @@
 -- `unflatten::neutral` meets its contract. Assumes nothing.
 use Rattle.unflatten.specs.laws.HeadLaws.{shape_low, head_no_code, head_cut, head_neutral}
 use native.Mathlib.Omega.{arith}
-use mathlib.Core.Path.{refl, sym, ap, ◌∙◌}
-use borrow.Author.Rules.{rules}
-use Rattle.unflatten.proofs.neutral.Lts as lts
+use mathlib.Core.Path.{refl}
 use Rattle.unflatten.proofs.neutral.Goals as goal
 
 pub returns-then-shape-gt3 : goal.returns-then-shape-gt3

@@ -1,8 +1,6 @@
 -- `unflatten::offset_at` meets its contract. Assumes nothing.
 use native.Mathlib.Omega.{arith}
 use Prim.Native.Nat.{◌+◌}
-use borrow.Author.Rules.{rules}
-use Rattle.unflatten.proofs.offset_at.Lts as lts
 use Rattle.unflatten.proofs.offset_at.Goals as goal
 
 pub overflow_cast-result : goal.overflow_cast-result

@@ -1,9 +1,5 @@
 -- `unflatten::open_arms` meets its contract: the tests are those of `open_head`. Assumes nothing.
-use native.Mathlib.Omega.{arith}
 use Rattle.unflatten.specs.laws.HeadLaws.{open_0, open_1, open_2, open_3}
-use Rattle.unflatten.specs.Heads.{open_head}
-use borrow.Author.Rules.{rules}
-use Rattle.unflatten.proofs.open_arms.Lts as lts
 use Rattle.unflatten.proofs.open_arms.Goals as goal
 
 pub returns-then-turn-p-lt7 : goal.returns-then-turn-p-lt7

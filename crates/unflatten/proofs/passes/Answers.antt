@@ -1,10 +1,7 @@
 -- `unflatten::passes` meets its contract. Assumes nothing.
 use Rattle.lists.specs.Facts.{slot_named}
 use Rattle.unflatten.specs.laws.PutLaws.{passes_low, passes_none, passes_first}
-use native.Mathlib.Omega.{arith}
-use mathlib.Core.Path.{refl, sym, ap, ◌∙◌}
-use borrow.Author.Rules.{rules}
-use Rattle.unflatten.proofs.passes.Lts as lts
+use mathlib.Core.Path.{◌∙◌}
 use Rattle.unflatten.proofs.passes.Goals as goal
 
 pub returns-then-code-le5 : goal.returns-then-code-le5

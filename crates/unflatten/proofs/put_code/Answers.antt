@@ -1,9 +1,6 @@
 -- `unflatten::put_code` meets its contract. Assumes nothing.
-use Prim.Native.Nat.{◌+◌, ◌*◌}
 use native.Mathlib.Omega.{arith}
 use Rattle.unflatten.specs.laws.GrowLaws.{told_cut, told_read, grows_none, grows_on}
-use borrow.Author.Rules.{rules}
-use Rattle.unflatten.proofs.put_code.Lts as lts
 use Rattle.unflatten.proofs.put_code.Goals as goal
 
 pub overflow_mul-size : goal.overflow_mul-size

@@ -1,10 +1,7 @@
 -- `unflatten::put_plain` meets its contract. Assumes nothing.
-use native.Mathlib.Omega.{arith}
 use mathlib.Core.Path.{sym, ◌∙◌}
 use Rattle.lists.specs.Facts.{slot_named}
 use Rattle.unflatten.specs.laws.PutLaws.{plain_none, plain_more}
-use borrow.Author.Rules.{rules}
-use Rattle.unflatten.proofs.put_plain.Lts as lts
 use Rattle.unflatten.proofs.put_plain.Goals as goal
 
 pub returns-then-passes : goal.returns-then-passes

@@ -1,10 +1,8 @@
 -- `unflatten::put_template` meets its contract: E, the entries and the code stand where the file was read. Assumes nothing.
-use Prim.Native.Nat.{◌+◌, ◌*◌, ◌-◌, ◌/◌}
+use Prim.Native.Nat.{◌+◌, ◌-◌, ◌/◌}
 use native.Mathlib.Omega.{arith}
-use mathlib.Core.Path.{refl, sym, ap, ◌∙◌}
+use mathlib.Core.Path.{ap, ◌∙◌}
 use Rattle.unflatten.specs.laws.GrowLaws.{parts, ends_at, not_refused, code_in, template_put, slots_same}
-use borrow.Author.Rules.{rules}
-use Rattle.unflatten.proofs.put_template.Lts as lts
 use Rattle.unflatten.proofs.put_template.Goals as goal
 
 pub overflow_mul-here : goal.overflow_mul-here

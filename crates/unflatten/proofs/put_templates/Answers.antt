@@ -1,11 +1,8 @@
 -- `unflatten::put_templates` meets its contract: who puts the templates that are left has put all. Assumes nothing.
-use Prim.Native.Nat.{◌+◌, ◌*◌, ◌-◌}
+use Prim.Native.Nat.{◌-◌}
 use native.Mathlib.Omega.{arith}
-use mathlib.Core.Path.{refl, sym, ap, ◌∙◌}
-use Rattle.unflatten.specs.ToGrow.{Growing}
+use mathlib.Core.Path.{refl, ◌∙◌}
 use Rattle.unflatten.specs.laws.GrowLaws.{growing_begun, growing_end, this_one, growing_stuck, growing_on, next_zeros}
-use borrow.Author.Rules.{rules}
-use Rattle.unflatten.proofs.put_templates.Lts as lts
 use Rattle.unflatten.proofs.put_templates.Goals as goal
 
 pub loop-own-init : goal.loop-own-init

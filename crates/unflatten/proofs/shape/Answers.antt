@@ -1,7 +1,5 @@
 -- `unflatten::shape` meets its contract. Assumes nothing.
 use Rattle.unflatten.specs.laws.HeadLaws.{shape_out}
-use borrow.Author.Rules.{rules}
-use Rattle.unflatten.proofs.shape.Lts as lts
 use Rattle.unflatten.proofs.shape.Goals as goal
 
 pub returns-then-code-gt31 : goal.returns-then-code-gt31

@@ -4,9 +4,6 @@ use Rattle.cells.specs.Cells.{tag_of}
 use borrow.Author.Tests.{le-leb, lt-leb, ne_eqb}
 use native.Mathlib.Omega.{arith}
 use mathlib.Core.Path.{refl}
-use Prim.Native.Nat.{◌/◌}
-use borrow.Author.Rules.{rules}
-use Rattle.unflatten.proofs.slot_fits.Lts as lts
 use Rattle.unflatten.proofs.slot_fits.Goals as goal
 
 pub returns-then-tag-lt1 : goal.returns-then-tag-lt1

@@ -1,10 +1,7 @@
 -- `unflatten::slot_named` meets its contract. Assumes nothing.
 use Rattle.lists.specs.Facts.{slot_fits, slot_named}
 use borrow.Author.Tests.{le-leb, lt-leb, ne_eqb}
-use native.Mathlib.Omega.{arith}
-use mathlib.Core.Path.{refl, sym, ◌∙◌}
-use borrow.Author.Rules.{rules}
-use Rattle.unflatten.proofs.slot_named.Lts as lts
+use mathlib.Core.Path.{refl, ◌∙◌}
 use Rattle.unflatten.proofs.slot_named.Goals as goal
 
 pub returns-then-code-gt9 : goal.returns-then-code-gt9
