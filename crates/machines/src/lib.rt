@@ -52,6 +52,7 @@ fn globals_refusal(globals: &[u64]) -> Start
 }
 
 // 20, 21, 31 and 22, where a budget may be `most`; `owner` is the owner's number.
+#[tactic(auto, unfolding(crate::specs::Start::start_refusal, crate::specs::Runs::right_lengths))]
 pub fn start_refusal(
     globals: &[u64],
     stack: &[u64],

@@ -153,16 +153,16 @@ module _ (ok : ℕ → ℕ → Bool) where
         unfolding arms_back open_arms test on
         found_empty_first h = arms_are true e ∙ rw (lt-leb 1 (length (before_jump (take n w))) h) refl
 
-        module _ (some_IsFirst : 1 ≤ length (before_jump (take n w))) where
+        module _ (some_first : 1 ≤ length (before_jump (take n w))) where
           pub found_empty_second : m < 1 → found ok (suc l) k (3 ∷ a ∷ b ∷ w) ≡ none
           unfolding arms_back open_arms test on
-          found_empty_second h = arms_are true e ∙ rw (le-leb 1 (length (before_jump (take n w))) some_IsFirst, jump, lt-leb 1 m h) refl
+          found_empty_second h = arms_are true e ∙ rw (le-leb 1 (length (before_jump (take n w))) some_first, jump, lt-leb 1 m h) refl
 
           module _ (some-second : 1 ≤ m) where
             pub found_far_second : length (drop n w) < m → found ok (suc l) k (3 ∷ a ∷ b ∷ w) ≡ none
             unfolding arms_back open_arms test on
             found_far_second h =
-                arms_are true e ∙ rw (le-leb 1 (length (before_jump (take n w))) some_IsFirst, jump, le-leb 1 m some-second, lt-leb m (length (drop n w)) h) refl
+                arms_are true e ∙ rw (le-leb 1 (length (before_jump (take n w))) some_first, jump, le-leb 1 m some-second, lt-leb m (length (drop n w)) h) refl
 
             pub found_open : m ≤ length (drop n w) → found ok (suc l) k (3 ∷ a ∷ b ∷ w)
                 ≡ on (on (found ok l false (before_jump (take n w))) (λ x. on (found ok l false (take m (drop n w))) (λ y. some (unless_i x y))))
@@ -170,7 +170,7 @@ module _ (ok : ℕ → ℕ → Bool) where
             unfolding arms_back open_arms test found
             found_open h =
                 arms_are true e
-                ∙ rw (le-leb 1 (length (before_jump (take n w))) some_IsFirst, jump, le-leb 1 m some-second, le-leb m (length (drop n w)) h)
+                ∙ rw (le-leb 1 (length (before_jump (take n w))) some_first, jump, le-leb 1 m some-second, le-leb m (length (drop n w)) h)
                 (keep_arms (back l false (before_jump (take n w))) (back l false (take m (drop n w))) (back (suc l) k (drop m (drop n w))))
 
   -- ---- a make-cont
