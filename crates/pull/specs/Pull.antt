@@ -41,7 +41,8 @@ unfoldable pub clip_globals : List ℤ → List ℕ
 unfolding word word_cell
 clip_globals clip =
     sets (replicate 256 undefined_cell) 0
-    (word_cell (word clip 0) ∷ word_cell (word clip 1) ∷ word_cell (word clip 2) ∷ word_cell (word clip 3) ∷ word_cell (word clip 4) ∷ word_cell (word clip 5) ∷ [])
+    (word_cell (word clip 0) ∷ word_cell (word clip 1) ∷ word_cell (word clip 2)
+    ∷ word_cell (word clip 3) ∷ word_cell (word clip 4) ∷ word_cell (word clip 5) ∷ [])
 
 -- run memory of its own
 unfoldable pub clip_memory : List ℤ → Memory

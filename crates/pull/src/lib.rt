@@ -237,7 +237,8 @@ fn pull_clips(
     frames: &mut [u64],
     list: &mut [u8],
 ) -> usize
-    requires clips_len_bound { (length clips.now / 8 ≤ 256) × (48 * (length clips.now / 8) ≤ length list.old) × TableOf file.now table.now × (budget ≤ 2000000) }
+    requires clips_len_bound { (length clips.now / 8 ≤ 256) × (48 * (length clips.now / 8) ≤ length list.old) × TableOf file.now table.now
+        × (budget ≤ 2000000) }
     requires globals_len { (length globals.old ≡ 256) × (length stack.old ≡ 256) × (length store.old ≡ 2048) × (length frames.old ≡ 2048) }
     ensures put { Put list.old 0 list.new result (pull_list clips.now file.now budget) }
     ensures upper_bound { result ≤ 44 * (length clips.now / 8) }

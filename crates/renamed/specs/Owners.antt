@@ -23,7 +23,8 @@ use Rattle.owners.specs.Owners.{is_owner, owner_of}
 use Rattle.owners.specs.declared.Owner.{Owner}
 use Rattle.owners.specs.declared.Owner.TheVariants.{House, Vendor}
 use Rattle.machines.specs.Machine.{Program, tree_program, linear_program, Ended}
-use Rattle.machines.specs.Runs.{Memory, Ran, ran, run_of, left_of, refused_run, right_lengths, lowest_unfit, fit_globals, by_owner, started, end_of, memory_of, reported}
+use Rattle.machines.specs.Runs.{Memory, Ran, ran, run_of, left_of, refused_run, right_lengths, lowest_unfit, fit_globals, by_owner, started, end_of}
+use Rattle.machines.specs.Runs.{memory_of, reported}
 use Rattle.machines.specs.Runs.{program_run, on_tree, on_linear, tree_run, linear_run}
 use Rattle.machines.specs.declared.End.TheVariants.{Refused}
 use Rattle.machines.specs.declared.Run.{Run}

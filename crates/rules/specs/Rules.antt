@@ -7,7 +7,8 @@ use Rattle.std.specs.Int.Signed.{lt_z}
 use Rattle.runs.specs.Runs.{zeroed, part}
 use Rattle.cells.specs.Cells.{tag_of, false_cell, true_cell, unspecified_cell, undefined_cell, int_cell, int_of, closure_cell, closure_template}
 use Rattle.cells.specs.Cells.{closure_env}
-use Rattle.cells.specs.Cells.{pair_cell, pair_first, pair_second, layer_cell, layer_parent, layer_count, frame_cell, frame_count, frame_template, frame_env, frame_place}
+use Rattle.cells.specs.Cells.{pair_cell, pair_first, pair_second, layer_cell, layer_parent, layer_count, frame_cell, frame_count, frame_template, frame_env}
+use Rattle.cells.specs.Cells.{frame_place}
 use Rattle.integers.specs.Integers.{signed, within, int_bits, all_integers, total_of, is_zero, floor_quotient}
 use Rattle.cells.specs.Numbers.{wrong_count, no_closure, undefined, beyond_layers, wrong_kind, out_of_range, stack_full, no_room, zero_divisor}
 use Rattle.rules.specs.State.{Mem, mem, regs, Held, Res, ok, wrong, on, need}

@@ -42,7 +42,8 @@ twins_from n k m count (x ∷ ts) f c i (suc t) =
     (lowest_none indexed_template m x ts i).1 t
 
 -- a tree file that passes 1 to 7, whatever its offsets, and the templates that flattening gives
-pub file_twins : (s : List ℕ) (ts : List Template) (q : ℕ) → tree_checked s ≡ got ts q → (t : ℕ) → Twins (get_or ts t no_template) (get_or (linears 1 ts) t no_linear)
+pub file_twins : (s : List ℕ) (ts : List Template) (q : ℕ) → tree_checked s ≡ got ts q → (t : ℕ)
+    → Twins (get_or ts t no_template) (get_or (linears 1 ts) t no_linear)
 file_twins s ts q e t =
     let c = checked s ts q e in
     twins_from 0 1 0 (length ts) ts (tree_facts s ts q c.read).each c.closed c.indexed t

@@ -19,7 +19,8 @@ use Rattle.owners.specs.Owners.{is_owner, owner_of}
 use Rattle.owners.specs.declared.Owner.{Owner}
 use Rattle.machines.specs.Fetched.{no_template, no_linear}
 use Rattle.machines.specs.Machine.{tree_program, linear_program, no_counts, Ending, halted, wrongly, spent, Ended}
-use Rattle.machines.specs.Runs.{Memory, started, by_owner, fit_globals, start_state, end_of, memory_of, reported, program_run, on_tree, on_linear, tree_run, linear_run}
+use Rattle.machines.specs.Runs.{Memory, started, by_owner, fit_globals, start_state, end_of, memory_of, reported, program_run, on_tree, on_linear, tree_run}
+use Rattle.machines.specs.Runs.{linear_run}
 use Rattle.machines.specs.declared.End.TheVariants.{Halted, OutOfBudget}
 use Rattle.lockstep.specs.laws.Lockstep.{Agree, Rel, Alike-ends, forward, backward}
 use Rattle.lockstep.proofs.theorems.Same.{same_but_places}
@@ -164,7 +165,8 @@ module _ (s w : List ℕ) (ts : List Template) (q : ℕ) (accepted : flat_accept
         let f : first_arms s b o g ≡ x.counts.firsts = ap (λ z. (tree_counts (owner_of o) b g z).firsts) tree_accepted_lem in
         rw (tree_is m st b o owned s tree_accepted_lem h, linear_is m' st' b' o owned w linear_read_lem h', j, f) e
 
-    end_alike : AlikeHere (owner_of o) s ts q tree_read_lem g x y → EndAlike (tree_run s b o m) (linear_run w b' o m') (jumps_made w b' o g) (first_arms s b o g)
+    end_alike : AlikeHere (owner_of o) s ts q tree_read_lem g x y
+        → EndAlike (tree_run s b o m) (linear_run w b' o m') (jumps_made w b' o g) (first_arms s b o g)
     unfolding AlikeHere
     end_alike a = of_programs (reported_alike ts (linears 1 ts) (twins (owner_of o) s ts q tree_read_lem g) (owner_of o) x y a)
 

@@ -25,7 +25,8 @@ flatten_code k (neutral op ns r) = op ∷ (ns ++ flatten_code k r)
 flatten_code k (return r) = 1 ∷ flatten_code k r
 flatten_code k (call n r) = 2 ∷ n ∷ flatten_code k r
 flatten_code k (unless_false x y r) =
-    cond (k && is_empty r) (if_not_false (flatten_code true x) (flatten_code true y)) (unless_false_bytes (flatten_code false x) (flatten_code false y) (flatten_code k r))
+    cond (k && is_empty r) (if_not_false (flatten_code true x) (flatten_code true y))
+    (unless_false_bytes (flatten_code false x) (flatten_code false y) (flatten_code k r))
 flatten_code k (make_cont n x r) = make_cont_bytes n (flatten_code k x) (flatten_code true r)
 
 closed_some : {k : Bool} {c : Code} → Formed k c → (k && is_empty c) ≡ false

@@ -43,13 +43,13 @@ lists =
     ∷ []
 
 code_rows : map (unflat 20 15 true) codes ≡ lists
-unfolding shape_of is_neutral operands after scan ends_in_jump last_offset before_jump on test neutral_back open_arms closed_arms arms_back unless_back cont_back view
-    end_back first_back unflat
+unfolding shape_of is_neutral operands after scan ends_in_jump last_offset before_jump on test neutral_back open_arms closed_arms arms_back unless_back
+    cont_back view end_back first_back unflat
 code_rows = refl
 
 -- a saved list in a saved list wants two levels
 level_rows : map (λ l. unflat 20 l true (4 ∷ 0 ∷ 1 ∷ 0 ∷ 1 ∷ 4 ∷ 0 ∷ 1 ∷ 0 ∷ 1 ∷ 1 ∷ [])) (1 ∷ 2 ∷ [])
     ≡ none ∷ some (make_cont 0 (make_cont 0 (return done) (return done)) (return done)) ∷ []
-unfolding shape_of is_neutral operands after scan ends_in_jump last_offset before_jump on test neutral_back open_arms closed_arms arms_back unless_back cont_back view
-    end_back first_back unflat
+unfolding shape_of is_neutral operands after scan ends_in_jump last_offset before_jump on test neutral_back open_arms closed_arms arms_back unless_back
+    cont_back view end_back first_back unflat
 level_rows = refl

@@ -105,16 +105,6 @@ read_list-loop-next-init t c = (told_begun _, omega arith)
 pub read_list-returns-in-End : goal.read_list-returns-in-End
 read_list-returns-in-End t c = sym (c.loop-next.invariant.0 ∙ turn_end _ _ _ _ _ _ (stepped c.in-End.is c.read_item.ensures))
 
-pub read_list-overflow_add-inside : goal.read_list-overflow_add-inside
-read_list-overflow_add-inside t c =
-    let w = turn_bits _ _ _ _ _ _ (stepped c.in-More.is c.read_item.ensures) in
-    omega (arith, w.0, w.1, c.loop-next.invariant.1)
-
-pub read_list-loop-next-smaller : goal.read_list-loop-next-smaller
-read_list-loop-next-smaller t c =
-    let w = turn_bits _ _ _ _ _ _ (stepped c.in-More.is c.read_item.ensures) in
-    omega (arith, w.0, w.1)
-
 pub read_list-loop-next-preserved : goal.read_list-loop-next-preserved
 read_list-loop-next-preserved t c =
     let w = turn_bits _ _ _ _ _ _ (stepped c.in-More.is c.read_item.ensures) in

@@ -50,7 +50,8 @@ unfolding codeClass is_empty is_open is_closed
 call_by n r = refl
 
 branch_by : (x y r : Code) → codeClass (unless_false x y r)
-    ≡ class_by false (is_open x && is_open y && (is_empty r || is_open r)) ((is_open x && is_open y && is_closed r) || (is_empty r && is_closed x && is_closed y))
+    ≡ class_by false (is_open x && is_open y && (is_empty r || is_open r)) ((is_open x && is_open y && is_closed r)
+    || (is_empty r && is_closed x && is_closed y))
 unfolding codeClass is_empty is_open is_closed
 branch_by x y r = refl
 

@@ -329,7 +329,8 @@ module _ (s : List ℕ) (e p z q : ℕ) (c : Basic) (cs : List Basic) (read : li
         lists = next_list y (below_15 s z y x d) (next_list y₂ (below_15 s y y₂ x₂ d₂) (next_list u j (moved u k.1)));
         closures = λ n. (let m : n + (inside x + (inside x₂ + inside r)) ≡ n + inside x + inside x₂ + inside r = omega arith in
             rw m
-            (three (closures n x) (closures (n + inside x) x₂) (closures (n + inside x + inside x₂) r) (closures_all (n + inside x + inside x₂ + inside r) cs)));
+            (three (closures n x) (closures (n + inside x) x₂) (closures (n + inside x + inside x₂) r)
+            (closures_all (n + inside x + inside x₂ + inside r) cs)));
         uses = λ n. (let m : n + (inside x + (inside x₂ + inside r)) ≡ n + inside x + inside x₂ + inside r = omega arith in
             rw m (three (uses n x) (uses (n + inside x) x₂) (uses (n + inside x + inside x₂) r) (uses_all (n + inside x + inside x₂ + inside r) cs)));
         code = λ es n. (let m : n + (inside x + (inside x₂ + inside r)) ≡ n + inside x + inside x₂ + inside r = omega arith in

@@ -53,9 +53,9 @@ answers =
     ∷ []
 
 pub rows : map (λ s. tabulated_file s 65536) basic_files ≡ answers
-unfolding bit_at field_at field_read pick_field shape_of put simple then field field_got tag_width constant_at zero_bits nothing_more padded_end is_empty is_open is_closed
-    lowest bits_of entry_bits entries_bits byte_of bytes_from bytes_of or_lowest operands_bits list_bits template_bits templates_bits file_bits tree_file
-    inside tabulated_file
+unfolding bit_at field_at field_read pick_field shape_of put simple then field field_got tag_width constant_at zero_bits nothing_more padded_end is_empty
+    is_open is_closed lowest bits_of entry_bits entries_bits byte_of bytes_from bytes_of or_lowest operands_bits list_bits template_bits templates_bits
+    file_bits tree_file inside tabulated_file
 rows = refl
 
 -- 26 before 9: 64 closures, eight in each 15 bytes, and an output of no bytes
@@ -66,7 +66,7 @@ abbrev thirty_two : List ℕ
 thirty_two = eight_closures ++ (eight_closures ++ (eight_closures ++ eight_closures))
 
 pub too_large_first : tabulated_file (thirty_two ++ (thirty_two ++ (8 ∷ 0 ∷ []))) 0 ≡ refused 26 0
-unfolding bit_at field_at field_read pick_field shape_of put simple then field field_got tag_width constant_at zero_bits nothing_more padded_end is_empty is_open is_closed
-    lowest bits_of entry_bits entries_bits byte_of bytes_from bytes_of or_lowest operands_bits list_bits template_bits templates_bits file_bits tree_file
-    inside tabulated_file
+unfolding bit_at field_at field_read pick_field shape_of put simple then field field_got tag_width constant_at zero_bits nothing_more padded_end is_empty
+    is_open is_closed lowest bits_of entry_bits entries_bits byte_of bytes_from bytes_of or_lowest operands_bits list_bits template_bits templates_bits
+    file_bits tree_file inside tabulated_file
 too_large_first = refl

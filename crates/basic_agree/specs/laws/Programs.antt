@@ -18,7 +18,8 @@ use Rattle.sound.specs.laws.Programs.{FetchedOk, ProgramOk}
 use Rattle.agree.specs.Demand3.{EndAlike}
 use Rattle.agree.specs.laws.Aside.{frames_alike}
 use Rattle.basic_program.specs.Program.{Body, all_bodies, no_body, basic_at, basic_program}
-use Rattle.basic_program.proofs.theorems.Spots.{Spot, spot_first, spot_within, Twin, plain_twin, return_twin, call_twin, branch_twin, save_twin, bad_t, look_like}
+use Rattle.basic_program.proofs.theorems.Spots.{Spot, spot_first, spot_within, Twin, plain_twin, return_twin, call_twin, branch_twin, save_twin, bad_t}
+use Rattle.basic_program.proofs.theorems.Spots.{look_like}
 use Rattle.basic_program.proofs.theorems.Bodies.{BodyOk, body_ok, entries_are, code_is}
 
 -- c is in order and short, and the program of its tabulated templates, placed from bit k on, is ok

@@ -70,26 +70,12 @@ put_link-requires-in-Closure t c =
     (c.loop-links.invariant.0 c.requires.2.code c.requires.2.reads).reads)) in
     omega (arith, c.number-in-Closure.ensures, w.below_64, w.within, c.requires.0)
 
-pub overflow_add-number-in-Closure : goal.overflow_add-number-in-Closure
-overflow_add-number-in-Closure t c =
-    let w = turn_closure _ _ _ _ _ _ _ _ _ _ _ _ (c.loop-links.invariant.0 c.requires.2.code c.requires.2.reads) _ _ _
-    (parted_as _ _ (c.in-Closure.is) (c.parts_at.ensures (c.loop-links.invariant.0 c.requires.2.code c.requires.2.reads).rest
-    (c.loop-links.invariant.0 c.requires.2.code c.requires.2.reads).reads)) in
-    omega (arith, w.below_64)
-
 pub link_list-requires : goal.link_list-requires
 link_list-requires t c =
     let w = turn_closure _ _ _ _ _ _ _ _ _ _ _ _ (c.loop-links.invariant.0 c.requires.2.code c.requires.2.reads) _ _ _
     (parted_as _ _ (c.in-Closure.is) (c.parts_at.ensures (c.loop-links.invariant.0 c.requires.2.code c.requires.2.reads).rest
     (c.loop-links.invariant.0 c.requires.2.code c.requires.2.reads).reads)) in
     (omega (arith, w.on, w.past, w.within, c.requires.0, c.loop-links.invariant.4, c.decreases), (c.requires.0, omega arith, w.fresh))
-
-pub overflow_add-number-in-Closure-2 : goal.overflow_add-number-in-Closure-2
-overflow_add-number-in-Closure-2 t c =
-    let w = turn_closure _ _ _ _ _ _ _ _ _ _ _ _ (c.loop-links.invariant.0 c.requires.2.code c.requires.2.reads) _ _ _
-    (parted_as _ _ (c.in-Closure.is) (c.parts_at.ensures (c.loop-links.invariant.0 c.requires.2.code c.requires.2.reads).rest
-    (c.loop-links.invariant.0 c.requires.2.code c.requires.2.reads).reads)) in
-    omega (arith, w.below_64)
 
 pub overflow_add-number-in-Closure-3 : goal.overflow_add-number-in-Closure-3
 overflow_add-number-in-Closure-3 t c =

@@ -77,7 +77,8 @@ module _ (s L : List ℕ) (p : ℕ) where
       tagged r Cut = tt
 
       kind : (k r : ℕ) (b : Bool) → eqb k 1 ≡ b
-          → Is (valid q b (then (field s r 3) (λ k z. then (constant_at s r k z) (λ e u. got (carries_t 6 e) u)))) (literal_by (entry_told (kind_at s 0 0 q r k)))
+          → Is (valid q b (then (field s r 3) (λ k z. then (constant_at s r k z) (λ e u. got (carries_t 6 e) u))))
+          (literal_by (entry_told (kind_at s 0 0 q r k)))
       kind k r true e = rw (eqb-true k 1 e) (tagged r (field_read s r 3))
       kind k r false e = tt
 

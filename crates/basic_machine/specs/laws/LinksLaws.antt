@@ -35,7 +35,9 @@ linked_length L n f p (branch x y r) =
     let a = link L p (p + 5 + bits x) in
     let b = linked a n (onward r f (p + 5 + bits x + bits y)) (p + 5) x in
     let d = linked b (n + inside x) (onward r f (p + 5 + bits x + bits y)) (p + 5 + bits x) y in
-    linked_length d (n + inside x + inside y) f (p + 5 + bits x + bits y) r ∙ linked_length b (n + inside x) (onward r f (p + 5 + bits x + bits y)) (p + 5 + bits x) y ∙ linked_length a n (onward r f (p + 5 + bits x + bits y)) (p + 5) x ∙ length-set L (p / 5) _
+    linked_length d (n + inside x + inside y) f (p + 5 + bits x + bits y) r
+    ∙ linked_length b (n + inside x) (onward r f (p + 5 + bits x + bits y)) (p + 5 + bits x) y
+    ∙ linked_length a n (onward r f (p + 5 + bits x + bits y)) (p + 5) x ∙ length-set L (p / 5) _
 linked_length L n f p (save m x r) =
     let a = link L p (p + 13 + bits x) in
     let b = linked a n f (p + 13) x in
@@ -57,7 +59,9 @@ linked_kept L n f p (branch x y r) i h =
     let a = link L p (p + 5 + bits x) in
     let b = linked a n (onward r f (p + 5 + bits x + bits y)) (p + 5) x in
     let d = linked b (n + inside x) (onward r f (p + 5 + bits x + bits y)) (p + 5 + bits x) y in
-    linked_kept d (n + inside x + inside y) f (p + 5 + bits x + bits y) r i (omega arith) ∙ linked_kept b (n + inside x) (onward r f (p + 5 + bits x + bits y)) (p + 5 + bits x) y i (omega arith) ∙ linked_kept a n (onward r f (p + 5 + bits x + bits y)) (p + 5) x i (omega arith) ∙ link_kept L p _ i h
+    linked_kept d (n + inside x + inside y) f (p + 5 + bits x + bits y) r i (omega arith)
+    ∙ linked_kept b (n + inside x) (onward r f (p + 5 + bits x + bits y)) (p + 5 + bits x) y i (omega arith)
+    ∙ linked_kept a n (onward r f (p + 5 + bits x + bits y)) (p + 5) x i (omega arith) ∙ link_kept L p _ i h
 linked_kept L n f p (save m x r) i h =
     let a = link L p (p + 13 + bits x) in
     let b = linked a n f (p + 13) x in

@@ -36,7 +36,8 @@ module _ (s : List ℕ) (l p v r : ℕ) {t : Token} {q : ℕ} where
   unfolding code_at
   code_any e = by (eqb v 6) (eqb v 7) (eqb v 8 || eqb v 9) e
     where
-      by : (a b c : Bool) → cond a (literal_at s r) (cond b (holding l p (got closure_t r)) (cond c (global_at s v r) (shaped_at s l p v r (shape_of v)))) ≡ got t q
+      by : (a b c : Bool) → cond a (literal_at s r) (cond b (holding l p (got closure_t r)) (cond c (global_at s v r) (shaped_at s l p v r (shape_of v))))
+          ≡ got t q
           → cond a (literal_at s r) (cond b (holding 15 p (got closure_t r)) (cond c (global_at s v r) (shaped_at s 15 p v r (shape_of v)))) ≡ got t q
       by true b c e = e
       by false true c e = holding_any l p _ e

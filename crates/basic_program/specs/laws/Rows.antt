@@ -18,7 +18,8 @@ use Rattle.integers.specs.Integers.{signed, within, int_bits, total_of, all_inte
 use Rattle.rules.specs.Rules.{literal_rule, closure_rule, local_rule, push_rule, make_env_rule, add_rule, plain_rule, call_rule, make_cont_rule, return_rule}
 use Rattle.machines.specs.Fetched.{named_by, as_literal, as_global, rule_of, resolve, plainly}
 use Rattle.machines.specs.Machine.{bind, returned, act, step, jump_count, first_count, counted, next, run}
-use Rattle.machines.specs.Runs.{fresh_memory, Ran, ran, refused_run, right_lengths, lowest_unfit, fit_globals, by_owner, started, start_state, end_of, memory_of}
+use Rattle.machines.specs.Runs.{fresh_memory, Ran, ran, refused_run, right_lengths, lowest_unfit, fit_globals, by_owner, started, start_state, end_of}
+use Rattle.machines.specs.Runs.{memory_of}
 use Rattle.machines.specs.Runs.{reported, program_run}
 use Rattle.machines.specs.declared.End.{End}
 use Rattle.machines.specs.declared.End.TheVariants.{Halted, Wrong, Refused}
@@ -75,11 +76,10 @@ expected =
 
 -- run as the house with a budget of 100 steps, all globals undefined
 pub rows : map (λ s. tells (basic_run s 100 0 fresh_memory)) basic_files ≡ expected
-unfolding starting_global value_of bit_at field_at field_read pick_field shape_of put simple then field field_got tag_width constant_at zero_bits nothing_more padded_end
-    is_empty is_open is_closed entry_of lowest bits_of entry_bits entries_bits byte_of bytes_from bytes_of or_lowest operands_bits list_bits template_bits templates_bits
-    file_bits tree_file constant_cell signed total_of within int_bits all_integers literal_rule closure_rule local_rule push_rule make_env_rule add_rule
-    plain_rule call_rule is_owner owner_of may_set may_do owned_rule make_cont_rule
-    return_rule named_by as_literal as_global rule_of resolve plainly bind returned act step jump_count first_count counted next run refused_run right_lengths
-    lowest_unfit fit_globals by_owner started start_state end_of memory_of reported program_run bits carried_bits inside basic_checked first look bodies all_bodies
-    basic_at on_basic basic_run
+unfolding starting_global value_of bit_at field_at field_read pick_field shape_of put simple then field field_got tag_width constant_at zero_bits nothing_more
+    padded_end is_empty is_open is_closed entry_of lowest bits_of entry_bits entries_bits byte_of bytes_from bytes_of or_lowest operands_bits list_bits
+    template_bits templates_bits file_bits tree_file constant_cell signed total_of within int_bits all_integers literal_rule closure_rule local_rule push_rule
+    make_env_rule add_rule plain_rule call_rule is_owner owner_of may_set may_do owned_rule make_cont_rule return_rule named_by as_literal as_global rule_of
+    resolve plainly bind returned act step jump_count first_count counted next run refused_run right_lengths lowest_unfit fit_globals by_owner started
+    start_state end_of memory_of reported program_run bits carried_bits inside basic_checked first look bodies all_bodies basic_at on_basic basic_run
 rows = refl

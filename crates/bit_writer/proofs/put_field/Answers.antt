@@ -7,9 +7,6 @@ use Rattle.bit_writer.proofs.put_field.Goals as goal
 pub returns-then-n-eq0 : goal.returns-then-n-eq0
 returns-then-n-eq0 c = (omega (arith, c.if-n-eq0.true), put_none c.args.out.now c.args.at.0 c.args.width c.args.value (omega (arith, c.bit-skipped.ensures, c.if-n-eq0.true)))
 
-pub overflow_cast-before : goal.overflow_cast-before
-overflow_cast-before c = omega (arith, c.slice_known-2-1.given c.byte-i.result)
-
 pub overflow_add-two : goal.overflow_add-two
 overflow_add-two c =
     let h = c.requires in

@@ -39,7 +39,8 @@ pub closure_back : (t e l : ℕ) → t < 2 ^ 8 → e < 2 ^ 16 → l < 2 ^ 16
 closure_back t e l h k j = omega arith
 
 pub frame_back : (n t e p : ℕ) → n < 2 ^ 8 → t < 2 ^ 8 → e < 2 ^ 16 → p < 2 ^ 24
-    → (frame_count (frame_cell n t e p) ≡ n) × (frame_template (frame_cell n t e p) ≡ t) × (frame_env (frame_cell n t e p) ≡ e) × (frame_place (frame_cell n t e p) ≡ p)
+    → (frame_count (frame_cell n t e p) ≡ n) × (frame_template (frame_cell n t e p) ≡ t) × (frame_env (frame_cell n t e p) ≡ e)
+    × (frame_place (frame_cell n t e p) ≡ p)
     × (tag_of (frame_cell n t e p) ≡ 10)
 frame_back n t e p h k j i = omega arith
 

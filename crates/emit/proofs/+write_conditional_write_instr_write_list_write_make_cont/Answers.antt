@@ -14,9 +14,6 @@ use Rattle.emit.specs.laws.Steps.{first_room, arms_room, arms_near, jump_near, f
 use Prim.Native.Nat.{ℕ}
 use Rattle.emit.proofs.+write_conditional_write_instr_write_list_write_make_cont.Goals as goal
 
-pub write_conditional-overflow_add-turn : goal.write_conditional-overflow_add-turn
-write_conditional-overflow_add-turn t c = omega (arith, first_room c.requires.2 _ _ c.measure-first.ensures c.gap-jump.ensures, c.requires.2.room, c.requires.1)
-
 pub write_conditional-overflow_add-turn-2 : goal.write_conditional-overflow_add-turn-2
 write_conditional-overflow_add-turn-2 t c = omega (arith, first_room c.requires.2 _ _ c.measure-first.ensures c.gap-jump.ensures, c.requires.2.room, c.requires.1)
 
@@ -50,9 +47,6 @@ write_conditional-put_offset-requires t c = (
   omega (arith, first_room c.requires.2 _ _ c.measure-first.ensures c.gap-jump.ensures, c.requires.2.room, c.requires.1),
   omega (arith, arms_near c.requires.2 _ _ c.measure-first.ensures c.gap-jump.ensures),
 )
-
-pub write_conditional-overflow_add-front : goal.write_conditional-overflow_add-front
-write_conditional-overflow_add-front t c = omega (arith, first_room c.requires.2 _ _ c.measure-first.ensures c.gap-jump.ensures, c.requires.2.room, c.requires.1)
 
 pub write_conditional-write_list-mid-requires : goal.write_conditional-write_list-mid-requires
 write_conditional-write_list-mid-requires t c = (
@@ -180,40 +174,8 @@ write_instr-write_simple-requires t c =
     (λ e. c.in_default.in_default-own.rest.1 (c.requires.3 ∙ e)) in
     (omega arith, omega (arith, c.requires.2, field_small c.args.s.now c.args.at.0 21), omega (arith, c.requires.1))
 
-pub write_instr-overflow_mul-n : goal.write_instr-overflow_mul-n
-write_instr-overflow_mul-n t c =
-    let k = plain c.requires.4 (λ e. c.in_default.in_default-own.rest.0.1 (c.requires.3 ∙ e)) (λ e. c.in_default.in_default-own.rest.1 (c.requires.3 ∙ e))
-    in
-    let r = plain_room c.requires.4 (λ e. c.in_default.in_default-own.rest.0.1 (c.requires.3 ∙ e))
-    (λ e. c.in_default.in_default-own.rest.1 (c.requires.3 ∙ e)) in
-    omega (arith, c.requires, c.well_formed)
-
-pub write_instr-overflow_add-n : goal.write_instr-overflow_add-n
-write_instr-overflow_add-n t c =
-    let k = plain c.requires.4 (λ e. c.in_default.in_default-own.rest.0.1 (c.requires.3 ∙ e)) (λ e. c.in_default.in_default-own.rest.1 (c.requires.3 ∙ e))
-    in
-    let r = plain_room c.requires.4 (λ e. c.in_default.in_default-own.rest.0.1 (c.requires.3 ∙ e))
-    (λ e. c.in_default.in_default-own.rest.1 (c.requires.3 ∙ e)) in
-    omega (arith, c.requires, c.well_formed)
-
 pub write_instr-past-requires-in_default : goal.write_instr-past-requires-in_default
 write_instr-past-requires-in_default t c =
-    let k = plain c.requires.4 (λ e. c.in_default.in_default-own.rest.0.1 (c.requires.3 ∙ e)) (λ e. c.in_default.in_default-own.rest.1 (c.requires.3 ∙ e))
-    in
-    let r = plain_room c.requires.4 (λ e. c.in_default.in_default-own.rest.0.1 (c.requires.3 ∙ e))
-    (λ e. c.in_default.in_default-own.rest.1 (c.requires.3 ∙ e)) in
-    omega (arith, c.requires, c.well_formed)
-
-pub write_instr-overflow_add-result : goal.write_instr-overflow_add-result
-write_instr-overflow_add-result t c =
-    let k = plain c.requires.4 (λ e. c.in_default.in_default-own.rest.0.1 (c.requires.3 ∙ e)) (λ e. c.in_default.in_default-own.rest.1 (c.requires.3 ∙ e))
-    in
-    let r = plain_room c.requires.4 (λ e. c.in_default.in_default-own.rest.0.1 (c.requires.3 ∙ e))
-    (λ e. c.in_default.in_default-own.rest.1 (c.requires.3 ∙ e)) in
-    omega (arith, c.requires, c.well_formed)
-
-pub write_instr-overflow_add-result-in_default : goal.write_instr-overflow_add-result-in_default
-write_instr-overflow_add-result-in_default t c =
     let k = plain c.requires.4 (λ e. c.in_default.in_default-own.rest.0.1 (c.requires.3 ∙ e)) (λ e. c.in_default.in_default-own.rest.1 (c.requires.3 ∙ e))
     in
     let r = plain_room c.requires.4 (λ e. c.in_default.in_default-own.rest.0.1 (c.requires.3 ∙ e))
@@ -306,9 +268,6 @@ write_list-loop-here-preserved t c =
 pub write_make_cont-overflow_sub-cut : goal.write_make_cont-overflow_sub-cut
 write_make_cont-overflow_sub-cut t c = omega (arith, saved_cut c.requires.3 _ c.measure-saved.ensures, saved_size c.requires.3 _ c.measure-saved.ensures, c.requires.3.room, c.requires.2)
 
-pub write_make_cont-overflow_add-rest : goal.write_make_cont-overflow_add-rest
-write_make_cont-overflow_add-rest t c = omega (arith, saved_cut c.requires.3 _ c.measure-saved.ensures, saved_size c.requires.3 _ c.measure-saved.ensures, c.requires.3.room, c.requires.2)
-
 pub write_make_cont-overflow_sub-cut-2 : goal.write_make_cont-overflow_sub-cut-2
 write_make_cont-overflow_sub-cut-2 t c = omega (arith, saved_cut c.requires.3 _ c.measure-saved.ensures, saved_size c.requires.3 _ c.measure-saved.ensures, c.requires.3.room, c.requires.2)
 
@@ -317,20 +276,6 @@ write_make_cont-put_offset-requires t c = (
   omega (arith, saved_cut c.requires.3 _ c.measure-saved.ensures, saved_size c.requires.3 _ c.measure-saved.ensures, c.requires.3.room, c.requires.2),
   omega (arith, saved_rest c.requires.3 _ c.measure-saved.ensures, c.requires.3.fits),
 )
-
-pub write_make_cont-overflow_add-out : goal.write_make_cont-overflow_add-out
-write_make_cont-overflow_add-out t c = omega (arith, saved_cut c.requires.3 _ c.measure-saved.ensures, saved_size c.requires.3 _ c.measure-saved.ensures, c.requires.3.room, c.requires.2)
-
-pub write_make_cont-bounds-out-front : goal.write_make_cont-bounds-out-front
-write_make_cont-bounds-out-front t c =
-    omega (
-      arith,
-      saved_cut c.requires.3 _ c.measure-saved.ensures,
-      saved_size c.requires.3 _ c.measure-saved.ensures,
-      c.requires.3.room,
-      c.requires.2,
-      c.put_offset.auto.out,
-    )
 
 pub write_make_cont-write_list-next-requires : goal.write_make_cont-write_list-next-requires
 write_make_cont-write_list-next-requires t c = (omega (arith, c.decreases), (c.requires.0, simp length-set (omega (arith, c.requires.2, c.put_offset.auto.out)), saved_to_write c.requires.3 _ c.measure-saved.ensures))

@@ -229,7 +229,10 @@ module _ {s M : List ℕ} {l p f b : ℕ} (w : ItemToWrite s M l p f b) where
     plain_bytes : (item_bytes w ≡ field_at s p 5 ∷ operands_at s (p + 5) (shape_here s l p - 1)) × (back_bytes w.instr ≡ [])
     plain_bytes =
         let k = plain in
-        let e : shape_here s l p ≡ 1 + length (operands_at s (p + 5) (shape_here s l p - 1)) = omega (arith, operands_length s (p + 5) (shape_here s l p - 1)) in
+        let e : shape_here s l p ≡ 1 + length (operands_at s (p + 5) (shape_here s l p - 1)) = omega (
+          arith,
+          operands_length s (p + 5) (shape_here s l p - 1),
+        ) in
         rw k.3 (simple_bytes (field_at s p 5) (operands_at s (p + 5) (shape_here s l p - 1)) (length (flat w.rest)) e)
 
     plain_length : length (item_bytes w) ≡ 1 + (shape_here s l p - 1)

@@ -1,5 +1,6 @@
 -- Runs of stores, and what an instruction leaves of a list's flat code to write. Assumes nothing.
-use Rattle.std.specs.Prelude.{ℕ, zero, suc, ◌+◌, ◌-◌, ◌/◌, ◌%◌, ◌≤◌, ◌<◌, ◌≡◌, refl, Bool, true, false, cond, ◌&&◌, List, [], ◌∷◌, ◌++◌, length, set, get_or, eqb}
+use Rattle.std.specs.Prelude.{ℕ, zero, suc, ◌+◌, ◌-◌, ◌/◌, ◌%◌, ◌≤◌, ◌<◌, ◌≡◌, refl, Bool, true, false, cond, ◌&&◌, List, [], ◌∷◌, ◌++◌, length, set}
+use Rattle.std.specs.Prelude.{get_or, eqb}
 use Rattle.std.proofs.Common.{add-zero, zero-add, add-suc, suc-add, add-one, arith, sym, ap, ◌∙◌, append_assoc, append-nil, leb-true, eqb-true, length-append}
 use Rattle.std.proofs.Math.Numerals.{add-two}
 use Rattle.std.proofs.Math.Bool.{and-eq-true_iff}
@@ -106,7 +107,11 @@ rest_written i c f o =
     ∙ sets_comm (flat c) (back_bytes i) (sets o f a) (f + length a) (f + length a + length (flat c)) (omega arith)
 
 pub put_length : (i : Instr) (c : Code) → length (flat (put i c)) ≡ length (front_bytes i (length (flat c))) + length (flat c) + length (back_bytes i)
-put_length i c = rw (flat_put i c, length-append (front_bytes i (length (flat c))) (flat c ++ back_bytes i), length-append (flat c) (back_bytes i)) (omega arith)
+put_length i c = rw (
+  flat_put i c,
+  length-append (front_bytes i (length (flat c))) (flat c ++ back_bytes i),
+  length-append (flat c) (back_bytes i),
+) (omega arith)
 
 -- ---- offsets that fit
 pub fits_arms : (x y c : Code) → offsets_fit (put (unless_i x y) c) ≡ true

@@ -4,9 +4,6 @@ use mathlib.Core.Path.{refl, sym}
 use lib.ListN.{get_or-eq_default}
 use Rattle.fields.proofs.byte_at.Goals as goal
 
-pub overflow_cast-result : goal.overflow_cast-result
-overflow_cast-result c = omega (arith, c.shared_slice_known-1.given c.args.i)
-
 pub returns-then-i-s : goal.returns-then-i-s
 returns-then-i-s c = (refl, omega (arith, c.shared_slice_known-1.given c.args.i))
 

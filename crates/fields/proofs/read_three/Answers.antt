@@ -12,20 +12,10 @@ bits_at-requires c =
     let h = lies c.args.s.now c.args.at.0 24 c.within.ensures c.if-within.true in
     (search rules, (search rules, omega (arith, h)))
 
-pub past-requires : goal.past-requires
-past-requires c =
-    let h = lies c.args.s.now c.args.at.0 24 c.within.ensures c.if-within.true in
-    omega (arith, h)
-
 pub half_word_at-requires : goal.half_word_at-requires
 half_word_at-requires c =
     let h = lies c.args.s.now c.args.at.0 24 c.within.ensures c.if-within.true in
     (search rules, omega (arith, h))
-
-pub past-requires-then-within : goal.past-requires-then-within
-past-requires-then-within c =
-    let h = lies c.args.s.now c.args.at.0 24 c.within.ensures c.if-within.true in
-    omega (arith, h)
 
 pub returns-then-within : goal.returns-then-within
 returns-then-within c =

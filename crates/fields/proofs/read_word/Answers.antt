@@ -9,11 +9,6 @@ word_at-requires c =
     let h = lies c.args.s.now c.args.at.0 32 c.within.ensures c.if-within.true in
     (search rules, omega (arith, h))
 
-pub past-requires : goal.past-requires
-past-requires c =
-    let h = lies c.args.s.now c.args.at.0 32 c.within.ensures c.if-within.true in
-    omega (arith, h)
-
 pub returns-then-within : goal.returns-then-within
 returns-then-within c = whole_by _ _ _ c.within.ensures c.if-within.true c.word_at.ensures c.past.ensures
 

@@ -127,7 +127,8 @@ module _ (s : List ℕ) (T : ℕ) (few : T ≤ 64) where
   templates_all : (n own p : ℕ) → AllGot (Counted tree_entries n) (templates_at s T own n p)
   unfolding templates_at
   templates_all zero own p = (refl, tt)
-  templates_all (suc n) own p = counted_more tree_entries n (template_at s own T p) (templates_at s T (own + 1) n) (template_all own p) (templates_all n (own + 1))
+  templates_all (suc n) own p = counted_more tree_entries n (template_at s own T p) (templates_at s T (own + 1) n) (template_all own p)
+      (templates_all n (own + 1))
 
   code_all_lem : (n p : ℕ) (es : List Entry) → length es < 256 → AllGot (FewEntries linear_entries) (code_at s es n p)
   unfolding code_at
@@ -138,7 +139,8 @@ module _ (s : List ℕ) (T : ℕ) (few : T ≤ 64) where
   linear_all own p =
       then_all _ (field s p 8) _ (λ n q e. then_all _ (entries_at s own T n q) _ (λ es r e₂. then_all _ (zero_bits s (to_byte r) r es) _
       (λ es₂ u e₃. then_all _ (field s u 24) _
-      (λ k v e₄. code_all_lem k v es₂ (got_all (λ xs. length xs < 256) (zero_all (λ xs. length xs < 256) s (to_byte r) r es (entries_few own n p q e e₂)) e₃)))))
+      (λ k v e₄. code_all_lem k v es₂ (got_all (λ xs. length xs < 256)
+      (zero_all (λ xs. length xs < 256) s (to_byte r) r es (entries_few own n p q e e₂)) e₃)))))
 
   linears_all : (n own p : ℕ) → AllGot (Counted linear_entries n) (linear_templates_at s T own n p)
   unfolding linear_templates_at

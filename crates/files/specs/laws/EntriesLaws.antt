@@ -75,7 +75,8 @@ module _ (s : List ℕ) (own T p : ℕ) (few : T ≤ 64) where
   kind_good q (suc zero) e = then_field EntryGood s q 3 _ tt (λ h. constant_good q (field_at s q 3) (q + 3) (omega arith) (ltb (field_at s q 3) 6) refl)
   kind_good q (suc (suc zero)) e = then_field EntryGood s q 8 _ tt (λ h. (field_small s q 8, omega arith, h))
   kind_good q (suc (suc (suc k))) e =
-      then_field EntryGood s q 8 _ tt (λ h. template_good q (field_at s q 8) (q + 8) (omega arith) h (ltb own (field_at s q 8)) (ltb (field_at s q 8) T) refl refl)
+      then_field EntryGood s q 8 _ tt (λ h. template_good q (field_at s q 8) (q + 8) (omega arith) h (ltb own (field_at s q 8))
+      (ltb (field_at s q 8) T) refl refl)
 
   pub entry_good : EntryGood (entry_at s own T p)
   unfolding entry_at

@@ -59,19 +59,19 @@ file_rows =
 
 -- P1 to P7, and P8: offset 65,535 splits into 255, 255; 256 into 1, 0
 pub file_rows_lem : (map (λ s. file_row (flat_accepted s)) sheets ≡ file_rows) × (map offset (65535 ∷ 256 ∷ []) ≡ (255 ∷ 255 ∷ []) ∷ (1 ∷ 0 ∷ []) ∷ [])
-unfolding bit_at field_at field_read pick_field shape_of put simple with_field with_list with_deep shaped head_at before after items deep_of list_at then field field_got
-    tag_width constant_at kind_at entry_at entries_at zero_bits nothing_more template_at templates_at padded_end tree_read is_empty is_open is_closed entry_of suits index_fits
-    each_neutral indices_fit lowest conditional flat arms_fit offsets_fit bits_of entry_bits entries_bits byte_of bytes_from bytes_of template_bytes templates_bytes
-    linear_file or_lowest tree_checked tree_accepted flat_accepted closes is_template closure_names lowest_number lowest_orphan
+unfolding bit_at field_at field_read pick_field shape_of put simple with_field with_list with_deep shaped head_at before after items deep_of list_at then field
+    field_got tag_width constant_at kind_at entry_at entries_at zero_bits nothing_more template_at templates_at padded_end tree_read is_empty is_open is_closed
+    entry_of suits index_fits each_neutral indices_fit lowest conditional flat arms_fit offsets_fit bits_of entry_bits entries_bits byte_of bytes_from bytes_of
+    template_bytes templates_bytes linear_file or_lowest tree_checked tree_accepted flat_accepted closes is_template closure_names lowest_number lowest_orphan
 file_rows_lem = (refl, refl)
 
 -- a saved list that holds something: unless-false (make-cont 0 (unspecified), return) (unspecified), return: the rest comes before the saved list
 saved_after_rest : file_row (flat_accepted (0x01 ∷ 0x00 ∷ 0x19 ∷ 0x00 ∷ 0x1E ∷ 0x00 ∷ 0x81 ∷ 0xE0 ∷ 0x08 ∷ 0x00 ∷ []))
     ≡ flattens (plain_file 14 (0x03 ∷ 0x00 ∷ 0x09 ∷ 0x04 ∷ 0x00 ∷ 0x01 ∷ 0x00 ∷ 0x01 ∷ 0x0F ∷ 0x05 ∷ 0x00 ∷ 0x01 ∷ 0x0F ∷ 0x01 ∷ []))
-unfolding bit_at field_at field_read pick_field shape_of put simple with_field with_list with_deep shaped head_at before after items deep_of list_at then field field_got
-    tag_width constant_at kind_at entry_at entries_at zero_bits nothing_more template_at templates_at padded_end tree_read is_empty is_open is_closed entry_of suits index_fits
-    each_neutral indices_fit lowest conditional flat arms_fit offsets_fit bits_of entry_bits entries_bits byte_of bytes_from bytes_of template_bytes templates_bytes
-    linear_file or_lowest tree_checked tree_accepted flat_accepted closes is_template closure_names lowest_number lowest_orphan
+unfolding bit_at field_at field_read pick_field shape_of put simple with_field with_list with_deep shaped head_at before after items deep_of list_at then field
+    field_got tag_width constant_at kind_at entry_at entries_at zero_bits nothing_more template_at templates_at padded_end tree_read is_empty is_open is_closed
+    entry_of suits index_fits each_neutral indices_fit lowest conditional flat arms_fit offsets_fit bits_of entry_bits entries_bits byte_of bytes_from bytes_of
+    template_bytes templates_bytes linear_file or_lowest tree_checked tree_accepted flat_accepted closes is_template closure_names lowest_number lowest_orphan
 saved_after_rest = refl
 
 -- Request 4, of its vectors: two orphans; an entry that no closure names; a template that template 1 names; 7 before 24.
@@ -89,8 +89,8 @@ orphan_rows : map (λ s. file_row (flat_accepted s)) orphan_sheets
     ∷ flattens (3 ∷ 1 ∷ 0xC0 ∷ 0x40 ∷ 0 ∷ 0 ∷ 3 ∷ 7 ∷ 1 ∷ 1 ∷ 1 ∷ 0xC0 ∷ 0x80 ∷ 0 ∷ 0 ∷ 3 ∷ 7 ∷ 1 ∷ 1 ∷ 0 ∷ 0 ∷ 0 ∷ 1 ∷ 1 ∷ [])
     ∷ refuses 7 2
     ∷ []
-unfolding bit_at field_at field_read pick_field shape_of put simple with_field with_list with_deep shaped head_at before after items deep_of list_at then field field_got
-    tag_width constant_at kind_at entry_at entries_at zero_bits nothing_more template_at templates_at padded_end tree_read is_empty is_open is_closed entry_of suits index_fits
-    each_neutral indices_fit lowest conditional flat arms_fit offsets_fit bits_of entry_bits entries_bits byte_of bytes_from bytes_of template_bytes templates_bytes
-    linear_file or_lowest tree_checked tree_accepted flat_accepted closes is_template closure_names lowest_number lowest_orphan
+unfolding bit_at field_at field_read pick_field shape_of put simple with_field with_list with_deep shaped head_at before after items deep_of list_at then field
+    field_got tag_width constant_at kind_at entry_at entries_at zero_bits nothing_more template_at templates_at padded_end tree_read is_empty is_open is_closed
+    entry_of suits index_fits each_neutral indices_fit lowest conditional flat arms_fit offsets_fit bits_of entry_bits entries_bits byte_of bytes_from bytes_of
+    template_bytes templates_bytes linear_file or_lowest tree_checked tree_accepted flat_accepted closes is_template closure_names lowest_number lowest_orphan
 orphan_rows = refl

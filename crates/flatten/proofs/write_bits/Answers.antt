@@ -17,28 +17,6 @@ first_byte-requires c =
     let l = ltb-true c.loop-end.here.0 c.args.end.0 (sym c.before-in-loop-end.ensures ∙ c.loop-end-test.true) in
     (p.0, l, p.1)
 
-pub bounds-out-f : goal.bounds-out-f
-bounds-out-f c =
-    let i = c.loop-end.invariant in
-    let l = ltb-true c.loop-end.here.0 c.args.end.0 (sym c.before-in-loop-end.ensures ∙ c.loop-end-test.true) in
-    omega arith
-
-pub past-here-requires : goal.past-here-requires
-past-here-requires c =
-    let l = ltb-true c.loop-end.here.0 c.args.end.0 (sym c.before-in-loop-end.ensures ∙ c.loop-end-test.true) in
-    omega (arith, c.requires)
-
-pub overflow_add-f : goal.overflow_add-f
-overflow_add-f c =
-    let i = c.loop-end.invariant in
-    let l = ltb-true c.loop-end.here.0 c.args.end.0 (sym c.before-in-loop-end.ensures ∙ c.loop-end-test.true) in
-    omega arith
-
-pub loop-end-smaller : goal.loop-end-smaller
-loop-end-smaller c =
-    let l = ltb-true c.loop-end.here.0 c.args.end.0 (sym c.before-in-loop-end.ensures ∙ c.loop-end-test.true) in
-    omega (arith, c.past-here.ensures)
-
 pub loop-end-preserved : goal.loop-end-preserved
 loop-end-preserved c =
     let i = c.loop-end.invariant in

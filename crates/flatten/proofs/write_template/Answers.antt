@@ -28,14 +28,6 @@ past-entries-requires c =
     let p = places w.3 m _ c.measure-size.ensures in
     omega (arith, r, p, m, w.0, c.well_formed)
 
-pub overflow_add-front : goal.overflow_add-front
-overflow_add-front c =
-    let w = c.requires in
-    let m = c.from_slot-start.ensures in
-    let r = room_enough w.3 m _ c.measure-size.ensures in
-    let p = places w.3 m _ c.measure-size.ensures in
-    omega (arith, r, p, m, w.0, c.well_formed)
-
 pub write_bits-requires : goal.write_bits-requires
 write_bits-requires c =
     let w = c.requires in
@@ -44,14 +36,6 @@ write_bits-requires c =
     let p = places w.3 m _ c.measure-size.ensures in
     (w.0, p.1, simp length-set (omega (arith, r, p, m, w.0, c.well_formed, c.past-entries.ensures)))
 
-pub overflow_add-f : goal.overflow_add-f
-overflow_add-f c =
-    let w = c.requires in
-    let m = c.from_slot-start.ensures in
-    let r = room_enough w.3 m _ c.measure-size.ensures in
-    let p = places w.3 m _ c.measure-size.ensures in
-    omega (arith, r, p, m, w.0, c.well_formed)
-
 pub since-requires : goal.since-requires
 since-requires c =
     let w = c.requires in
@@ -59,22 +43,6 @@ since-requires c =
     let r = room_enough w.3 m _ c.measure-size.ensures in
     let p = places w.3 m _ c.measure-size.ensures in
     omega (arith, r, p, m, w.0, c.well_formed, c.past-entries.ensures)
-
-pub overflow_add-f-2 : goal.overflow_add-f-2
-overflow_add-f-2 c =
-    let w = c.requires in
-    let m = c.from_slot-start.ensures in
-    let r = room_enough w.3 m _ c.measure-size.ensures in
-    let p = places w.3 m _ c.measure-size.ensures in
-    omega (arith, r, p, m, w.0, c.well_formed, c.past-entries.ensures, c.since.ensures)
-
-pub overflow_add-f-3 : goal.overflow_add-f-3
-overflow_add-f-3 c =
-    let w = c.requires in
-    let m = c.from_slot-start.ensures in
-    let r = room_enough w.3 m _ c.measure-size.ensures in
-    let p = places w.3 m _ c.measure-size.ensures in
-    omega (arith, r, p, m, w.0, c.well_formed, c.past-entries.ensures, c.since.ensures)
 
 pub put_length-requires : goal.put_length-requires
 put_length-requires c =
@@ -87,28 +55,8 @@ put_length-requires c =
     let o = simp length-set at c.write_bits.auto.out in
     (omega (arith, r, p, m, w.0, c.well_formed), size_small w.3 m _ c.measure-size.ensures w.0)
 
-pub overflow_add-end : goal.overflow_add-end
-overflow_add-end c =
-    let w = c.requires in
-    let m = c.from_slot-start.ensures in
-    let r = room_enough w.3 m _ c.measure-size.ensures in
-    let p = places w.3 m _ c.measure-size.ensures in
-    let a = c.past-entries.ensures in
-    let b = c.since.ensures in
-    omega (arith, r, p, m, w.0, c.well_formed)
-
 pub overflow_add-end-2 : goal.overflow_add-end-2
 overflow_add-end-2 c =
-    let w = c.requires in
-    let m = c.from_slot-start.ensures in
-    let r = room_enough w.3 m _ c.measure-size.ensures in
-    let p = places w.3 m _ c.measure-size.ensures in
-    let a = c.past-entries.ensures in
-    let b = c.since.ensures in
-    omega (arith, r, p, m, w.0, c.well_formed)
-
-pub overflow_add-f-4 : goal.overflow_add-f-4
-overflow_add-f-4 c =
     let w = c.requires in
     let m = c.from_slot-start.ensures in
     let r = room_enough w.3 m _ c.measure-size.ensures in

@@ -46,7 +46,8 @@ module _ (d : Data) (m : Mem) (f : List ℕ) where
       let w : f ≡ (without_frame d).frames = cc in
       rw (e, p, q, u, w)
 
-  pub back_to_lem : (r : Regs) (k c : ℕ) → left (To r k c) m f ≡ told_back d (return_rule d) → return_rule d ≡ back_to (frame_template c) (frame_place c) (state r m f k)
+  pub back_to_lem : (r : Regs) (k c : ℕ) → left (To r k c) m f ≡ told_back d (return_rule d)
+      → return_rule d ≡ back_to (frame_template c) (frame_place c) (state r m f k)
   unfolding return_rule
   back_to_lem r k c h = back_by (eqb d.fr 0) r k c h
 

@@ -2,8 +2,7 @@
 use mathlib.Core.Path.{ap}
 use mathlib.Core.Bool.{not}
 use borrow.Author.Tests.{eq-eqb, ne_eqb}
-use native.Mathlib.Omega.{arith}
-use Rattle.integers.proofs.Dividing.{divides, next_fits, one_less, alike, evenly}
+use Rattle.integers.proofs.Dividing.{divides, one_less, alike, evenly}
 use Rattle.integers.proofs.floor_quotient.Goals as goal
 use Rattle.integers.proofs.floor_quotient.Goals.{else-x-y-via-then-x-y+else-x-y-ne0, else-x-y-via-else-x-y}
 
@@ -12,9 +11,6 @@ nonzero_div-q c = divides c.ranges.x c.ranges.y c.requires.0 c.requires.1
 
 pub nonzero_rem-x : goal.nonzero_rem-x
 nonzero_rem-x c = divides c.ranges.x c.ranges.y c.requires.0 c.requires.1
-
-pub overflow_sub-result : goal.overflow_sub-result
-overflow_sub-result c = next_fits c.ranges.x c.ranges.y c.requires.0 c.requires.1 _ (omega arith)
 
 pub returns-then-x-y-ne0 : goal.returns-then-x-y-ne0
 returns-then-x-y-ne0 c =

@@ -3,7 +3,7 @@ use borrow.Author.Rules.{rules}
 use mathlib.Core.Path.{sym, ◌∙◌}
 use Prim.Native.Nat.{◌-◌}
 use native.Mathlib.Omega.{arith}
-use Rattle.integers.proofs.Adding.{sum_start, sum_on, sum_other, sum_done, sum_fits, sum_is, sum_near}
+use Rattle.integers.proofs.Adding.{sum_start, sum_on, sum_other, sum_done, sum_is, sum_near}
 use Rattle.integers.proofs.sum_up.Goals as goal
 
 pub loop-i-init : goal.loop-i-init
@@ -16,9 +16,6 @@ returns-then-tag_of-ne6 c =
 
 pub signed_value-total-requires : goal.signed_value-total-requires
 signed_value-total-requires c = omega (arith, c.int_of.ensures)
-
-pub overflow_add-total : goal.overflow_add-total
-overflow_add-total c = sum_fits c.loop-i.invariant.1 (omega arith) _ _ (c.signed_value-total.ensures.value, c.signed_value-total.ensures.near)
 
 pub loop-i-preserved : goal.loop-i-preserved
 loop-i-preserved c =

@@ -11,9 +11,6 @@ loop-next-init c = (omega arith, λ w. walked_none _ _ w)
 pub turn_at-requires : goal.turn_at-requires
 turn_at-requires c = (c.requires.0, c.requires.1, (c.loop-next.invariant.1 c.requires.2).now)
 
-pub overflow_sub-result : goal.overflow_sub-result
-overflow_sub-result c = omega (arith, c.loop-next.invariant.0)
-
 pub returns-in-There : goal.returns-in-There
 returns-in-There c = λ w. let k = c.loop-next.invariant.1 w in walked_there _ _ _ k (sym c.in-There.is ∙ c.turn_at.ensures k.now) _ refl refl
 

@@ -87,7 +87,8 @@ both_put a b o o₁ o₂ L from second count entries q h k fits e f g =
     put_next o o₁ o₂ 0 q (entries_of a from b second count entries) L l.1 (omega (arith, l.0)) e (omega (arith, l.0)) g
 
 -- ---- the table of moved indices, one more index
-pub one_more : (l : List ℕ) (n i v : ℕ) → i < length l → v ≡ n + i → ((j : ℕ) → j < i → get_or l j 0 ≡ n + j) → (j : ℕ) → j < i + 1 → get_or (set l i v) j 0 ≡ n + j
+pub one_more : (l : List ℕ) (n i v : ℕ) → i < length l → v ≡ n + i → ((j : ℕ) → j < i → get_or l j 0 ≡ n + j) → (j : ℕ) → j < i + 1
+    → get_or (set l i v) j 0 ≡ n + j
 one_more l n i v lt is h j k = go (eqb j i) refl
   where
     go : (b : Bool) → eqb j i ≡ b → get_or (set l i v) j 0 ≡ n + j

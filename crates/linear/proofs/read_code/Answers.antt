@@ -1,13 +1,12 @@
 -- `linear::read_code` meets its contract: each answer leads to its case of `padded_code`. Assumes nothing.
 use Prim.Native.Nat.{ℕ, ◌+◌, ◌*◌}
-use native.Mathlib.Omega.{arith}
 use mathlib.Core.Path.{◌≡◌, sym, ap, ◌∙◌}
 use borrow.Author.Tests.{leb-false}
 use lib.ListN.{length}
 use Rattle.cells.specs.declared.BitPlace.{BitPlace}
 use Rattle.fields.specs.laws.Laws.{lies}
 use Rattle.files.specs.Reading.{refused}
-use Rattle.files.specs.laws.EntriesSteps.{field_cut, field_read_lem, field_within}
+use Rattle.files.specs.laws.EntriesSteps.{field_cut, field_read_lem}
 use Rattle.linear.specs.laws.LinearSteps.{padding_set, length_cut, code_cut, code_read, code_stops, code_ends}
 use Rattle.linear.proofs.read_code.Goals as goal
 
@@ -16,16 +15,6 @@ returns-in_default c =
     let all = code_stops _ _ _ (length_cut _ _ (rw c.to_byte.ensures at c.zero_bits.ensures) c.in-Zero.is
     (field_cut _ _ _ c.read_three.ensures c.in_default.is)) in
     record { value = all.0; table_after = all.1 }
-
-pub overflow_add-table : goal.overflow_add-table
-overflow_add-table c =
-    let h = field_within _ _ _ c.read_three.ensures c.in-Read.is in
-    omega (arith, h, c.byte.ensures)
-
-pub past-requires : goal.past-requires
-past-requires c =
-    let h = lies c.args.s.now c.in-Read.code.0 (8 * c.in-Read.n) c.within.ensures c.if-within.true in
-    omega (arith, h)
 
 pub returns-then-within : goal.returns-then-within
 returns-then-within c =

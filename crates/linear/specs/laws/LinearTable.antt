@@ -39,7 +39,8 @@ module _ (s : List ℕ) (own T p : ℕ) (table : List ℕ) where
   unfolding linear_template_at
   template_filled_lem {t} {q} e =
       then_led (field s p 8) _ e
-      (λ n r e₁ o₁. then_led (entries_at s own T n r) _ o₁ (λ es u e₂ o₂. then_led (zero_bits s (to_byte u) u es) _ o₂ (λ fs v e₃ o₃. then_led (field s v 24) _ o₃
+      (λ n r e₁ o₁. then_led (entries_at s own T n r) _ o₁ (λ es u e₂ o₂. then_led (zero_bits s (to_byte u) u es) _ o₂
+      (λ fs v e₃ o₃. then_led (field s v 24) _ o₃
       (λ k w e₄ o₄. go n r es e₁ e₂ (code_entries s fs k w o₄ ∙ zero_same s (to_byte u) u es e₃)))))
     where
       go : (n r : ℕ) (es : List Entry) {u : ℕ} → field s p 8 ≡ got n r → entries_at s own T n r ≡ got es u → t.entries ≡ es

@@ -2,8 +2,6 @@
 use mathlib.Core.Path.{refl, sym}
 use lib.ListN.{get_or-eq_default}
 use Rattle.files.specs.Codes.{linear_bytes, operand_bytes}
-use native.Mathlib.Omega.{arith}
-use Rattle.machines.specs.laws.FetchedLaws.{operand_bytes_few}
 use Rattle.linear_code.proofs.operand_count.Goals as goal
 
 pub returns-then-op-lt32 : goal.returns-then-op-lt32
@@ -13,7 +11,3 @@ returns-then-op-lt32 c = refl
 pub returns-else-op-lt32 : goal.returns-else-op-lt32
 unfolding operand_bytes
 returns-else-op-lt32 c = sym (get_or-eq_default linear_bytes 0 c.if-op-lt32.false)
-
-pub overflow_cast-result-then-op-lt32 : goal.overflow_cast-result-then-op-lt32
-unfolding operand_bytes
-overflow_cast-result-then-op-lt32 c = omega (arith, operand_bytes_few c.args.op)

@@ -7,7 +7,8 @@ use Rattle.files.specs.Linear.{Linear, linear_read}
 use Rattle.owners.specs.Owners.{is_owner, owner_of}
 use Rattle.machines.specs.Start.{globals_refusal, start_refusal}
 use Rattle.machines.specs.declared.Start.TheVariants.{Go}
-use Rattle.machines.specs.Runs.{Memory, memory, Ran, run_of, left_of, refused_run, right_lengths, lowest_unfit, fit_globals, by_owner, started, on_linear, linear_run}
+use Rattle.machines.specs.Runs.{Memory, memory, Ran, run_of, left_of, refused_run, right_lengths, lowest_unfit, fit_globals, by_owner, started, on_linear}
+use Rattle.machines.specs.Runs.{linear_run}
 use Rattle.linear_machine.specs.Again.{AllFit}
 
 -- ---- the same run, and the same globals left

@@ -3,22 +3,11 @@
 use Prim.Native.Nat.{◌-◌}
 use native.Mathlib.Omega.{arith}
 use mathlib.Core.Path.{refl, sym, ◌∙◌}
-use Rattle.links.specs.laws.TreeSteps.{ready_short, at_most_64, linked_all_lem, list_to_link, next_has, templates_same, template_linked, linked_on}
+use Rattle.links.specs.laws.TreeSteps.{ready_short, linked_all_lem, list_to_link, next_has, templates_same, template_linked, linked_on}
 use Rattle.links.proofs.link_tree.Goals as goal
 
 pub loop-own-init : goal.loop-own-init
 loop-own-init c = (refl, omega arith, refl, c.requires.2)
-
-pub overflow_mul-own : goal.overflow_mul-own
-overflow_mul-own c = omega (arith, at_most_64 c.requires.0)
-
-pub offset_bounds-table-own : goal.offset_bounds-table-own
-offset_bounds-table-own c = omega (arith, at_most_64 c.requires.0)
-
-pub bounds-table-own : goal.bounds-table-own
-bounds-table-own c =
-    let pre = c.requires in
-    omega (arith, at_most_64 pre.0, pre.1)
 
 pub link_list-requires : goal.link_list-requires
 link_list-requires c =

@@ -30,7 +30,8 @@ linked_length L p e f (unless_false x y r) =
     let a = link L p (p + 5 + bits x) in
     let b = linked a (p + 5) (p + bits x) (p + 5 + bits x + bits y) x in
     let d = linked b (p + 5 + bits x) (p + bits x + bits y) (p + 5 + bits x + bits y) y in
-    linked_length d (p + 5 + bits x + bits y) e f r ∙ linked_length b (p + 5 + bits x) (p + bits x + bits y) (p + 5 + bits x + bits y) y ∙ linked_length a (p + 5) (p + bits x) (p + 5 + bits x + bits y) x ∙ length-set L (p / 5) _
+    linked_length d (p + 5 + bits x + bits y) e f r ∙ linked_length b (p + 5 + bits x) (p + bits x + bits y) (p + 5 + bits x + bits y) y
+    ∙ linked_length a (p + 5) (p + bits x) (p + 5 + bits x + bits y) x ∙ length-set L (p / 5) _
 linked_length L p e f (make_cont n x r) =
     let a = link L p (p + 13 + bits x) in
     let b = linked a (p + 13) (p + 8 + bits x) e x in
@@ -59,12 +60,15 @@ linked_other L p e f (unless_false x y r) i h =
     let a = link L p (p + 5 + bits x) in
     let b = linked a (p + 5) (p + bits x) (p + 5 + bits x + bits y) x in
     let d = linked b (p + 5 + bits x) (p + bits x + bits y) (p + 5 + bits x + bits y) y in
-    linked_other d (p + 5 + bits x + bits y) e f r i (λ k j. h (omega arith) (omega arith)) ∙ linked_other b (p + 5 + bits x) (p + bits x + bits y) (p + 5 + bits x + bits y) y i (λ k j. h (omega arith) (omega arith))
-    ∙ linked_other a (p + 5) (p + bits x) (p + 5 + bits x + bits y) x i (λ k j. h (omega arith) (omega arith)) ∙ link_other L p (p + (5 + bits x + bits y + bits r)) _ (omega arith) i h
+    linked_other d (p + 5 + bits x + bits y) e f r i (λ k j. h (omega arith) (omega arith))
+    ∙ linked_other b (p + 5 + bits x) (p + bits x + bits y) (p + 5 + bits x + bits y) y i (λ k j. h (omega arith) (omega arith))
+    ∙ linked_other a (p + 5) (p + bits x) (p + 5 + bits x + bits y) x i (λ k j. h (omega arith) (omega arith))
+    ∙ link_other L p (p + (5 + bits x + bits y + bits r)) _ (omega arith) i h
 linked_other L p e f (make_cont n x r) i h =
     let a = link L p (p + 13 + bits x) in
     let b = linked a (p + 13) (p + 8 + bits x) e x in
-    linked_other b (p + 13 + bits x) e f r i (λ k j. h (omega arith) (omega arith)) ∙ linked_other a (p + 13) (p + 8 + bits x) e x i (λ k j. h (omega arith) (omega arith))
+    linked_other b (p + 13 + bits x) e f r i (λ k j. h (omega arith) (omega arith))
+    ∙ linked_other a (p + 13) (p + 8 + bits x) e x i (λ k j. h (omega arith) (omega arith))
     ∙ link_other L p (p + (13 + bits x + bits r)) _ (omega arith) i h
 
 pub linked_kept : (L : List ℕ) (p e f : ℕ) (c : Code) → Kept p L (linked L p e f c)

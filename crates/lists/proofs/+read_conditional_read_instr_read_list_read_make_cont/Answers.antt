@@ -90,12 +90,6 @@ read_instr-line_at-line-requires t c =
     let here : c.args.at.0 + 5 ≤ 8 * length c.args.s.now = leb-true _ _ (sym c.within.ensures ∙ c.if-not-within.false) in
     (omega (arith, c.requires.0), omega (arith, here))
 
-pub read_instr-past-next-requires : goal.read_instr-past-next-requires
-read_instr-past-next-requires t c =
-    let here : c.args.at.0 + 5 ≤ 8 * length c.args.s.now =
-    leb-true _ _ (sym c.within.ensures ∙ c.if-not-within.false) in
-    omega (arith, here, c.requires.0)
-
 pub read_instr-shape_by_words-shape-requires : goal.read_instr-shape_by_words-shape-requires
 read_instr-shape_by_words-shape-requires t c = omega (arith, c.line_at-line.ensures.1)
 

@@ -39,9 +39,6 @@ loop-line-init c = (
   omega (arith, c.if-s-byte.false, c.byte.ensures),
 )
 
-pub overflow_add-byte-in-loop-line : goal.overflow_add-byte-in-loop-line
-overflow_add-byte-in-loop-line c = omega (arith, c.byte-in-loop-line.ensures, c.loop-line.invariant.2, c.requires.0)
-
 pub line_in-line-requires : goal.line_in-line-requires
 line_in-line-requires c =
     let near = c.loop-line.invariant.1.near in
@@ -93,11 +90,6 @@ pub past-here-requires : goal.past-here-requires
 past-here-requires c =
     let g = going_on (goal.at.past-here-requires c).Else-shape-eq0 in
     omega (arith, g)
-
-pub loop-line-smaller : goal.loop-line-smaller
-loop-line-smaller c =
-    let g = going_on (goal.at.loop-line-smaller c).Else-shape-eq0 in
-    omega (arith, g, c.past-here.ensures)
 
 pub loop-line-preserved : goal.loop-line-preserved
 loop-line-preserved c =

@@ -38,7 +38,8 @@ unfolding with_list
 list_there k (got c q) h t e = record { code = c; past = q; read = refl; on = e }
 list_there k (refused n p) h t e = absurd (rw (← e) at t)
 
-deep_there : (s : List ℕ) (l p : ℕ) (k : (ℕ → Got Code) → Head) (h : Head) → There h → with_deep p k (deep_of s l) ≡ h → (l ≡ 0 → ⊥) × (k (list_at s (l - 1)) ≡ h)
+deep_there : (s : List ℕ) (l p : ℕ) (k : (ℕ → Got Code) → Head) (h : Head) → There h → with_deep p k (deep_of s l) ≡ h
+    → (l ≡ 0 → ⊥) × (k (list_at s (l - 1)) ≡ h)
 unfolding with_deep deep_of
 deep_there s zero p k h t e = absurd (rw (← e) at t)
 deep_there s (suc l) p k h t e = let d : suc l ≡ 0 → ⊥ = λ z. omega arith in (d, ap (with_deep p k) (sym (deep_down s (suc l) d)) ∙ e)

@@ -137,7 +137,8 @@ module _ (k : Keep) where
           go (bad n x) w e m g f = clash (cc)
 
       -- the list's end
-      pub marking_end : (M' : List ℕ) (u : BitPlace) → itemed table own (head_at s (deep_of s l) p) ≡ End u → head_marked k M M' (p + 5) (head_at s (deep_of s l) p)
+      pub marking_end : (M' : List ℕ) (u : BitPlace) → itemed table own (head_at s (deep_of s l) p) ≡ End u
+          → head_marked k M M' (p + 5) (head_at s (deep_of s l) p)
           → (c : Code) (q : ℕ) → list_at s l p₀ ≡ got c q → M' ≡ marked_in k M₀ p₀ c
       unfolding itemed head_marked after marked_in
       marking_end M' u e h c q r =

@@ -88,7 +88,8 @@ sorted done = empty
 sorted (neutral op ns r) = sorted_neutral (sorted r)
 sorted (return r) = at_most_closed (is_empty r)
 sorted (call n r) = at_most_closed (is_empty r)
-sorted (unless_false x y r) = rw (and_assoc (is_empty r) (is_closed x) (is_closed y)) (sorted_conditional (arms (is_open y) (is_closed y) (sorted x)) (sorted r))
+sorted (unless_false x y r) = rw (and_assoc (is_empty r) (is_closed x) (is_closed y))
+    (sorted_conditional (arms (is_open y) (is_closed y) (sorted x)) (sorted r))
 sorted (make_cont n x r) = sorted_save (sorted x) (is_closed r)
 
 pub empty_class : (c : Code) → is_empty c ≡ eqb (class_of c) 0
@@ -217,7 +218,8 @@ module _ (table : List ℕ) (own : ℕ) where
   put_closes (cont_i n x) r = refl
 
   put_fits : (i : Instr) (r : Code)
-      → offsets_fit (put i r) ≡ (cond (is_save (added_by table own i).kind) (fits_offset (length (flat r))) true && ((added_by table own i).fits && offsets_fit r))
+      → offsets_fit (put i r) ≡ (cond (is_save (added_by table own i).kind) (fits_offset (length (flat r))) true
+      && ((added_by table own i).fits && offsets_fit r))
   unfolding added_by conditional_added save_added facts_of put offsets_fit is_save
   put_fits (neutral_i op ns) r = refl
   put_fits return_i r = refl

@@ -218,7 +218,8 @@ module _ (table : List ℕ) (own : ℕ) where
   unfolding bits flat
   added_bits i = omega (arith, put_size table own i done, flat_bits_end (put i done), bits_put i done)
 
-  listed_before : (i : Instr) (x : Got Code) (st : State) → listed_from table own st (before i x) ≡ listed_from table own (state_after st (added_by table own i)) x
+  listed_before : (i : Instr) (x : Got Code) (st : State)
+      → listed_from table own st (before i x) ≡ listed_from table own (state_after st (added_by table own i)) x
   unfolding before listed_from
   listed_before i (got c q) st = rw (run_put table own i c st) refl
   listed_before i (refused n p) st = refl
@@ -273,7 +274,8 @@ module _ (table : List ℕ) (own : ℕ) where
         go (bad m x) w e = clash (cc)
 
 -- what comes after the first make-cont is no more than all
-pub tail_size : (st : State) (o : Added) → st.tail ≤ st.size → ((state_after st o).tail ≤ (state_after st o).size) × ((state_after st o).size ≡ st.size + o.size)
+pub tail_size : (st : State) (o : Added) → st.tail ≤ st.size
+    → ((state_after st o).tail ≤ (state_after st o).size) × ((state_after st o).size ≡ st.size + o.size)
 unfolding state_after
 tail_size st o h = (go st.seen, refl)
   where

@@ -20,14 +20,16 @@ abbrev row2 : List ℕ
 row2 = 90 ∷ int_cell 7 ∷ int_cell 5 ∷ []
 
 pub sheet2_facts : listed row2 0 (list_at sheet2 15 90) ≡ Done (record { 0 = 169 }) (record { class = 2; size = 16; named = true; fits = true; closes = 0 })
-unfolding listed facts_of class_of slots_fit each_neutral slot_named slot_fits slots_close unite_neutral slot_closes unite is_empty is_open is_closed flat conditional
-    offsets_fit arms_fit list_at items deep_of after before put simple head_at shaped shape_of with_field with_list with_deep field_read pick_field field_at bit_at
+unfolding listed facts_of class_of slots_fit each_neutral slot_named slot_fits slots_close unite_neutral slot_closes unite is_empty is_open is_closed flat
+    conditional offsets_fit arms_fit list_at items deep_of after before put simple head_at shaped shape_of with_field with_list with_deep field_read pick_field
+    field_at bit_at
 sheet2_facts = refl
 
 abbrev sheet3 : List ℕ
 sheet3 = 0x01 ∷ 0x00 ∷ 0x19 ∷ 0x00 ∷ 0x00 ∷ 0x10 ∷ 0x3C ∷ 0x01 ∷ 0x00 ∷ []
 
 pub sheet3_facts : listed (16 ∷ []) 0 (list_at sheet3 15 16) ≡ Done (record { 0 = 69 }) (record { class = 2; size = 13; named = true; fits = true; closes = 0 })
-unfolding listed facts_of class_of slots_fit each_neutral slot_named slot_fits slots_close unite_neutral slot_closes unite is_empty is_open is_closed flat conditional
-    offsets_fit arms_fit list_at items deep_of after before put simple head_at shaped shape_of with_field with_list with_deep field_read pick_field field_at bit_at
+unfolding listed facts_of class_of slots_fit each_neutral slot_named slot_fits slots_close unite_neutral slot_closes unite is_empty is_open is_closed flat
+    conditional offsets_fit arms_fit list_at items deep_of after before put simple head_at shaped shape_of with_field with_list with_deep field_read pick_field
+    field_at bit_at
 sheet3_facts = refl

@@ -20,7 +20,8 @@ use Rattle.lists.specs.declared.State.{State}
 use Rattle.lists.specs.Facts.{slot_named, slot_closes}
 use Rattle.lists.specs.Sets.{unite}
 use Rattle.lists.specs.laws.SetsLaws.{unite_zero}
-use Rattle.lists.specs.Pass.{simple_added, classes_after, is_save, state_after, listed_from, itemed, simple_at, run_shape, Plain, Neutrals, none, more, run_after}
+use Rattle.lists.specs.Pass.{simple_added, classes_after, is_save, state_after, listed_from, itemed, simple_at, run_shape, Plain, Neutrals, none, more}
+use Rattle.lists.specs.Pass.{run_after}
 use Rattle.lists.specs.laws.ReadLaws.{line_read, simple_anywhere, line_whole, turn_more, turn_bits}
 use Rattle.lists.specs.laws.MarkSteps.{simple_marked, Marking, marking_more}
 

@@ -12,7 +12,8 @@ use Rattle.files.specs.laws.Rows.{plain_file, sheets}
 use Rattle.files.specs.Tree.{Template, template_at, templates_at, padded_end, tree_read}
 use Rattle.files.specs.Grammar.{is_empty, is_open, is_closed, entry_of, suits, index_fits, each_neutral, indices_fit, lowest}
 use Rattle.files.specs.Flat.{offset, conditional, flat, arms_fit, offsets_fit}
-use Rattle.files.specs.Linear.{bits_of, entry_bits, entries_bits, byte_of, bytes_from, bytes_of, template_bytes, templates_bytes, linear_file, code_at, linear_template_at}
+use Rattle.files.specs.Linear.{bits_of, entry_bits, entries_bits, byte_of, bytes_from, bytes_of, template_bytes, templates_bytes, linear_file, code_at}
+use Rattle.files.specs.Linear.{linear_template_at}
 use Rattle.files.specs.Linear.{linear_templates_at, linear_read}
 use Rattle.files.specs.Orphans.{is_template, closes, closure_names, lowest_number, lowest_orphan}
 use Rattle.files.specs.Accepted.{or_lowest, tree_checked, tree_accepted, flat_accepted}
@@ -23,7 +24,8 @@ use Rattle.integers.specs.Integers.{signed, within, int_bits, total_of, all_inte
 use Rattle.rules.specs.Rules.{literal_rule, push_rule, add_rule, plain_rule, make_cont_rule, return_rule}
 use Rattle.machines.specs.Fetched.{named_by, as_literal, rule_of, resolve, plainly, open_count, first, beyond, look, transfer, decode, tree_at, linear_at}
 use Rattle.machines.specs.Machine.{bind, returned, act, step, jump_count, first_count, counted, next, run}
-use Rattle.machines.specs.Runs.{fresh_memory, Ran, ran, refused_run, right_lengths, lowest_unfit, fit_globals, by_owner, started, start_state, end_of, memory_of}
+use Rattle.machines.specs.Runs.{fresh_memory, Ran, ran, refused_run, right_lengths, lowest_unfit, fit_globals, by_owner, started, start_state, end_of}
+use Rattle.machines.specs.Runs.{memory_of}
 use Rattle.machines.specs.Runs.{reported, program_run, on_tree, on_linear, tree_run, linear_run}
 use Rattle.machines.specs.declared.End.{End}
 use Rattle.machines.specs.declared.End.TheVariants.{Halted, Refused}
@@ -65,12 +67,12 @@ expected =
 
 -- P1 to P7, and P8: offset 65,535 splits into 255, 255; 256 into 1, 0
 pub rows : (map row_told sheets ≡ expected) × (map offset (65535 ∷ 256 ∷ []) ≡ (255 ∷ 255 ∷ []) ∷ (1 ∷ 0 ∷ []) ∷ [])
-unfolding starting_global value_of bit_at field_at field_read pick_field shape_of is_neutral operand_bytes put simple bits with_field with_list with_deep shaped head_at
-    before after items deep_of list_at then field field_got tag_width constant_at kind_at entry_at entries_at zero_bits nothing_more template_at templates_at padded_end
-    tree_read is_empty is_open is_closed entry_of suits index_fits each_neutral indices_fit lowest conditional flat arms_fit offsets_fit bits_of entry_bits entries_bits
-    byte_of bytes_from bytes_of template_bytes templates_bytes linear_file code_at linear_template_at linear_templates_at linear_read or_lowest tree_checked tree_accepted
-    flat_accepted closes is_template closure_names lowest_number lowest_orphan constant_cell signed total_of within int_bits all_integers literal_rule push_rule add_rule
-    plain_rule is_owner owner_of may_do owned_rule make_cont_rule return_rule named_by as_literal rule_of resolve plainly open_count first beyond look transfer decode
-    tree_at linear_at bind returned act step jump_count first_count counted next run refused_run right_lengths lowest_unfit fit_globals by_owner started
-    start_state end_of memory_of reported program_run on_tree on_linear tree_run linear_run
+unfolding starting_global value_of bit_at field_at field_read pick_field shape_of is_neutral operand_bytes put simple bits with_field with_list with_deep shaped
+    head_at before after items deep_of list_at then field field_got tag_width constant_at kind_at entry_at entries_at zero_bits nothing_more template_at
+    templates_at padded_end tree_read is_empty is_open is_closed entry_of suits index_fits each_neutral indices_fit lowest conditional flat arms_fit offsets_fit
+    bits_of entry_bits entries_bits byte_of bytes_from bytes_of template_bytes templates_bytes linear_file code_at linear_template_at linear_templates_at
+    linear_read or_lowest tree_checked tree_accepted flat_accepted closes is_template closure_names lowest_number lowest_orphan constant_cell signed total_of
+    within int_bits all_integers literal_rule push_rule add_rule plain_rule is_owner owner_of may_do owned_rule make_cont_rule return_rule named_by as_literal
+    rule_of resolve plainly open_count first beyond look transfer decode tree_at linear_at bind returned act step jump_count first_count counted next run
+    refused_run right_lengths lowest_unfit fit_globals by_owner started start_state end_of memory_of reported program_run on_tree on_linear tree_run linear_run
 rows = (refl, refl)

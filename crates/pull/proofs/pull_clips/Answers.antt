@@ -17,9 +17,6 @@ pull_clip-at-requires c =
     let p = c.requires in
     record { k_bound = (omega (arith, c.loop-k-test, i, p), omega (arith, c.loop-k-test, i), p.clips_len_bound.2, p.clips_len_bound.3); globals_len = (i.2, i.3, i.4, i.5); at_in_bounds = omega (arith, c.loop-k-test, i, p) }
 
-pub loop-k-smaller : goal.loop-k-smaller
-loop-k-smaller c = omega (arith, c.loop-k-test, c.loop-k.invariant)
-
 pub loop-k-preserved : goal.loop-k-preserved
 loop-k-preserved c =
     let i = c.loop-k.invariant in (

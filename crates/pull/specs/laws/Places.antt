@@ -94,8 +94,10 @@ unfolding halted_words source_words
 plain_halted clip i o = by (eqb (tag_of i) 6 && eqb (tag_of o) 6)
   where
     by : (t : Bool) → AllPlain (cond t (source_words clip (int_of i) (int_of o)) (none_word ∷ []))
-    by true =
-        (plain_verdict (signed (int_of i)) (signed (int_of o)) (word clip 6) (word clip 7), (plain_integer full (int_of i), (plain_integer full (int_of o), tt)))
+    by true = (
+      plain_verdict (signed (int_of i)) (signed (int_of o)) (word clip 6) (word clip 7),
+      (plain_integer full (int_of i), (plain_integer full (int_of o), tt)),
+    )
     by false = (plain_none, tt)
 
 plain_end : (clip : List ℤ) (e : End) (i o : ℕ) → AllPlain (end_words clip e i o)

@@ -1,6 +1,8 @@
 -- Bits that stand at a bit place of a file, and bytes that stand at a byte place, are read back. Assumes nothing.
-use Rattle.std.specs.Prelude.{ℕ, zero, suc, ◌+◌, ◌*◌, ◌-◌, ◌/◌, ◌%◌, ◌^◌, ◌≤◌, ◌<◌, ◌≡◌, Bool, true, false, List, [], ◌∷◌, ◌++◌, length, get_or, take, drop, leb}
-use Rattle.std.proofs.Common.{add-zero, add_assoc, mod-eq_of_lt, sym, ap, ◌∙◌, append_assoc, leb-true, leb-false, eq-eqb, length-append, get_or-append-add, get_or-drop, take_at, drop_at}
+use Rattle.std.specs.Prelude.{ℕ, zero, suc, ◌+◌, ◌*◌, ◌-◌, ◌/◌, ◌%◌, ◌^◌, ◌≤◌, ◌<◌, ◌≡◌, Bool, true, false, List, [], ◌∷◌, ◌++◌, length, get_or, take, drop}
+use Rattle.std.specs.Prelude.{leb}
+use Rattle.std.proofs.Common.{add-zero, add_assoc, mod-eq_of_lt, sym, ap, ◌∙◌, append_assoc, leb-true, leb-false, eq-eqb, length-append, get_or-append-add}
+use Rattle.std.proofs.Common.{get_or-drop, take_at, drop_at}
 use native.Mathlib.Omega.{arith}
 use Rattle.std.proofs.Math.Path.{refl}
 use Rattle.std.proofs.Math.ListN.{get_or-append, get_or-eq_default}

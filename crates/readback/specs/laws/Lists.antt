@@ -1,6 +1,8 @@
 -- Lists of bits: those of a number, those of a file from a place on, and the bytes that they are. Assumes nothing.
-use Rattle.std.specs.Prelude.{ℕ, zero, suc, ◌+◌, ◌*◌, ◌-◌, ◌/◌, ◌%◌, ◌^◌, ◌≤◌, ◌<◌, ◌≡◌, refl, Bool, true, false, List, [], ◌∷◌, ◌++◌, length, get_or, take, drop, leb}
-use Rattle.std.proofs.Common.{add-zero, add_comm, suc-add, mul_assoc, mul_comm, pow-suc, arith, sym, ap, ◌∙◌, append-nil, leb-true, leb-false, length-append, get_or-append-add, get_or-drop, drop-cons, ext_get_or, pow-add, pow_pos}
+use Rattle.std.specs.Prelude.{ℕ, zero, suc, ◌+◌, ◌*◌, ◌-◌, ◌/◌, ◌%◌, ◌^◌, ◌≤◌, ◌<◌, ◌≡◌, refl, Bool, true, false, List, [], ◌∷◌, ◌++◌, length, get_or, take}
+use Rattle.std.specs.Prelude.{drop, leb}
+use Rattle.std.proofs.Common.{add-zero, add_comm, suc-add, mul_assoc, mul_comm, pow-suc, arith, sym, ap, ◌∙◌, append-nil, leb-true, leb-false}
+use Rattle.std.proofs.Common.{length-append, get_or-append-add, get_or-drop, drop-cons, ext_get_or, pow-add, pow_pos}
 use Rattle.std.proofs.Math.Nat.{mul-add-div_right, div-div-eq-div-mul}
 use Rattle.std.proofs.Math.ListN.{get_or-append, get_or-eq_default}
 use Rattle.std.proofs.Math.Pow.{high}

@@ -93,7 +93,8 @@ module _ (s : List ℕ) where
       })))
 
   -- so what is copied from there are the entries' bits
-  pub entries_copied_lem : (own T n p : ℕ) {es : List Entry} {q : ℕ} → p ≤ 8 * length s → entries_at s own T n p ≡ got es q → bits_from s p (q - p) ≡ entries_bits es
+  pub entries_copied_lem : (own T n p : ℕ) {es : List Entry} {q : ℕ} → p ≤ 8 * length s → entries_at s own T n p ≡ got es q
+      → bits_from s p (q - p) ≡ entries_bits es
   entries_copied_lem own T n p {es} {q} h e =
       let k = entries_stand own T n p h e in
       let d : q - p ≡ length (entries_bits es) = omega (arith, k.past) in

@@ -11,7 +11,8 @@ use Rattle.files.specs.laws.AllGot.{Each}
 use Rattle.files.specs.laws.EntriesLaws.{EntriesOk}
 use Rattle.files.specs.Tree.{Template}
 use Rattle.files.specs.Flat.{flat}
-use Rattle.files.specs.Linear.{Linear, entries_bits, bytes_of, three_bytes, template_bytes, templates_bytes, linear_file, code_at, linear_template_at, linear_templates_at}
+use Rattle.files.specs.Linear.{Linear, entries_bits, bytes_of, three_bytes, template_bytes, templates_bytes, linear_file, code_at, linear_template_at}
+use Rattle.files.specs.Linear.{linear_templates_at}
 use Rattle.files.specs.Linear.{linear_read}
 use Rattle.readback.specs.laws.Bits.{Holds, holds_left, holds_right, holds_fits, holds_code, here, byte_field, length_field, bytes_stand, padding_zero}
 use Rattle.readback.specs.laws.Entries.{entries_back, entries_are}

@@ -17,7 +17,8 @@ use Rattle.renamed.specs.laws.Renaming.{Renaming, CellR, same_c, closure_c}
 -- ---- THE STATEMENT
 -- a cell, the template's number aside where it is a closure, and with it the code place where it is a frame
 unfoldable pub bare : ℕ → ℕ
-bare c = cond (eqb (tag_of c) 7) (closure_cell 0 (closure_env c) (closure_location c)) (cond (eqb (tag_of c) 10) (frame_cell (frame_count c) 0 (frame_env c) 0) c)
+bare c = cond (eqb (tag_of c) 7) (closure_cell 0 (closure_env c) (closure_location c))
+    (cond (eqb (tag_of c) 10) (frame_cell (frame_count c) 0 (frame_env c) 0) c)
 
 -- an answer, and an end, the template's number aside where it is a procedure
 unfoldable pub bare_value : Value → Value

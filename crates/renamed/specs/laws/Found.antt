@@ -120,7 +120,8 @@ module _ (f : ℕ → ℕ) where
         → entry_of es' (f (get_or ns 0 0)) ≡ renumbered (entry_of es (get_or ns 0 0))
     unfolding names
     head_found_lem op ns r h e =
-        h (get_or ns 0 0) (or_left (leb op 9 && eqb (get_or ns 0 0) (get_or ns 0 0)) (names (get_or ns 0 0) r) (rw (e, eq-eqb (get_or ns 0 0) (get_or ns 0 0) refl) refl))
+        h (get_or ns 0 0) (or_left (leb op 9 && eqb (get_or ns 0 0) (get_or ns 0 0)) (names (get_or ns 0 0) r)
+        (rw (e, eq-eqb (get_or ns 0 0) (get_or ns 0 0) refl) refl))
 
     rest_found : (op : ℕ) (ns : List ℕ) (r : Code) → Found (neutral op ns r) → Found r
     unfolding names

@@ -19,7 +19,8 @@ use Rattle.owners.specs.Owners.{is_owner, owner_of}
 use Rattle.owners.specs.declared.Owner.{Owner}
 use Rattle.machines.specs.Fetched.{Fetched, plain, returns, calls, branches, saves, jumps, bad}
 use Rattle.machines.specs.Machine.{Program, tree_program, linear_program, no_counts, Ended}
-use Rattle.machines.specs.Runs.{Memory, Ran, right_lengths, lowest_unfit, fit_globals, by_owner, refused_run, started, start_state, reported, program_run, on_tree}
+use Rattle.machines.specs.Runs.{Memory, Ran, right_lengths, lowest_unfit, fit_globals, by_owner, refused_run, started, start_state, reported, program_run}
+use Rattle.machines.specs.Runs.{on_tree}
 use Rattle.machines.specs.Runs.{on_linear, checked_run, linear_run}
 use Rattle.files.specs.Valid.{Bytes}
 use Rattle.sound.specs.laws.Programs.{FetchedOk, ProgramOk}

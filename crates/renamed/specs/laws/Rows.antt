@@ -5,7 +5,8 @@ use Rattle.fields.specs.Field.{bit_at, field_at, field_read, pick_field}
 use Rattle.files.specs.Codes.{shape_of}
 use Rattle.files.specs.Code.{done, neutral, return, put, simple}
 use Rattle.files.specs.Reading.{got, with_field, with_list, with_deep, shaped, head_at, before, after, items, deep_of, list_at}
-use Rattle.files.specs.Entries.{constant, global, template, then, field, field_got, tag_width, constant_at, kind_at, entry_at, entries_at, zero_bits, nothing_more}
+use Rattle.files.specs.Entries.{constant, global, template, then, field, field_got, tag_width, constant_at, kind_at, entry_at, entries_at, zero_bits}
+use Rattle.files.specs.Entries.{nothing_more}
 use Rattle.files.specs.Tree.{Template, template_at, templates_at, padded_end, tree_read}
 use Rattle.files.specs.Grammar.{is_empty, is_open, is_closed, entry_of, suits, index_fits, indices_fit, lowest}
 use Rattle.files.specs.Accepted.{or_lowest, tree_checked}
@@ -43,15 +44,15 @@ trimmed_templates =
     ∷ []
 
 sheet_read : tree_checked sheet ≡ got templates 160
-unfolding bit_at field_at field_read pick_field shape_of put simple with_field with_list with_deep shaped head_at before after items deep_of list_at then field field_got
-    tag_width constant_at kind_at entry_at entries_at zero_bits nothing_more template_at templates_at padded_end tree_read is_empty is_open is_closed entry_of suits index_fits
-    indices_fit lowest or_lowest tree_checked
+unfolding bit_at field_at field_read pick_field shape_of put simple with_field with_list with_deep shaped head_at before after items deep_of list_at then field
+    field_got tag_width constant_at kind_at entry_at entries_at zero_bits nothing_more template_at templates_at padded_end tree_read is_empty is_open is_closed
+    entry_of suits index_fits indices_fit lowest or_lowest tree_checked
 sheet_read = refl
 
 trimmed_read : tree_checked trimmed_sheet ≡ got trimmed_templates 96
-unfolding bit_at field_at field_read pick_field shape_of put simple with_field with_list with_deep shaped head_at before after items deep_of list_at then field field_got
-    tag_width constant_at kind_at entry_at entries_at zero_bits nothing_more template_at templates_at padded_end tree_read is_empty is_open is_closed entry_of suits index_fits
-    indices_fit lowest or_lowest tree_checked
+unfolding bit_at field_at field_read pick_field shape_of put simple with_field with_list with_deep shaped head_at before after items deep_of list_at then field
+    field_got tag_width constant_at kind_at entry_at entries_at zero_bits nothing_more template_at templates_at padded_end tree_read is_empty is_open is_closed
+    entry_of suits index_fits indices_fit lowest or_lowest tree_checked
 trimmed_read = refl
 
 entries_same : (t : ℕ) → (get_or trimmed_templates t no_template).entries ≡ (get_or (trim (reached templates) templates) t no_template).entries
@@ -68,7 +69,8 @@ code_same (suc (suc t)) = refl
 
 pub row : (b o : ℕ) (m : Memory) → EndAlike-renamed (checked_run sheet b o m) (checked_run trimmed_sheet b o m)
 row =
-    tree_reached_alike sheet templates 160 sheet_read trimmed_sheet trimmed_templates (record { same_entries = entries_same; same_code = code_same }) trimmed_read
+    tree_reached_alike sheet templates 160 sheet_read trimmed_sheet trimmed_templates
+    (record { same_entries = entries_same; same_code = code_same }) trimmed_read
 
 -- its list: 0 0 0, 0 1 gone, 0 2 1, 0 3 2, 1 0 gone, 1 1 gone, 2 0 1
 abbrev sheet_list : List ℕ

@@ -96,7 +96,8 @@ module _ (keep : ℕ → Bool) (ts : List Template) where
     pub not_empty : 0 < length ts
     pub few : length ts ≤ 64
     pub named : (t : ℕ) → t < length ts → keep t ≡ true
-        → Names (λ n. (u : ℕ) → entry_of (get_or ts t no_template).entries n ≡ some (template u) → (keep u ≡ true) × (u < length ts)) (get_or ts t no_template).code
+        → Names (λ n. (u : ℕ) → entry_of (get_or ts t no_template).entries n ≡ some (template u)
+        → (keep u ≡ true) × (u < length ts)) (get_or ts t no_template).code
 
   -- the new number of a template that stays
   pub record Renumbered (t t' : ℕ) : Type 0 where
@@ -122,7 +123,8 @@ module _ (keep : ℕ → Bool) (ts : List Template) where
     unfolding trim_template sift reindex
     no_template_lem = refl
 
-    trim_at : (t : ℕ) → t < length ts → keep t ≡ true → get_or (trim keep ts) (rank keep 0 t) no_template ≡ trim_template (rank keep 0) (get_or ts t no_template)
+    trim_at : (t : ℕ) → t < length ts → keep t ≡ true
+        → get_or (trim keep ts) (rank keep 0 t) no_template ≡ trim_template (rank keep 0) (get_or ts t no_template)
     unfolding trim
     trim_at t h e =
         let z : 0 + t ≡ t = omega arith in

@@ -56,7 +56,8 @@ module _ (s : List ℕ) (ts : List Template) (q : ℕ) where
   keeps e = leads_keep s ts q e (stays ts) (first_stays s ts q e) (stays_leads ts (tree_writable s ts q (checked_read s ts q e)).each)
 
   -- the tree machine, request 4's check left aside
-  pub tree_trimmed_ends : tree_checked s ≡ got ts q → (b o : ℕ) (m : Memory) → EndAlike-renamed (checked_run s b o m) (checked_run (tree_file (trimmed ts)) b o m)
+  pub tree_trimmed_ends : tree_checked s ≡ got ts q → (b o : ℕ) (m : Memory)
+      → EndAlike-renamed (checked_run s b o m) (checked_run (tree_file (trimmed ts)) b o m)
   tree_trimmed_ends e = tree_trim_alike (stays ts) ts (keeps e) read_again written s (tree_file (trimmed ts)) e (trimmed_checked s ts q e)
 
   -- where the file flattens its trimmed file does

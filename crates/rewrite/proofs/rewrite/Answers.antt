@@ -41,48 +41,8 @@ put_code-there-requires c =
     let e = c.put_field-there.ensures in
     let g = ap length e.1 ∙ put_length _ _ _ in record { s_len_bound = (p.s_len_bound.0, omega (arith, g, v.0, p.s_len_bound.1), p.s_len_bound.2, left_small _ _ _ _ l c.loop-left-test.true _ 0 c.bits_at-code.ensures.0, m.1); count_bound = (omega (arith, k, m), omega (arith, m, v.0, v.1, g, e.0, p.s_len_bound.3)) }
 
-pub overflow_mul-count : goal.overflow_mul-count
-overflow_mul-count c =
-    let p = c.requires in
-    let v = c.loop-left.invariant in
-    let l = v.2 p.tokens_at in
-    let k = left_code _ _ _ _ l c.loop-left-test.true in
-    let counted = c.operand_count-count.ensures ∙ ap operand_count c.shape_of.ensures in
-    let m = left_operands _ _ _ _ l c.loop-left-test.true _ _ c.bits_at-code.ensures.0 counted in
-    omega (arith, k, m, p.s_len_bound.0)
-
-pub overflow_add-count : goal.overflow_add-count
-overflow_add-count c =
-    let p = c.requires in
-    let v = c.loop-left.invariant in
-    let l = v.2 p.tokens_at in
-    let k = left_code _ _ _ _ l c.loop-left-test.true in
-    let counted = c.operand_count-count.ensures ∙ ap operand_count c.shape_of.ensures in
-    let m = left_operands _ _ _ _ l c.loop-left-test.true _ _ c.bits_at-code.ensures.0 counted in
-    omega (arith, k, m, p.s_len_bound.0)
-
 pub past-here-requires : goal.past-here-requires
 past-here-requires c =
-    let p = c.requires in
-    let v = c.loop-left.invariant in
-    let l = v.2 p.tokens_at in
-    let k = left_code _ _ _ _ l c.loop-left-test.true in
-    let counted = c.operand_count-count.ensures ∙ ap operand_count c.shape_of.ensures in
-    let m = left_operands _ _ _ _ l c.loop-left-test.true _ _ c.bits_at-code.ensures.0 counted in
-    omega (arith, k, m, p.s_len_bound.0)
-
-pub overflow_mul-left : goal.overflow_mul-left
-overflow_mul-left c =
-    let p = c.requires in
-    let v = c.loop-left.invariant in
-    let l = v.2 p.tokens_at in
-    let k = left_code _ _ _ _ l c.loop-left-test.true in
-    let counted = c.operand_count-count.ensures ∙ ap operand_count c.shape_of.ensures in
-    let m = left_operands _ _ _ _ l c.loop-left-test.true _ _ c.bits_at-code.ensures.0 counted in
-    omega (arith, k, m, p.s_len_bound.0)
-
-pub overflow_add-left : goal.overflow_add-left
-overflow_add-left c =
     let p = c.requires in
     let v = c.loop-left.invariant in
     let l = v.2 p.tokens_at in
@@ -100,16 +60,6 @@ overflow_sub-left c =
     let counted = c.operand_count-count.ensures ∙ ap operand_count c.shape_of.ensures in
     let m = left_operands _ _ _ _ l c.loop-left-test.true _ _ c.bits_at-code.ensures.0 counted in
     omega (arith, k, m, p.s_len_bound.0)
-
-pub loop-left-smaller : goal.loop-left-smaller
-loop-left-smaller c =
-    let p = c.requires in
-    let v = c.loop-left.invariant in
-    let l = v.2 p.tokens_at in
-    let k = left_code _ _ _ _ l c.loop-left-test.true in
-    let counted = c.operand_count-count.ensures ∙ ap operand_count c.shape_of.ensures in
-    let m = left_operands _ _ _ _ l c.loop-left-test.true _ _ c.bits_at-code.ensures.0 counted in
-    omega (arith, k, m)
 
 pub loop-left-preserved : goal.loop-left-preserved
 loop-left-preserved c =

@@ -44,7 +44,8 @@ unfolding tokens tokens_bits token_bits body_bits operands_bits
 tokens_bits_lem done ts = refl
 tokens_bits_lem (neutral op ns r) ts = rw (tokens_bits_lem r ts) (sym (append_assoc (bits_of 5 op ++ operands_bits ns) (body_bits r) (tokens_bits ts)))
 tokens_bits_lem (return r) ts = rw (append-nil (bits_of 5 1), tokens_bits_lem r ts) (sym (append_assoc (bits_of 5 1) (body_bits r) (tokens_bits ts)))
-tokens_bits_lem (call n r) ts = rw (append-nil (bits_of 8 n), tokens_bits_lem r ts) (sym (append_assoc (bits_of 5 2 ++ bits_of 8 n) (body_bits r) (tokens_bits ts)))
+tokens_bits_lem (call n r) ts = rw (append-nil (bits_of 8 n), tokens_bits_lem r ts) (sym (append_assoc (bits_of 5 2
+    ++ bits_of 8 n) (body_bits r) (tokens_bits ts)))
 tokens_bits_lem (unless_false x y r) ts =
     let b = tokens_bits ts in
     let inner : tokens_bits (tokens y (end ∷ tokens r ts)) ≡ list_bits y ++ (body_bits r ++ b) =

@@ -1,5 +1,6 @@
 -- What the plain rules leave, in eight cases: what holds in each of them holds of every plain rule that goes on. Assumes nothing.
-use Rattle.std.specs.Prelude.{◌≡◌, Bool, true, false, cond, not, ◌&&◌, [], ◌∷◌, reverse, ◌⊎◌, ℕ, ◌+◌, ◌-◌, ◌<◌, ◌≤◌, ◌^◌, ℤ, ◌-ℤ◌, get_or, set, take, ltb, leb, eqb}
+use Rattle.std.specs.Prelude.{◌≡◌, Bool, true, false, cond, not, ◌&&◌, [], ◌∷◌, reverse, ◌⊎◌, ℕ, ◌+◌, ◌-◌, ◌<◌, ◌≤◌, ◌^◌, ℤ, ◌-ℤ◌, get_or, set, take, ltb}
+use Rattle.std.specs.Prelude.{leb, eqb}
 use Rattle.std.proofs.Math.Path.{refl}
 use Rattle.std.proofs.Math.Option.{Option, none, some}
 use Rattle.std.proofs.Common.{inl, inr, arith, ltb-true, leb-true, eqb-true}
@@ -101,8 +102,8 @@ module _ (m : Mem) (r : Regs) (P : Held → Type 0) where
   two_effect f h = checked P (eqb r.sp 2) 10 _ (λ k. checked P (eqb (tag_of (under m r)) 6 && eqb (tag_of (top m r)) 6) 14 _ (λ l. h _ _))
 
   pub effect : (i : Plain) → Effects i m r P → Leaves P (plain_rule i m r)
-  unfolding plain_rule literal_rule closure_rule held_rule global_rule set_global_rule local_rule set_local_rule push_rule make_env_rule check_args_rule cons_rule car_rule
-      cdr_rule eqv_rule add_rule sub_rule less_rule floor_div_rule
+  unfolding plain_rule literal_rule closure_rule held_rule global_rule set_global_rule local_rule set_local_rule push_rule make_env_rule check_args_rule
+      cons_rule car_rule cdr_rule eqv_rule add_rule sub_rule less_rule floor_div_rule
   effect (Literal c) f = f.valued c (from_literal refl)
   effect (Closure t) f = checked P (leb (r.st + 1) 2048) 18 _ (λ k. f.closed t refl (leb-true _ 2048 k))
   effect (Global g) f =

@@ -39,8 +39,8 @@ module _ (m : Mem) (r : Regs) where
       (need_other (eqb (tag_of (under m r)) 6 && eqb (tag_of (top m r)) 6) 14 (λ e. omega arith) (h _ _))
 
   pub plain_never : (i : Plain) → Never16 (plain_rule i m r)
-  unfolding plain_rule literal_rule closure_rule global_rule set_global_rule local_rule set_local_rule push_rule make_env_rule check_args_rule cons_rule car_rule cdr_rule
-      eqv_rule add_rule sub_rule less_rule floor_div_rule
+  unfolding plain_rule literal_rule closure_rule global_rule set_global_rule local_rule set_local_rule push_rule make_env_rule check_args_rule cons_rule
+      car_rule cdr_rule eqv_rule add_rule sub_rule less_rule floor_div_rule
   plain_never (Literal c) = goes_on
   plain_never (Closure t) = need_other (leb (r.st + 1) 2048) 18 (λ e. omega arith) goes_on
   plain_never (Global g) = held_never (get_or m.globals g 0)

@@ -27,7 +27,8 @@ abbrev left : ℕ → Res Held
 left c = on (regs c 0 0 0) (mem [] (0 ∷ 0 ∷ []) [])
 
 -- -7 by 2, 7 by -2, -7 by -2, the least by -1, by 1, 0 by -5, 1 by 0; 2 - 5; is -1 less than 0?
-quotients : (on_two floor_div_rule 0xFFFFFFFFFFF9 2 ≡ left (int_cell 0xFFFFFFFFFFFC)) × (on_two floor_div_rule 7 0xFFFFFFFFFFFE ≡ left (int_cell 0xFFFFFFFFFFFC))
+quotients : (on_two floor_div_rule 0xFFFFFFFFFFF9 2 ≡ left (int_cell 0xFFFFFFFFFFFC))
+    × (on_two floor_div_rule 7 0xFFFFFFFFFFFE ≡ left (int_cell 0xFFFFFFFFFFFC))
     × (on_two floor_div_rule 0xFFFFFFFFFFF9 0xFFFFFFFFFFFE ≡ left (int_cell 3)) × (on_two floor_div_rule 0x800000000000 0xFFFFFFFFFFFF ≡ wrong 15)
     × (on_two floor_div_rule 0x800000000000 1 ≡ left (int_cell 0x800000000000)) × (on_two floor_div_rule 0 0xFFFFFFFFFFFB ≡ left (int_cell 0))
     × (on_two floor_div_rule 1 0 ≡ wrong 23) × (on_two sub_rule 2 5 ≡ left (int_cell 0xFFFFFFFFFFFD)) × (on_two less_rule 0xFFFFFFFFFFFF 0 ≡ left true_cell)

@@ -6,7 +6,8 @@ use Rattle.std.proofs.Math.Option.{Option, none, some}
 use Prim.Native.Nat.{ℕ, zero, suc, ◌+◌, ◌-◌, ◌<◌, ◌≤◌}
 use borrow.Author.Tests.{ltb-true, eqb-false}
 use Rattle.cells.specs.laws.Laws.{clash}
-use Rattle.cells.specs.Cells.{tag_of, undefined_cell, closure_env, pair_first, pair_second, layer_parent, layer_count, frame_count, frame_env, ValueCell, cell_of, Fits}
+use Rattle.cells.specs.Cells.{tag_of, undefined_cell, closure_env, pair_first, pair_second, layer_parent, layer_count, frame_count, frame_env, ValueCell}
+use Rattle.cells.specs.Cells.{cell_of, Fits}
 use Rattle.cells.specs.declared.Value.{Value}
 use Rattle.cells.specs.declared.Value.TheVariants.{False, True, Null, Unspecified, Integer, Procedure, Pair, NoValue}
 use Rattle.rules.specs.Rules.{Data, walk}

@@ -7,13 +7,15 @@ use Rattle.std.proofs.lemmas.List.{length-reverse}
 use Rattle.std.proofs.lemmas.List.Edits.{sets}
 use Rattle.std.proofs.Math.Seq.{length-sets}
 use Rattle.runs.specs.Runs.{zeroed, part}
-use Rattle.cells.specs.Cells.{tag_of, unspecified_cell, undefined_cell, closure_cell, pair_cell, layer_cell, layer_parent, frame_cell, frame_count, frame_template}
+use Rattle.cells.specs.Cells.{tag_of, unspecified_cell, undefined_cell, closure_cell, pair_cell, layer_cell, layer_parent, frame_cell, frame_count}
+use Rattle.cells.specs.Cells.{frame_template}
 use Rattle.cells.specs.Cells.{frame_env, frame_place}
 use Rattle.cells.specs.Cells.{cell_of, Fits}
 use Rattle.cells.specs.laws.Laws.{closure_back, pair_back, layer_back, frame_back}
 use Rattle.cells.specs.declared.Value.{Value}
 use Rattle.rules.specs.State.{mem, regs, Held, ok}
-use Rattle.rules.specs.Rules.{Data, applied, called, back_to, top, under, last_frame, frame_base, with_frame, without_frame, plain_rule, call_rule, make_cont_rule}
+use Rattle.rules.specs.Rules.{Data, applied, called, back_to, top, under, last_frame, frame_base, with_frame, without_frame, plain_rule, call_rule}
+use Rattle.rules.specs.Rules.{make_cont_rule}
 use Rattle.rules.specs.Rules.{return_rule}
 use Rattle.rules.specs.laws.Effects.{ConstantCell, unspecified_constant, From, from_literal, from_v, from_global, from_local, from_pair, from_constant}
 use Rattle.rules.specs.laws.Effects.{held, leaves_ok, effect}

@@ -76,7 +76,8 @@ tree_read_ok : (s : List ℕ) → AllGot (FileOk TemplateOk) (tree_read s)
 unfolding tree_read padded_end
 tree_read_ok s =
     cond_all (FileOk TemplateOk) (leb (length s) 65536) _ (refused 1 0)
-    (λ i. file_ok TemplateOk s (λ T p. templates_at s T 0 T p) (λ ts q. padded_end s ts q) (λ T p few. templates_read s (leb-true (length s) 65536 i) T few T 0 p)
+    (λ i. file_ok TemplateOk s (λ T p. templates_at s T 0 T p) (λ ts q. padded_end s ts q)
+    (λ T p few. templates_read s (leb-true (length s) 65536 i) T few T 0 p)
     (λ ts q h. then_all (FileOk TemplateOk) (zero_bits s (to_byte q) q ts) _
     (λ us r e. nothing_all (FileOk TemplateOk) s r us (got_all (FileOk TemplateOk) (zero_all (FileOk TemplateOk) s (to_byte q) q ts h) e))))
     (λ i. tt)

@@ -108,16 +108,6 @@ returns-in-Nothing c =
       table_len = c.collect.ensures.table_len;
     }
 
-pub overflow_add-own-in-List : goal.overflow_add-own-in-List
-overflow_add-own-in-List c = omega (arith, c.loop-past.invariant.3)
-
-pub loop-past-smaller : goal.loop-past-smaller
-loop-past-smaller c =
-    let pre = c.requires in
-    let w = pre.2 in
-    let k = c.loop-past.invariant.1 w in
-    omega (arith, (from_low k.from).0, w.few)
-
 pub loop-past-preserved : goal.loop-past-preserved
 unfolding own_list
 loop-past-preserved c =

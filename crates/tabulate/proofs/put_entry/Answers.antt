@@ -23,12 +23,6 @@ put_numbered-requires-in-7 c =
     let pre = c.requires in
     (omega (arith, pre.0), omega arith, omega (arith, pre.2, bits_of_7 _ c.in-7.is))
 
-pub overflow_cast-kind : goal.overflow_cast-kind
-overflow_cast-kind c =
-    let pre = c.requires in
-    let k = slot_constant _ pre.1 c.in_default.in_default-own.rest.0.1 c.in_default.in_default-own.rest.1 in
-    omega (arith, k.1)
-
 pub put_constant-requires : goal.put_constant-requires
 put_constant-requires c =
     let k = slot_constant _ c.requires.1 c.in_default.in_default-own.rest.0.1 c.in_default.in_default-own.rest.1 in

@@ -57,12 +57,6 @@ returns-in-Nothing c =
     (own_list_is (c.loop-past.invariant.2 w).from w.few.few _ _ (list_is _ _ _ _ _ (sym c.in-Done.is ∙ c.read_list.ensures))) c.put_template-place.ensures.put_at)
     (next_as c.in-Nothing.is (c.next_closure.ensures (from_walk (c.loop-past.invariant.2 w).from) _))
 
-pub overflow_add-own-in-List : goal.overflow_add-own-in-List
-overflow_add-own-in-List c = omega (arith, c.loop-past.invariant.3)
-
-pub loop-past-smaller : goal.loop-past-smaller
-loop-past-smaller c = omega (arith, c.loop-past.invariant.3)
-
 pub loop-past-preserved : goal.loop-past-preserved
 loop-past-preserved c =
     let pre = c.requires in

@@ -5,9 +5,6 @@ use mathlib.Core.Path.{refl, sym}
 use native.Mathlib.Omega.{arith}
 use Rattle.tabulate.proofs.tabulate_checked.Goals as goal
 
-pub overflow_add-size : goal.overflow_add-size
-overflow_add-size c = let f = checked_short c.requires.1 in omega (arith, f.1)
-
 pub returns-then-out-size : goal.returns-then-out-size
 returns-then-out-size c =
     let all = short_output_lem c.requires.1 _ c.if-out-size.true in

@@ -209,7 +209,8 @@ pub told_class : {s : List ℕ} {p : ℕ} {z : BitPlace} {x : Facts} → ListIs 
     → eqb x.class 2 ≡ eqb (class_of c) 2
 told_class w c q e = let v = got_value (sym w.read ∙ e) in rw (← w.class, v.0) refl
 
-pub told_none : {A : Type 0} (s : List ℕ) (p : ℕ) (n : ℕ) (z : BitPlace) {r : Listed} → r ≡ RefusedList n z → r ≡ list_told (list_at s 15 p) → (c : Basic) (q : ℕ)
+pub told_none : {A : Type 0} (s : List ℕ) (p : ℕ) (n : ℕ) (z : BitPlace) {r : Listed} → r ≡ RefusedList n z → r ≡ list_told (list_at s 15 p)
+    → (c : Basic) (q : ℕ)
     → list_at s 15 p ≡ got c q → A
 told_none s p n z e f c q g = refused_got (sym (list_refused s 15 p n z (sym e ∙ f)) ∙ g)
 

@@ -49,7 +49,8 @@ module _ (slot : ℕ) where
   global_of (global g) i f e = (ap global (omega arith), omega arith)
   global_of (template m) i f e = absurd (omega arith)
 
-  template_of_lem : (x : Entry) → slot ≡ slot_of x → Fits x → slot / 0x1000000000000 ≡ 7 → (x ≡ template (slot % 0x1000000000000)) × (slot % 0x1000000000000 < 256)
+  template_of_lem : (x : Entry) → slot ≡ slot_of x → Fits x → slot / 0x1000000000000 ≡ 7
+      → (x ≡ template (slot % 0x1000000000000)) × (slot % 0x1000000000000 < 256)
   unfolding slot_of Fits
   template_of_lem (constant t x) i f e = let w = width_48 t x f.1 in absurd (omega (arith, f.0))
   template_of_lem (global g) i f e = absurd (omega arith)

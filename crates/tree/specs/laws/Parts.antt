@@ -110,7 +110,8 @@ tree_parts s {ts} {q} e = size (leb (length s) 65536) refl e
     number T p h f false b i j e = refused_got e
 
     size : (b : Bool) → leb (length s) 65536 ≡ b
-        → cond b (then (field s 0 8) (λ T p. valid 0 (leb 1 T && leb T 64) (then (templates_at s T 0 T p) (λ us r. padded_end s us r)))) (refused 1 0) ≡ got ts q
+        → cond b (then (field s 0 8) (λ T p. valid 0 (leb 1 T && leb T 64) (then (templates_at s T 0 T p) (λ us r. padded_end s us r)))) (refused 1 0)
+        ≡ got ts q
         → FileParts s ts q
     size true i e = then_led (field s 0 8) _ e (λ T p first on. number T p (leb-true (length s) 65536 i) first (leb 1 T) (leb T 64) refl refl on)
     size false i e = refused_got e

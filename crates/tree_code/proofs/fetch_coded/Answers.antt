@@ -9,17 +9,6 @@ use Rattle.machines.specs.Instruction.{number, form_of, fetched_as, Places}
 use Rattle.tree_code.specs.laws.LineLaws.{line_cut, line_transfer, line_neutral}
 use Rattle.tree_code.proofs.fetch_coded.Goals as goal
 
-pub overflow_mul-bits : goal.overflow_mul-bits
-overflow_mul-bits c = omega (arith, c.operand_count.ensures.1)
-
-pub overflow_add-bits : goal.overflow_add-bits
-overflow_add-bits c = omega (arith, c.operand_count.ensures.1)
-
-pub past-next-requires : goal.past-next-requires
-past-next-requires c =
-    let fits = lies c.args.file.now c.args.at.0 (5 + 8 * c.operand_count.result) c.within.ensures c.if-within.true in
-    omega (arith, fits, c.requires.0)
-
 pub fetch_transfer-requires : goal.fetch_transfer-requires
 fetch_transfer-requires c =
     let fits = lies c.args.file.now c.args.at.0 (5 + 8 * c.operand_count.result) c.within.ensures c.if-within.true in

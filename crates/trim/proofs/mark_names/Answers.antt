@@ -66,28 +66,6 @@ past-here-requires c =
     let counted = c.operand_count-count.ensures ∙ ap operand_count c.shape_of.ensures in
     let m = marking_operands l t _ _ c.bits_at-code.ensures.0 counted in omega (arith, k, m, p.0)
 
-pub overflow_mul-left : goal.overflow_mul-left
-overflow_mul-left c =
-    let p = c.requires in
-    let v = c.loop-left.invariant in
-    let l = v.1 p.2 in
-    let t = c.loop-left-test.true in
-    let k = marking_code l t in
-    let counted = c.operand_count-count.ensures ∙ ap operand_count c.shape_of.ensures in
-    let m = marking_operands l t _ _ c.bits_at-code.ensures.0 counted in
-    omega (arith, k, m, p.0)
-
-pub overflow_add-left : goal.overflow_add-left
-overflow_add-left c =
-    let p = c.requires in
-    let v = c.loop-left.invariant in
-    let l = v.1 p.2 in
-    let t = c.loop-left-test.true in
-    let k = marking_code l t in
-    let counted = c.operand_count-count.ensures ∙ ap operand_count c.shape_of.ensures in
-    let m = marking_operands l t _ _ c.bits_at-code.ensures.0 counted in
-    omega (arith, k, m, p.0)
-
 pub overflow_sub-left : goal.overflow_sub-left
 overflow_sub-left c =
     let p = c.requires in
@@ -98,17 +76,6 @@ overflow_sub-left c =
     let counted = c.operand_count-count.ensures ∙ ap operand_count c.shape_of.ensures in
     let m = marking_operands l t _ _ c.bits_at-code.ensures.0 counted in
     omega (arith, k, m, p.0)
-
-pub loop-left-smaller : goal.loop-left-smaller
-loop-left-smaller c =
-    let p = c.requires in
-    let v = c.loop-left.invariant in
-    let l = v.1 p.2 in
-    let t = c.loop-left-test.true in
-    let k = marking_code l t in
-    let counted = c.operand_count-count.ensures ∙ ap operand_count c.shape_of.ensures in
-    let m = marking_operands l t _ _ c.bits_at-code.ensures.0 counted in
-    omega (arith, k, m)
 
 pub loop-left-preserved : goal.loop-left-preserved
 loop-left-preserved c =

@@ -12,12 +12,6 @@ put_line-there-requires c = let p = c.requires in (omega (arith, p.0), p.1, omeg
 pub loop-n-init : goal.loop-n-init
 loop-n-init c = (omega arith, omega arith, omega arith, refl, lining_none _ _ _ _ _)
 
-pub bounds-row-n : goal.bounds-row-n
-bounds-row-n c =
-    let p = c.requires in
-    let v = c.loop-n.invariant in
-    omega (arith, p.2, p.3, c.loop-n-test.true)
-
 pub put_line-there-requires-in-loop-n : goal.put_line-there-requires-in-loop-n
 put_line-there-requires-in-loop-n c =
     let p = c.requires in

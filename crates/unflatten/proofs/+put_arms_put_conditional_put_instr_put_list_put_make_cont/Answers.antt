@@ -8,9 +8,6 @@ use Rattle.unflatten.specs.laws.PutLaws.{puts_none, puts_some, two_first, two_fr
 use Rattle.unflatten.specs.laws.PutLaws.{head_as, head_none, going_begun, going_no_end, going_end, going_none, going_on}
 use Rattle.unflatten.proofs.+put_arms_put_conditional_put_instr_put_list_put_make_cont.Goals as goal
 
-pub put_arms-overflow_add-p : goal.put_arms-overflow_add-p
-put_arms-overflow_add-p t c = omega (arith, c.requires.0, c.requires.4.first, c.requires.4.order, c.requires.4.second, c.requires.4.inside)
-
 pub put_arms-put_list-requires : goal.put_arms-put_list-requires
 put_arms-put_list-requires t c = (omega (arith, c.decreases), (c.requires.0, c.requires.1, c.requires.2, c.requires.4.first, omega (arith, c.requires.4.order, c.requires.4.second, c.requires.4.inside), c.requires.3, omega (arith, c.requires.4.room)))
 
@@ -44,9 +41,6 @@ put_arms-returns-in-Past t c = two_from _ _ (omega (arith, c.requires.4.room)) (
 
 pub put_conditional-put_field-next-requires : goal.put_conditional-put_field-next-requires
 put_conditional-put_field-next-requires t c = (c.requires.4, omega arith, omega arith, omega (arith, c.requires.5))
-
-pub put_conditional-overflow_sub-levels : goal.put_conditional-overflow_sub-levels
-put_conditional-overflow_sub-levels t c = omega (arith, c.requires.6.within.4)
 
 pub put_conditional-put_arms-requires : goal.put_conditional-put_arms-requires
 put_conditional-put_arms-requires t c =
@@ -124,11 +118,6 @@ put_list-shape_of-out-then-k t c = c.loop-p.invariant.long
 pub put_list-returns-then-k : goal.put_list-returns-then-k
 put_list-returns-then-k t c = going_no_end _ _ _ _ _ _ _ _ _ _ _ _ _ c.loop-p.invariant c.if-p-e.true c.if-k.true
 
-pub put_list-put_field-past-requires : goal.put_list-put_field-past-requires
-put_list-put_field-past-requires t c =
-    let g = c.loop-p.invariant in
-    (omega (arith, c.requires.5, g.long), omega arith, omega arith, omega (arith, g.room))
-
 pub put_list-shape_of-out-then-p-e : goal.put_list-shape_of-out-then-p-e
 put_list-shape_of-out-then-p-e t c = c.put_field-past.auto.out ∙ c.loop-p.invariant.long
 
@@ -161,15 +150,6 @@ put_list-loop-p-preserved t c =
 pub put_make_cont-put_field-next-requires : goal.put_make_cont-put_field-next-requires
 put_make_cont-put_field-next-requires t c = (c.requires.4, omega arith, omega arith, omega (arith, c.requires.5))
 
-pub put_make_cont-overflow_add-p : goal.put_make_cont-overflow_add-p
-put_make_cont-overflow_add-p t c = omega (arith, c.requires.0, c.requires.3, c.requires.6.within.0, c.requires.6.within.1)
-
-pub put_make_cont-bounds-s-p : goal.put_make_cont-bounds-s-p
-put_make_cont-bounds-s-p t c = omega (arith, c.requires.3, c.requires.6.within.0, c.requires.6.within.1)
-
-pub put_make_cont-overflow_cast-s : goal.put_make_cont-overflow_cast-s
-put_make_cont-overflow_cast-s t c = omega (arith, c.shared_slice_known-3-1.given (c.args.p + 3))
-
 pub put_make_cont-put_field-saved-requires : goal.put_make_cont-put_field-saved-requires
 put_make_cont-put_field-saved-requires t c =
     let k = c.put_field-next.auto.out in
@@ -180,9 +160,6 @@ put_make_cont-put_field-saved-requires t c =
       omega (arith, c.requires.5, c.requires.6.within.0, c.requires.6.within.1, k, f.0),
     )
 
-pub put_make_cont-overflow_sub-levels : goal.put_make_cont-overflow_sub-levels
-put_make_cont-overflow_sub-levels t c = omega (arith, c.requires.6.within.2)
-
 pub put_make_cont-put_list-requires : goal.put_make_cont-put_list-requires
 put_make_cont-put_list-requires t c =
     let k = c.put_field-next.auto.out in
@@ -190,9 +167,6 @@ put_make_cont-put_list-requires t c =
     let f = c.put_field-next.ensures in
     let i = c.put_field-saved.ensures in
     (omega (arith, c.decreases, c.requires.6.within.2), (c.requires.0, c.requires.1, c.requires.2, c.requires.6.within.1, c.requires.3, omega (arith, c.requires.4, k, m), omega (arith, c.requires.5, c.requires.6.within.0, c.requires.6.within.1, k, m, f.0, i.0)))
-
-pub put_make_cont-overflow_add-left : goal.put_make_cont-overflow_add-left
-put_make_cont-overflow_add-left t c = omega (arith, c.requires.0, c.requires.3, c.requires.6.within.0, c.requires.6.within.1)
 
 pub put_make_cont-shape_of-out-in-Nothing : goal.put_make_cont-shape_of-out-in-Nothing
 put_make_cont-shape_of-out-in-Nothing t c = c.put_list.auto.out ∙ c.put_field-saved.auto.out ∙ c.put_field-next.auto.out

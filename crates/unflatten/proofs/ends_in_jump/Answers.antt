@@ -12,9 +12,6 @@ loop-p-init c = let h = c.requires in (scan_begun _ _ _ (λ z. absurd (omega ari
 pub overflow_add-p-in-loop-p : goal.overflow_add-p-in-loop-p
 overflow_add-p-in-loop-p c = omega (arith, after_low _ _ c.after.ensures)
 
-pub loop-p-smaller : goal.loop-p-smaller
-loop-p-smaller c = omega arith
-
 pub loop-p-preserved : goal.loop-p-preserved
 loop-p-preserved c =
     let h = c.requires in

@@ -3,20 +3,8 @@ use native.Mathlib.Omega.{arith}
 use Rattle.unflatten.specs.laws.GrowLaws.{told_cut, told_read, grows_none, grows_on}
 use Rattle.unflatten.proofs.put_code.Goals as goal
 
-pub overflow_mul-size : goal.overflow_mul-size
-overflow_mul-size c = let h = c.requires in omega (arith, h.0, h.4.inside)
-
 pub returns-in_default : goal.returns-in_default
 returns-in_default c = λ n q e. absurd (told_cut _ _ _ e c.read_three.ensures c.in_default.is)
-
-pub overflow_add-from : goal.overflow_add-from
-overflow_add-from c = let h = c.requires in omega (arith, h.0, h.4.inside)
-
-pub overflow_add-to : goal.overflow_add-to
-overflow_add-to c =
-    let h = c.requires in
-    let z = told_read _ _ _ h.4.read c.read_three.ensures c.in-Read.is in
-    omega (arith, h.0, h.4.inside, z)
 
 pub put_list-requires : goal.put_list-requires
 put_list-requires c =

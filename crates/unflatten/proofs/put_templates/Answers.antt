@@ -33,14 +33,6 @@ returns-in-Stuck c =
     let t = c.loop-own-test.true in
     growing_stuck _ _ _ _ _ _ _ _ _ _ _ _ g t h.2 (c.put_template.ensures.template_grows (this_one _ _ _ _ _ _ _ _ _ _ _ _ g t h.2)) c.in-Stuck.is
 
-pub overflow_add-own : goal.overflow_add-own
-overflow_add-own c =
-    let h = c.requires in
-    omega (arith, c.loop-own-test.true, h.2)
-
-pub loop-own-smaller : goal.loop-own-smaller
-loop-own-smaller c = let t = c.loop-own-test.true in omega (arith, t)
-
 pub loop-own-preserved : goal.loop-own-preserved
 loop-own-preserved c =
     let h = c.requires in

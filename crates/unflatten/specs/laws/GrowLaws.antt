@@ -497,7 +497,8 @@ pub copy_on : (tree o o' : List ℕ) (i : ℕ) → o' ≡ paste o 0 tree i → i
 copy_on tree o o' i e h k =
     let z : 0 + i ≡ i = omega arith in
     let y : suc i ≡ i + 1 = omega arith in
-    ap (λ (l : List ℕ). set l i (get_or tree i 0)) e ∙ ap (λ (j : ℕ). set (paste o 0 tree i) j (get_or tree i 0)) (sym z) ∙ paste-suc o 0 tree i 0 (omega arith) k
+    ap (λ (l : List ℕ). set l i (get_or tree i 0)) e ∙ ap (λ (j : ℕ). set (paste o 0 tree i) j (get_or tree i 0)) (sym z)
+    ∙ paste-suc o 0 tree i 0 (omega arith) k
     ∙ ap (paste o 0 tree) y
 
 pub back_length : (n : ℕ) (ls : List Linear) {ts : List Template} {m : ℕ} → templates_back n ls ≡ got ts m → length ts ≡ length ls

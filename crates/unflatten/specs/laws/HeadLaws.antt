@@ -122,7 +122,8 @@ module _ (s : List ℕ) (l : ℕ) (k : Bool) (p e : ℕ) (lt : p < e) (le : e �
       six = go (eqb op 5) refl
         where
           go : (b : Bool) → eqb op 5 ≡ b → 6 ≤ op
-          go true f = let z : shape_of op ≡ shape_of 5 = ap shape_of (eqb-true op 5 f) in let y : shape_of 5 ≡ 6 = unfold shape_of in refl in absurd (omega arith)
+          go true f = let z : shape_of op ≡ shape_of 5 = ap shape_of (eqb-true op 5 f) in let y : shape_of 5
+              ≡ 6 = unfold shape_of in refl in absurd (omega arith)
           go false f = let z = eqb-false op 5 f in omega arith
 
       is_neutral_lem : is_neutral op ≡ true

@@ -11,7 +11,8 @@ use borrow.Author.Tests.{le-leb, lt-leb}
 use Rattle.files.specs.Codes.{is_neutral, operands}
 use Rattle.files.specs.Code.{Code, done, neutral, return, call, unless_false, make_cont, Instr, neutral_i, return_i, call_i, unless_i, cont_i, put, simple}
 use Rattle.files.specs.Grammar.{each_neutral}
-use Rattle.back.specs.Unflat.{ends_in_jump, last_offset, before_jump, on, test, neutral_back, open_arms, closed_arms, arms_back, unless_back, cont_back, end_back}
+use Rattle.back.specs.Unflat.{ends_in_jump, last_offset, before_jump, on, test, neutral_back, open_arms, closed_arms, arms_back, unless_back, cont_back}
+use Rattle.back.specs.Unflat.{end_back}
 use Rattle.back.specs.Unflat.{first_back, view}
 use Rattle.back.specs.laws.ListBack.{back}
 use Rattle.back.proofs.theorems.Steps.{back_nothing, back_first}
