@@ -1,5 +1,5 @@
 -- Lists of basic code that stand one after the other: what is left of a list where its lists are read one after the other.
-use Rattle.std.specs.Prelude.{ℕ, zero, suc, ◌+◌, ◌*◌, ◌≡◌, List, [], ◌∷◌, ◌++◌, length}
+use Rattle.std.specs.Prelude.{ℕ, ◌+◌, ◌*◌, ◌≡◌, List, [], ◌∷◌, ◌++◌, length}
 use Rattle.files.specs.Reading.{got}
 use Rattle.files.specs.Entries.{Entry}
 use Rattle.files.specs.Tree.{Template}

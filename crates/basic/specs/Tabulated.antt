@@ -1,5 +1,5 @@
 -- The templates of basic byte code (document 02, request 6): tables of entries in place of what the instructions carry.
-use Rattle.std.specs.Prelude.{ℕ, zero, suc, ◌+◌, Bool, true, false, cond, ◌&&◌, ◌||◌, List, [], ◌∷◌, ◌++◌, length, eqb}
+use Rattle.std.specs.Prelude.{ℕ, suc, ◌+◌, Bool, false, cond, ◌&&◌, ◌||◌, List, [], ◌∷◌, ◌++◌, eqb}
 use Rattle.files.specs.Code.{Code, done, neutral, unless_false, make_cont, simple, put}
 use Rattle.files.specs.Entries.{Entry, constant, global, template}
 use Rattle.files.specs.Tree.{Template}

@@ -1,5 +1,5 @@
 -- What basic code that was read is like.
-use Rattle.std.specs.Prelude.{ℕ, zero, suc, ◌+◌, ◌^◌, ◌≤◌, ◌<◌, ◌≡◌, true, List, [], ◌∷◌, length}
+use Rattle.std.specs.Prelude.{ℕ, zero, suc, ◌^◌, ◌≤◌, ◌<◌, ◌≡◌, true, List, [], ◌∷◌, length}
 use Rattle.cells.specs.Numbers.{too_deep}
 use Rattle.files.specs.Codes.{is_neutral, operands}
 use Rattle.files.specs.Reading.{Got, refused}

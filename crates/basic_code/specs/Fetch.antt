@@ -1,16 +1,12 @@
 -- What stands at a place of a basic file, found by the file's bits and a run's links: at unless-false the link is the first bit of the second arm, at make-cont
 -- that of its rest, at closure the place past its list and the number of its template, at a list's end the instruction with which execution goes on (0: none).
 use Prim.Native.Nat.{ℕ, zero, suc, ◌/◌, ◌%◌, ◌<◌, ◌^◌}
-use Rattle.std.specs.Prelude.{Bool, false, ◌&&◌, List, eqb}
+use Rattle.std.specs.Prelude.{◌&&◌, List, eqb, Option, Some, None, Result, Ok, Err}
 use Rattle.std.proofs.Math.Bool.{cond, not}
-use Rattle.fields.specs.declared.Field.{Field}
-use Rattle.fields.specs.declared.Field.TheVariants.{Read, Cut}
 use Rattle.fields.specs.Field.{field_read}
 use Rattle.files.specs.Codes.{shape_of}
 use Rattle.files.specs.Entries.{entry_at}
 use Rattle.files.specs.EntriesRead.{entry_told}
-use Rattle.files.specs.declared.EntryRead.{EntryRead}
-use Rattle.files.specs.declared.EntryRead.TheVariants.{Slot, Refused}
 use Rattle.links.specs.Links.{link_at}
 use Rattle.rules.specs.declared.Plain.TheVariants.{Literal, Closure, Global, SetGlobal}
 use Rattle.machines.specs.Fetched.{Fetched, plain, returns, calls, branches, saves, bad, plainly}
@@ -18,6 +14,8 @@ use Rattle.machines.specs.Machine.{Program}
 use Rattle.machines.specs.Slots.{slot_at, slot_resolve}
 use Rattle.basic_code.specs.declared.BasicInstruction.{BasicInstruction}
 use Rattle.basic_code.specs.declared.BasicInstruction.TheVariants.{Ready, Return, Call, Branch, Save, Bad}
+use Rattle.files.specs.declared.Refusal.{Refusal}
+use Rattle.cells.specs.declared.BitPlace.{BitPlace}
 
 -- what the code's own instruction is
 unfoldable pub read_as : BasicInstruction → Fetched
@@ -39,14 +37,14 @@ SavedFits Bad = Unit
 
 -- ---- an instruction
 -- on with a field's value and the place past it
-unfoldable pub with_read : (ℕ → ℕ → Fetched) → Field → Fetched
-with_read k (Read v q) = k v q.0
-with_read k Cut = bad
+unfoldable pub with_read : (ℕ → ℕ → Fetched) → Option (ℕ × BitPlace) → Fetched
+with_read k (Some (v, q)) = k v q.0
+with_read k None = bad
 
 -- a literal, by the slot of the entry that stands in it
-unfoldable pub literal_by : EntryRead → Fetched
-literal_by (Slot x q) = plain (Literal x) q.0
-literal_by (Refused n q) = bad
+unfoldable pub literal_by : Result (ℕ × BitPlace) (Refusal BitPlace) → Fetched
+literal_by (Ok (x, q)) = plain (Literal x) q.0
+literal_by (Err e) = bad
 
 module _ (s L : List ℕ) where
   -- the instruction at p whose code v ends at q, by the code's shape
@@ -80,10 +78,10 @@ module _ (s L : List ℕ) where
   unfolding instruction_at
   end_as q = cond (eqb q 0) bad (instruction_at q)
 
-  unfoldable pub here_as : ℕ → Field → Fetched
+  unfoldable pub here_as : ℕ → Option (ℕ × BitPlace) → Fetched
   unfolding code_as end_as
-  here_as p (Read v q) = cond (eqb v 0) (end_as (link_at L p)) (code_as p v q.0)
-  here_as p Cut = bad
+  here_as p (Some (v, q)) = cond (eqb v 0) (end_as (link_at L p)) (code_as p v q.0)
+  here_as p None = bad
 
   -- in template t: template 0 alone has place 0, and a template that is not there would begin with a return
   unfoldable pub fetched_at : ℕ → ℕ → Fetched

@@ -9,9 +9,7 @@ ghost use Rattle.machines.specs.Slots.{slot_resolve};
 ghost use Rattle.basic_code.specs.Fetch.{read_as, SavedFits, shaped_as, code_as, end_as, here_as, fetched_at};
 
 use cells::BitPlace;
-use fields::Field;
-use files::EntryRead;
-use machines::Resolved;
+use lists::Shape;
 use rules::Plain;
 
 // What stands at a place of a basic file: of an instruction of data its rule, which needs no entry, and the place past it; the places of the others as in
@@ -32,8 +30,8 @@ fn ready(op: u8, a: u8, b: u8, next: BitPlace) -> BasicInstruction
     ensures { (read_as result ≡ plainly (slot_resolve (λ _. 0) op a b) next.0) × SavedFits result }
 {
     match machines::unnamed(op, a, b) {
-        Resolved::Fit(i) => BasicInstruction::Ready(i, next),
-        Resolved::Unfit => BasicInstruction::Bad,
+        Some(i) => BasicInstruction::Ready(i, next),
+        None => BasicInstruction::Bad,
     }
 }
 
@@ -42,7 +40,7 @@ fn fetch_one(file: &[u8], code: u32, at: BitPlace) -> BasicInstruction
     requires { (length file.now ≤ 65536) × (code < 32) }
     ensures { ((L : List ℕ) (p : ℕ) → read_as result ≡ shaped_as file.now L p code at.0 2) × SavedFits result }
 {
-    let Field::Read(n, next) = fields::read_field(file, at, 8) else {
+    let Some((n, next)) = fields::read_field(file, at, 8) else {
         return BasicInstruction::Bad;
     };
     if code == 2 {
@@ -57,10 +55,10 @@ fn fetch_two(file: &[u8], code: u32, at: BitPlace) -> BasicInstruction
     requires { (length file.now ≤ 65536) × (code < 32) }
     ensures { ((L : List ℕ) (p : ℕ) → read_as result ≡ shaped_as file.now L p code at.0 3) × SavedFits result }
 {
-    let Field::Read(a, second) = fields::read_field(file, at, 8) else {
+    let Some((a, second)) = fields::read_field(file, at, 8) else {
         return BasicInstruction::Bad;
     };
-    let Field::Read(b, next) = fields::read_field(file, second, 8) else {
+    let Some((b, next)) = fields::read_field(file, second, 8) else {
         return BasicInstruction::Bad;
     };
     ready(code as u8, a as u8, b as u8, next)
@@ -71,13 +69,14 @@ fn fetch_save(file: &[u8], links: &[u32], at: BitPlace, after: BitPlace) -> Basi
     requires { length file.now ≤ 65536 }
     ensures { ((v : ℕ) → read_as result ≡ shaped_as file.now links.now at.0 v after.0 5) × SavedFits result }
 {
-    let Field::Read(n, saved) = fields::read_field(file, after, 8) else {
+    let Some((n, saved)) = fields::read_field(file, after, 8) else {
         return BasicInstruction::Bad;
     };
     BasicInstruction::Save(n as u8, saved, links::link_at(links, at))
 }
 
 // A code at a place that is none of 6 to 9 and ends at `next`.
+#[tactic(auto, unfolding(lists::specs::Shapes::Numbered))]
 fn fetch_shaped(
     file: &[u8],
     links: &[u32],
@@ -89,21 +88,21 @@ fn fetch_shaped(
     ensures { (read_as result ≡ shaped_as file.now links.now at.0 code next.0 (shape_of code)) × SavedFits result }
 {
     match lists::shape_of(code) {
-        1 => {
+        Shape::Plain(0) => {
             if code == 1 {
                 BasicInstruction::Return
             } else {
                 ready(code as u8, 0, 0, next)
             }
         }
-        2 => fetch_one(file, code, next),
-        3 => fetch_two(file, code, next),
-        4 => {
+        Shape::Plain(1) => fetch_one(file, code, next),
+        Shape::Plain(_) => fetch_two(file, code, next),
+        Shape::Branch => {
             let second = links::link_at(links, at);
             BasicInstruction::Branch(next, second)
         }
-        5 => fetch_save(file, links, at, next),
-        _ => BasicInstruction::Bad,
+        Shape::Save => fetch_save(file, links, at, next),
+        Shape::End | Shape::NoCode => BasicInstruction::Bad,
     }
 }
 
@@ -113,8 +112,8 @@ fn fetch_literal(file: &[u8], at: BitPlace) -> BasicInstruction
     ensures { ((L : List ℕ) (p v : ℕ) → v ≡ 6 → read_as result ≡ code_as file.now L p v at.0) × SavedFits result }
 {
     match files::read_entry(file, 0, 0, at) {
-        EntryRead::Slot(cell, next) => BasicInstruction::Ready(Plain::Literal(cell), next),
-        EntryRead::Refused(_, _) => BasicInstruction::Bad,
+        Ok((cell, next)) => BasicInstruction::Ready(Plain::Literal(cell), next),
+        Err(_) => BasicInstruction::Bad,
     }
 }
 
@@ -132,7 +131,7 @@ fn fetch_global(file: &[u8], code: u32, at: BitPlace) -> BasicInstruction
     requires { (length file.now ≤ 65536) × (8 ≤ code) × (code ≤ 9) }
     ensures { ((L : List ℕ) (p : ℕ) → read_as result ≡ code_as file.now L p code at.0) × SavedFits result }
 {
-    let Field::Read(g, next) = fields::read_field(file, at, 8) else {
+    let Some((g, next)) = fields::read_field(file, at, 8) else {
         return BasicInstruction::Bad;
     };
     if code == 8 {
@@ -170,7 +169,7 @@ fn fetch_after(file: &[u8], links: &[u32], at: BitPlace) -> BasicInstruction
     if at.is_first() {
         return BasicInstruction::Bad;
     }
-    let Field::Read(code, next) = fields::read_field(file, at, 5) else {
+    let Some((code, next)) = fields::read_field(file, at, 5) else {
         return BasicInstruction::Bad;
     };
     fetch_code(file, links, at, code, next)
@@ -181,7 +180,7 @@ fn fetch_here(file: &[u8], links: &[u32], at: BitPlace) -> BasicInstruction
     requires { length file.now ≤ 65536 }
     ensures { (read_as result ≡ here_as file.now links.now at.0 (field_read file.now at.0 5)) × SavedFits result }
 {
-    let Field::Read(code, next) = fields::read_field(file, at, 5) else {
+    let Some((code, next)) = fields::read_field(file, at, 5) else {
         return BasicInstruction::Bad;
     };
     if code == 0 {

@@ -9,18 +9,17 @@ ghost use Rattle.basic.specs.Basic.{Basic, closure_t, branch_t, save_t};
 ghost use Rattle.basic.specs.Reading.{token_at};
 ghost use Rattle.basic.specs.Checked.{basic_checked};
 ghost use Rattle.machines.specs.Runs.{lent, ran};
-ghost use Rattle.machines.specs.Start.{zeros, MayStart};
+ghost use Rattle.machines.specs.Start.{zeros};
 ghost use Rattle.basic_program.specs.Run.{on_basic, basic_run};
 ghost use Rattle.basic_machine.specs.Accepted.{AcceptedFile};
 ghost use Rattle.basic_machine.specs.Links.{onward, linked, tabled};
 ghost use Rattle.basic_machine.specs.Pass.{Reads, Parted, Fresh};
 
-use basic::{Listed, Token};
+use basic::Token;
 use cells::BitPlace;
-use fields::Field;
-use machines::{Run, Start};
+use files::Refusal;
+use machines::Run;
 use owners::Owner;
-use tabulate::CheckedFile;
 
 // What stands at a place of a list: its end; an instruction without lists, and the place past it; a closure, its list, the place past that and how many
 // closures it has; a conditional, its arms, the place past them and how many closures each has; a make-cont, its saved list as a closure's; or no instruction.
@@ -41,8 +40,8 @@ fn closure_parts(s: &[u8], at: BitPlace) -> Parts
         → Parted s.now p c result }
 {
     match basic::read_list(s, at, 15) {
-        Listed::Done(past, x) => Parts::Closure(at, past, x.inside),
-        Listed::Refused(_, _) => Parts::Bad,
+        Ok((past, x)) => Parts::Closure(at, past, x.inside),
+        Err(_) => Parts::Bad,
     }
 }
 
@@ -52,13 +51,13 @@ fn arms_parts(s: &[u8], at: BitPlace) -> Parts
     ensures { (p : ℕ) (c : Basic) → token_at s.now 15 p ≡ got branch_t at.0 → Reads s.now p c
         → Parted s.now p c result }
 {
-    match basic::read_list(s, at, 15) {
-        Listed::Done(second, x) => match basic::read_list(s, second, 15) {
-            Listed::Done(past, y) => Parts::Arms(at, second, past, x.inside, y.inside),
-            Listed::Refused(_, _) => Parts::Bad,
-        },
-        Listed::Refused(_, _) => Parts::Bad,
-    }
+    let Ok((second, x)) = basic::read_list(s, at, 15) else {
+        return Parts::Bad;
+    };
+    let Ok((past, y)) = basic::read_list(s, second, 15) else {
+        return Parts::Bad;
+    };
+    Parts::Arms(at, second, past, x.inside, y.inside)
 }
 
 // A make-cont, whose saved list begins at a place.
@@ -68,8 +67,8 @@ fn saved_parts(s: &[u8], at: BitPlace) -> Parts
         → Parted s.now p c result }
 {
     match basic::read_list(s, at, 15) {
-        Listed::Done(past, x) => Parts::Saved(at, past, x.inside),
-        Listed::Refused(_, _) => Parts::Bad,
+        Ok((past, x)) => Parts::Saved(at, past, x.inside),
+        Err(_) => Parts::Bad,
     }
 }
 
@@ -78,16 +77,18 @@ fn parts_at(s: &[u8], at: BitPlace) -> Parts
     requires { length s.now ≤ 65536 }
     ensures { (c : Basic) → Reads s.now at.0 c → Parted s.now at.0 c result }
 {
-    match basic::read_token(s, at, 15) {
+    let Ok(token) = basic::read_token(s, at, 15) else {
+        return Parts::Bad;
+    };
+    match token {
         Token::End(_) => Parts::End,
-        Token::Ending(next) => Parts::Simple(next),
-        Token::Plain(next) => Parts::Simple(next),
-        Token::Literal(_, _, next) => Parts::Simple(next),
-        Token::Global(_, _, next) => Parts::Simple(next),
+        Token::Ending(next)
+        | Token::Plain(next)
+        | Token::Literal(_, _, next)
+        | Token::Global(_, _, next) => Parts::Simple(next),
         Token::Closure(list) => closure_parts(s, list),
         Token::Branch(first) => arms_parts(s, first),
         Token::Save(list) => saved_parts(s, list),
-        Token::Refused(_, _) => Parts::Bad,
     }
 }
 
@@ -119,7 +120,7 @@ fn follow_of(s: &[u8], at: BitPlace, goes: BitPlace) -> BitPlace
     requires { length s.now ≤ 65536 }
     ensures { (c : Basic) → Reads s.now at.0 c → result.0 ≡ onward c goes.0 at.0 }
 {
-    let Field::Read(code, _) = fields::read_field(s, at, 5) else {
+    let Some((code, _)) = fields::read_field(s, at, 5) else {
         return at;
     };
     if code == 0 { goes } else { at }
@@ -187,12 +188,12 @@ pub fn run_accepted(
     table: &mut [u64],
     budget: u64,
     owner: Owner,
-    globals: &mut [u64],
-    stack: &mut [u64],
-    store: &mut [u64],
-    frames: &mut [u64],
+    globals: &mut [u64; 256],
+    stack: &mut [u64; 256],
+    store: &mut [u64; 2048],
+    frames: &mut [u64; 2048],
 ) -> Run
-    requires { MayStart 1000000 budget (lent globals stack store frames) × AcceptedFile file.now × (table.old ≡ zeros 16384)
+    requires { AcceptedFile file.now × (table.old ≡ zeros 16384)
         × (8 * length file.now ≤ 5 * length links.old) }
     ensures { ran result (lent globals.exit stack.exit store.exit frames.exit)
         ≡ on_basic owner budget (lent globals.entry stack.entry store.entry frames.entry) (basic_checked file.now) }
@@ -204,57 +205,74 @@ pub fn run_accepted(
     )
 }
 
-// The run of a file where 20, 21, 31 and 22 are not given. The table is zeros; the links are for it to fill.
+// The run of a file. The table is zeros; the links are for it to fill.
 fn run_checked(
     file: &[u8],
     table: &mut [u64],
     links: &mut [u32],
     budget: u64,
     owner: Owner,
-    globals: &mut [u64],
-    stack: &mut [u64],
-    store: &mut [u64],
-    frames: &mut [u64],
+    globals: &mut [u64; 256],
+    stack: &mut [u64; 256],
+    store: &mut [u64; 2048],
+    frames: &mut [u64; 2048],
 ) -> Run
-    requires { MayStart 1000000 budget (lent globals stack store frames) × (table.old ≡ zeros 16384)
+    requires { (table.old ≡ zeros 16384)
         × (length file.now ≤ 65536 → 8 * length file.now ≤ 5 * length links.old) }
     ensures { ran result (lent globals.exit stack.exit store.exit frames.exit)
         ≡ on_basic owner budget (lent globals.entry stack.entry store.entry frames.entry) (basic_checked file.now) }
 {
     let mut entries = [0u64; 256];
     match tabulate::check_basic(file, &mut entries) {
-        CheckedFile::Accepted(_, _, _) => run_accepted(
+        Ok(_) => run_accepted(
             file, links, table, budget, owner, globals, stack, store, frames,
         ),
-        CheckedFile::Refused(number, place) => machines::refused(number, place),
+        Err(Refusal(number, at)) => machines::refused(number, at),
     }
 }
 
-// The same, with links of its own: one for each 5 bits. Most files are short, and zeroing the links of the longest would cost more than their runs.
+// The same with LINKS links of its own, one for each 5 bits, where they are enough. It is not inlined: links of both sizes would share one frame.
+#[inline(never)]
+fn run_sized<const LINKS: usize>(
+    file: &[u8],
+    table: &mut [u64],
+    budget: u64,
+    owner: Owner,
+    globals: &mut [u64; 256],
+    stack: &mut [u64; 256],
+    store: &mut [u64; 2048],
+    frames: &mut [u64; 2048],
+) -> Run
+    requires { (table.old ≡ zeros 16384) × (LINKS ≤ 104858)
+        × (length file.now ≤ 65536 → 8 * length file.now ≤ 5 * LINKS) }
+    ensures { ran result (lent globals.exit stack.exit store.exit frames.exit)
+        ≡ on_basic owner budget (lent globals.entry stack.entry store.entry frames.entry) (basic_checked file.now) }
+{
+    let mut links = [0u32; LINKS];
+    run_checked(
+        file, table, &mut links, budget, owner, globals, stack, store, frames,
+    )
+}
+
+// The same with links for the file's size. Most files are short, and zeroing the links of the longest would cost more than their runs.
 fn run_file(
     file: &[u8],
     table: &mut [u64],
     budget: u64,
     owner: Owner,
-    globals: &mut [u64],
-    stack: &mut [u64],
-    store: &mut [u64],
-    frames: &mut [u64],
+    globals: &mut [u64; 256],
+    stack: &mut [u64; 256],
+    store: &mut [u64; 2048],
+    frames: &mut [u64; 2048],
 ) -> Run
-    requires { MayStart 1000000 budget (lent globals stack store frames) × (table.old ≡ zeros 16384) }
+    requires { table.old ≡ zeros 16384 }
     ensures { ran result (lent globals.exit stack.exit store.exit frames.exit)
         ≡ on_basic owner budget (lent globals.entry stack.entry store.entry frames.entry) (basic_checked file.now) }
 {
     if file.len() <= 4096 {
-        let mut links = [0u32; 6554];
-        run_checked(
-            file, table, &mut links, budget, owner, globals, stack, store, frames,
-        )
+        run_sized::<6554>(file, table, budget, owner, globals, stack, store, frames)
     } else {
-        let mut links = [0u32; 104858];
-        run_checked(
-            file, table, &mut links, budget, owner, globals, stack, store, frames,
-        )
+        run_sized::<104858>(file, table, budget, owner, globals, stack, store, frames)
     }
 }
 
@@ -271,13 +289,19 @@ pub fn run_basic(
         ≡ basic_run file.now budget owner (lent globals.entry stack.entry store.entry frames.entry) }
 {
     match machines::start_refusal(globals, stack, store, frames, budget, 1_000_000, owner) {
-        Start::Go => {
-            let whose = owners::owner_of(owner);
+        Ok(whose) => {
             let mut table = [0u64; 16384];
             run_file(
-                file, &mut table, budget, whose, globals, stack, store, frames,
+                file,
+                &mut table,
+                budget,
+                whose,
+                globals.as_mut_array().unwrap(),
+                stack.as_mut_array().unwrap(),
+                store.as_mut_array().unwrap(),
+                frames.as_mut_array().unwrap(),
             )
         }
-        Start::Refused(number, place) => machines::refused(number, place),
+        Err(Refusal(number, place)) => machines::refused(number, place),
     }
 }

@@ -2,13 +2,11 @@
 // It has a loop of its own, since a third form of code in the loop of `steps` made each step of the other machines longer.
 #![tactic(auto)]
 
-ghost use Rattle.std.specs.Prelude.{◌≡◌, List, ℕ, ◌≤◌, length};
-ghost use Rattle.rules.specs.Fit.{Fit};
-ghost use Rattle.machines.specs.Fetched.{plain};
-ghost use Rattle.machines.specs.Machine.{Program, act, step};
-ghost use Rattle.machines.specs.Runs.{memory, lent, ran, start_state};
+ghost use Rattle.std.specs.Prelude.{◌≡◌, ◌≤◌, length};
+ghost use Rattle.machines.specs.Machine.{step};
+ghost use Rattle.machines.specs.Runs.{lent, ran, start_state};
 ghost use Rattle.machines.specs.Steps.{ran_from};
-ghost use Rattle.machines.specs.Instruction.{number, tree_form, form_of, Of};
+ghost use Rattle.machines.specs.Instruction.{number, tree_form, Of};
 ghost use Rattle.steps.specs.Step.{state_of, Taken, StepReady};
 ghost use Rattle.basic_code.specs.Fetch.{basic_linked};
 
@@ -16,7 +14,7 @@ use basic_code::BasicInstruction;
 use cells::BitPlace;
 use machines::{CodePlace, End, Run};
 use owners::Owner;
-use rules::{Plain, Regs, Stepped};
+use rules::{Regs, Wrong};
 use steps::{Control, OneStep};
 
 // The bit number that a place of this machine is.
@@ -30,50 +28,19 @@ fn bit_place(at: CodePlace) -> BitPlace
     }
 }
 
-fn act_plain(
-    owner: Owner,
-    i: Plain,
-    next: CodePlace,
-    globals: &mut [u64],
-    stack: &mut [u64],
-    store: &mut [u64],
-    r: Regs,
-    c: Control,
-) -> OneStep
-    requires { (length globals.old ≡ 256) × (length stack.old ≡ 256) × (length store.old ≡ 2048) × Fit r × (c.fr ≤ 2048) }
-    ensures { (P : Program) (f : List ℕ)
-        → Taken (form_of next) result (memory globals.old stack.old store.old f)
-        (memory globals.new stack.new store.new f)
-        (act owner P (plain i (number next)) (state_of r c (memory globals.old stack.old store.old f))) }
-{
-    match rules::basic_rule(owner, i, globals, stack, store, r) {
-        Stepped::Next(q) => {
-            OneStep::Next(
-                q,
-                Control {
-                    template: c.template,
-                    place: next,
-                    fr: c.fr,
-                },
-            )
-        }
-        Stepped::Wrong(n) => OneStep::Wrong(n),
-    }
-}
-
 fn take_step(
     owner: Owner,
     file: &[u8],
     links: &[u32],
     table: &[u64],
-    globals: &mut [u64],
-    stack: &mut [u64],
-    store: &mut [u64],
-    frames: &mut [u64],
+    globals: &mut [u64; 256],
+    stack: &mut [u64; 256],
+    store: &mut [u64; 2048],
+    frames: &mut [u64; 2048],
     r: Regs,
     c: Control,
 ) -> OneStep
-    requires { Of tree_form c.place × StepReady file.now table.now (lent globals stack store frames) r c }
+    requires { Of tree_form c.place × StepReady file.now table.now r c }
     ensures { Taken tree_form result (lent globals.entry stack.entry store.entry frames.entry)
         (lent globals.exit stack.exit store.exit frames.exit)
         (step owner (basic_linked file.now links.now table.now)
@@ -81,7 +48,7 @@ fn take_step(
 {
     let place = c.place;
     match basic_code::fetch(file, links, c.template, bit_place(place)) {
-        BasicInstruction::Ready(i, next) => act_plain(
+        BasicInstruction::Ready(i, next) => steps::act_plain(
             owner,
             i,
             CodePlace::Tree(next),
@@ -100,7 +67,7 @@ fn take_step(
             let to = CodePlace::Tree(saved);
             steps::act_save(n, to, CodePlace::Tree(rest), stack, frames, r, c)
         }
-        BasicInstruction::Bad => OneStep::Wrong(16),
+        BasicInstruction::Bad => OneStep::Wrong(Wrong::BadCode),
     }
 }
 
@@ -109,16 +76,16 @@ fn run_from(
     file: &[u8],
     links: &[u32],
     table: &[u64],
-    globals: &mut [u64],
-    stack: &mut [u64],
-    store: &mut [u64],
-    frames: &mut [u64],
+    globals: &mut [u64; 256],
+    stack: &mut [u64; 256],
+    store: &mut [u64; 2048],
+    frames: &mut [u64; 2048],
     budget: u64,
     owner: Owner,
     first: Regs,
     from: Control,
 ) -> Run
-    requires { Of tree_form from.place × StepReady file.now table.now (lent globals stack store frames) first from }
+    requires { Of tree_form from.place × StepReady file.now table.now first from }
     ensures { ran result (lent globals.exit stack.exit store.exit frames.exit)
         ≡ ran_from owner (basic_linked file.now links.now table.now) budget 0
         (state_of first from (lent globals.entry stack.entry store.entry frames.entry)) }
@@ -138,8 +105,8 @@ fn run_from(
             OneStep::Halted => {
                 return steps::ended(End::Halted(cells::value_of(r.v)), budget, rest, r, c);
             }
-            OneStep::Wrong(n) => {
-                return steps::ended(End::Wrong(n), budget, left, r, c);
+            OneStep::Wrong(wrong) => {
+                return steps::ended(End::Wrong(wrong.number()), budget, left, r, c);
             }
         }
         left = rest;
@@ -155,13 +122,12 @@ pub fn run_code(
     first: BitPlace,
     budget: u64,
     owner: Owner,
-    globals: &mut [u64],
-    stack: &mut [u64],
-    store: &mut [u64],
-    frames: &mut [u64],
+    globals: &mut [u64; 256],
+    stack: &mut [u64; 256],
+    store: &mut [u64; 2048],
+    frames: &mut [u64; 2048],
 ) -> Run
-    requires { (length file.now ≤ 65536) × (length globals.old ≡ 256) × (length stack.old ≡ 256) × (length store.old ≡ 2048)
-        × (length frames.old ≡ 2048) }
+    requires { length file.now ≤ 65536 }
     ensures { ran result (lent globals.exit stack.exit store.exit frames.exit)
         ≡ ran_from owner (basic_linked file.now links.now table.now) budget 0
         (start_state globals.old first.0) }

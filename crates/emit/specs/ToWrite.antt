@@ -8,7 +8,7 @@ use Rattle.files.specs.Grammar.{is_closed}
 use Rattle.files.specs.Flat.{flat, arms_fit, offsets_fit}
 use Rattle.lists.specs.declared.Keep.TheVariants.{Sizes}
 use Rattle.lists.specs.Marks.{HasIn, Has}
-use Rattle.emit.specs.declared.Wrote.{Wrote}
+use Rattle.emit.specs.declared.Rest.{Rest}
 use Rattle.emit.specs.Written.{arms_bytes, saved_bytes, front_bytes, back_bytes, wrote_as}
 
 -- the list at p, with l levels left below it
@@ -58,10 +58,10 @@ pub record ItemToWrite (s M : List ℕ) (l p front back : ℕ) : Type 0 where
 
 -- ---- what was written of it into o, which is o' then, and what was answered
 module _ {s M : List ℕ} {l p front back : ℕ} where
-  abbrev pub ArmsDone : ArmsToWrite s M l p front back → Wrote → List ℕ → List ℕ → Type 0
+  abbrev pub ArmsDone : ArmsToWrite s M l p front back → Rest → List ℕ → List ℕ → Type 0
   ArmsDone w r o o' = (r ≡ wrote_as w.past (front + length (arms_bytes w.first w.second)) back) × (o' ≡ sets o front (arms_bytes w.first w.second))
 
-  abbrev pub SavedDone : ℕ → SavedToWrite s M l p front back → Wrote → List ℕ → List ℕ → Type 0
+  abbrev pub SavedDone : ℕ → SavedToWrite s M l p front back → Rest → List ℕ → List ℕ → Type 0
   SavedDone n w r o o' =
       (r ≡ wrote_as w.past (front + 4) (front + 4 + w.rest)) × (o' ≡ sets (sets o front (saved_bytes n w.rest)) (front + 4 + w.rest) (flat w.saved))
 
@@ -75,5 +75,5 @@ module _ {s M : List ℕ} {l p front back : ℕ} where
   abbrev pub rest_back : ItemToWrite s M l p front back → ℕ
   rest_back w = rest_front w + length (flat w.rest)
 
-  abbrev pub ItemDone : ItemToWrite s M l p front back → Wrote → List ℕ → List ℕ → Type 0
+  abbrev pub ItemDone : ItemToWrite s M l p front back → Rest → List ℕ → List ℕ → Type 0
   ItemDone w r o o' = (r ≡ wrote_as w.past (rest_front w) (rest_back w)) × (o' ≡ sets (sets o front (item_bytes w)) (rest_back w) (back_bytes w.instr))

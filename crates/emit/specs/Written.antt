@@ -4,7 +4,7 @@ use Rattle.files.specs.Code.{Code, Instr, neutral_i, return_i, call_i, unless_i,
 use Rattle.files.specs.Grammar.{is_closed}
 use Rattle.files.specs.Flat.{offset, flat}
 use Rattle.emit.specs.declared.Measured.{Measured}
-use Rattle.emit.specs.declared.Wrote.{Wrote}
+use Rattle.emit.specs.declared.Rest.{Rest}
 
 -- ---- a conditional, closed or open
 -- how many bytes its jump takes
@@ -49,5 +49,5 @@ back_bytes (cont_i n x) = flat x
 unfoldable pub measured_of : Code → Measured
 measured_of c = record { size = length (flat c); closed = is_closed c }
 
-abbrev pub wrote_as : ℕ → ℕ → ℕ → Wrote
-wrote_as q f b = record { next = record { 0 = q }; front = f; back = b }
+abbrev pub wrote_as : ℕ → ℕ → ℕ → Rest
+wrote_as q f b = record { at = record { 0 = q }; front = f; back = b }

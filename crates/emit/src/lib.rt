@@ -10,10 +10,12 @@ ghost use Rattle.files.specs.Codes.{shape_of};
 ghost use Rattle.files.specs.Flat.{flat, offset};
 ghost use Rattle.lists.specs.declared.Keep.TheVariants.{Sizes};
 ghost use Rattle.lists.specs.Marks.{mark_of, mark_at};
+ghost use Rattle.lists.specs.Shapes.{Numbered};
 ghost use Rattle.emit.specs.Written.{gap, jump_bytes, line_bytes, measured_of};
 ghost use Rattle.emit.specs.ToWrite.{ToWrite, ArmsToWrite, SavedToWrite, ItemToWrite, ArmsDone, SavedDone, ItemDone};
 
 use cells::BitPlace;
+use lists::Shape;
 
 // How many bytes the flat code of a list has, and whether it is closed.
 #[derive(Clone, Copy)]
@@ -22,10 +24,10 @@ pub struct Measured {
     pub closed: bool,
 }
 
-// The place past an instruction, and the part of the output that is left for the rest of its list.
+// What is left of a list: the place of its next instruction, and the part of the output for it.
 #[derive(Clone, Copy)]
-pub struct Wrote {
-    pub next: BitPlace,
+pub struct Rest {
+    pub at: BitPlace,
     pub front: usize,
     pub back: usize,
 }
@@ -84,21 +86,14 @@ fn write_simple(line: u32, n: usize, out: &mut [u8], front: usize)
     }
 }
 
-// A conditional whose arms stand `at` a place.
+// A conditional, from its arms on; what is left of its list after it.
 #[cycle(write_conditional_write_instr_write_list_write_make_cont)]
-fn write_conditional(
-    s: &[u8],
-    marks: &[u32],
-    at: BitPlace,
-    levels: usize,
-    out: &mut [u8],
-    front: usize,
-    back: usize,
-) -> Wrote
-    requires { (length s.now ≤ 65536) × (back ≤ length out.old)
-        × ArmsToWrite s.now marks.now levels at.0 front back }
-    ensures { (w : ArmsToWrite s.now marks.now levels at.0 front back) → ArmsDone w result out.old out.new }
+fn write_conditional(s: &[u8], marks: &[u32], arms: Rest, levels: usize, out: &mut [u8]) -> Rest
+    requires { (length s.now ≤ 65536) × (arms.back ≤ length out.old)
+        × ArmsToWrite s.now marks.now levels arms.at.0 arms.front arms.back }
+    ensures { (w : ArmsToWrite s.now marks.now levels arms.at.0 arms.front arms.back) → ArmsDone w result out.old out.new }
 {
+    let Rest { at, front, back } = arms;
     let first = measure(marks, at);
     let jump = gap(first.closed);
     let turn = front + 3 + first.size;
@@ -108,75 +103,83 @@ fn write_conditional(
     let end = turn + jump + second.size;
     put_jump(out, turn, first.closed, second.size);
     let next = write_list(s, marks, mid, levels, out, turn + jump, end);
-    Wrote {
-        next,
+    Rest {
+        at: next,
         front: end,
         back,
     }
 }
 
-// A make-cont n whose saved list stands `at` a place.
+// A make-cont n, from its saved list on; what is left of its list after it.
 #[cycle(write_conditional_write_instr_write_list_write_make_cont)]
 fn write_make_cont(
     s: &[u8],
     marks: &[u32],
-    at: BitPlace,
+    saved: Rest,
     levels: usize,
-    out: &mut [u8],
     n: u32,
-    front: usize,
-    back: usize,
-) -> Wrote
-    requires { (length s.now ≤ 65536) × (n < 256) × (back ≤ length out.old)
-        × SavedToWrite s.now marks.now levels at.0 front back }
-    ensures { (w : SavedToWrite s.now marks.now levels at.0 front back)
+    out: &mut [u8],
+) -> Rest
+    requires { (length s.now ≤ 65536) × (n < 256) × (saved.back ≤ length out.old)
+        × SavedToWrite s.now marks.now levels saved.at.0 saved.front saved.back }
+    ensures { (w : SavedToWrite s.now marks.now levels saved.at.0 saved.front saved.back)
         → SavedDone n w result out.old out.new }
 {
-    let saved = measure(marks, at);
-    let cut = back - saved.size;
+    let Rest { at, front, back } = saved;
+    let list = measure(marks, at);
+    let cut = back - list.size;
     let rest = front + 4;
     put_offset(out, front, 4, cut - rest);
     out[front + 3] = n as u8;
     let next = write_list(s, marks, at, levels, out, cut, back);
-    Wrote {
-        next,
+    Rest {
+        at: next,
         front: rest,
         back: cut,
     }
 }
 
-// One instruction: its line, the 21 bits at its place, and its code's shape.
+// The first instruction of what is left of a list: its line, the 21 bits at its place, and its code's shape; what is left after it.
+#[tactic(auto, unfolding(lists::specs::Shapes::Numbered))]
 #[cycle(write_conditional_write_instr_write_list_write_make_cont)]
 fn write_instr(
     s: &[u8],
     marks: &[u32],
-    at: BitPlace,
+    rest: Rest,
     levels: usize,
     line: u32,
-    shape: u8,
+    shape: Shape,
     out: &mut [u8],
-    front: usize,
-    back: usize,
-) -> Wrote
-    requires { (length s.now ≤ 65536) × (back ≤ length out.old) × (line ≡ field_at s.now at.0 21)
-        × (shape ≡ shape_of (field_at s.now at.0 5)) × ItemToWrite s.now marks.now levels at.0 front back }
-    ensures { (w : ItemToWrite s.now marks.now levels at.0 front back) → ItemDone w result out.old out.new }
+) -> Rest
+    requires { (length s.now ≤ 65536) × (rest.back ≤ length out.old) × (line ≡ field_at s.now rest.at.0 21)
+        × Numbered shape (shape_of (field_at s.now rest.at.0 5)) × ItemToWrite s.now marks.now levels rest.at.0 rest.front rest.back }
+    ensures { (w : ItemToWrite s.now marks.now levels rest.at.0 rest.front rest.back) → ItemDone w result out.old out.new }
 {
     match shape {
-        4 => write_conditional(s, marks, at.past(5), levels - 1, out, front, back),
-        5 => {
-            let n = line / 0x100 % 0x100;
-            write_make_cont(s, marks, at.past(13), levels - 1, out, n, front, back)
+        Shape::Branch => {
+            let arms = Rest {
+                at: rest.at.past(5),
+                ..rest
+            };
+            write_conditional(s, marks, arms, levels - 1, out)
         }
-        _ => {
-            let n = (shape - 1) as usize;
-            write_simple(line, n, out, front);
-            Wrote {
-                next: at.past(5 + 8 * n),
-                front: front + 1 + n,
-                back,
+        Shape::Save => {
+            let n = line / 0x100 % 0x100;
+            let saved = Rest {
+                at: rest.at.past(13),
+                ..rest
+            };
+            write_make_cont(s, marks, saved, levels - 1, n, out)
+        }
+        Shape::Plain(operands) => {
+            write_simple(line, operands, out, rest.front);
+            Rest {
+                at: rest.at.past(5 + 8 * operands),
+                front: rest.front + 1 + operands,
+                ..rest
             }
         }
+        Shape::End | Shape::NoCode => unreachable!(),
     }
 }
 
@@ -196,19 +199,12 @@ pub fn write_list(
     ensures { (w : ToWrite s.now marks.now levels at.0 front back) →
         (result.0 ≡ w.past) × (out.new ≡ sets out.old front (flat w.code)) }
 {
-    let mut here = at;
-    let mut f = front;
-    let mut b = back;
+    let mut rest = Rest { at, front, back };
     loop {
-        let line = fields::line_at(s, here);
-        let shape = lists::shape_of(line / 0x10000);
-        if shape == 0 {
-            return here.past(5);
-        }
-        let one = write_instr(s, marks, here, levels, line, shape, out, f, b);
-        let next = one.next;
-        here = next;
-        f = one.front;
-        b = one.back;
+        let line = fields::line_at(s, rest.at);
+        rest = match lists::shape_of(line / 0x10000) {
+            Shape::End => return rest.at.past(5),
+            shape => write_instr(s, marks, rest, levels, line, shape, out),
+        };
     }
 }

@@ -1,6 +1,5 @@
 -- What fits into an answer's cell.
 use Rattle.std.specs.Prelude.{◌<◌, ◌^◌}
-use Rattle.std.proofs.Math.Option.{none}
 use Rattle.cells.specs.Cells.{full}
 use Rattle.cells.specs.declared.Value.{Value}
 use Rattle.cells.specs.declared.Value.TheVariants.{False, True, Null, Unspecified, Integer, Procedure, Pair, NoValue}

@@ -1,22 +1,20 @@
 -- What the library's functions leave in the slices that C lends (include/exporter.h): the slots of a result, and nothing at all done where it is too short.
-use Rattle.std.specs.Prelude.{ℕ, cond, List, [], ◌∷◌, leb, length}
+use Rattle.std.specs.Prelude.{ℕ, cond, List, [], ◌∷◌, leb, length, Result, Ok, Err}
 use Rattle.std.proofs.lemmas.List.Edits.{sets}
-use Rattle.files.specs.declared.Outcome.{Outcome}
-use Rattle.files.specs.declared.Outcome.TheVariants.{Written}
-use Rattle.files.specs.declared.Outcome.TheVariants.{Refused as NotWritten}
 use Rattle.machines.specs.Runs.{Memory, Ran, ran, number_of, answer_cell}
 use Rattle.machines.specs.declared.End.{End}
 use Rattle.machines.specs.declared.End.TheVariants.{Halted, Wrong, OutOfBudget, Refused}
 use Rattle.machines.specs.declared.Run.{Run}
+use Rattle.files.specs.declared.Refusal.{Refusal}
 
 -- ---- an output that is filled, by flattening, joining, the way back and the pull list
 -- 0 and the length, or the refusal's number and the place
-unfoldable pub outcome_slots : Outcome → List ℕ
-outcome_slots (Written n) = 0 ∷ n ∷ []
-outcome_slots (NotWritten n p) = n ∷ p ∷ []
+unfoldable pub outcome_slots : Result ℕ (Refusal ℕ) → List ℕ
+outcome_slots (Ok n) = 0 ∷ n ∷ []
+outcome_slots (Err e) = e.0 ∷ e.1 ∷ []
 
 -- the result that held old, by what was answered
-unfoldable pub outcome_result : Outcome → List ℕ → List ℕ
+unfoldable pub outcome_result : Result ℕ (Refusal ℕ) → List ℕ → List ℕ
 outcome_result r old = cond (leb 2 (length old)) (sets old 0 (outcome_slots r)) old
 
 -- the output that held out, by what it would hold

@@ -18,9 +18,8 @@ ghost use Rattle.exporter.specs.Trims.{trim_slots, trim_result, trim_output, tri
 ghost use Rattle.exporter.specs.Answers.{FieldsFit, AnswerFits};
 
 use cells::Value;
-use files::Outcome;
+use files::{Outcome, Refusal};
 use machines::{End, Run};
-use trim::Trimmed;
 
 // The cell of an answer.
 fn answer_cell(v: Value) -> u64
@@ -43,12 +42,11 @@ fn answer_cell(v: Value) -> u64
 
 // ---- slots from the first on
 
-fn put_two(res: &mut [u64], a: u64, b: u64)
-    requires { 2 ≤ length res.old }
-    ensures { res.new ≡ sets res.old 0 (a ∷ b ∷ []) }
+fn put_slots(res: &mut [u64], slots: &[u64])
+    requires { length slots.now ≤ length res.old }
+    ensures { res.new ≡ sets res.old 0 slots.now }
 {
-    res[0] = a;
-    res[1] = b;
+    res[..slots.len()].copy_from_slice(slots);
 }
 
 fn put_outcome(res: &mut [u64], answer: Outcome)
@@ -56,19 +54,9 @@ fn put_outcome(res: &mut [u64], answer: Outcome)
     ensures { res.new ≡ sets res.old 0 (outcome_slots answer) }
 {
     match answer {
-        Outcome::Written(n) => put_two(res, 0, n as u64),
-        Outcome::Refused(n, p) => put_two(res, n as u64, p as u64),
+        Ok(n) => put_slots(res, &[0, n as u64]),
+        Err(Refusal(n, p)) => put_slots(res, &[n as u64, p as u64]),
     }
-}
-
-fn put_four(res: &mut [u64], end: u64, number: u64, place: u64, answer: u64)
-    requires { 4 ≤ length res.old }
-    ensures { res.new ≡ sets res.old 0 (end ∷ number ∷ place ∷ answer ∷ []) }
-{
-    res[0] = end;
-    res[1] = number;
-    res[2] = place;
-    res[3] = answer;
 }
 
 fn put_end(res: &mut [u64], end: End)
@@ -77,10 +65,10 @@ fn put_end(res: &mut [u64], end: End)
     ensures { res.new ≡ sets res.old 0 (end_slots end) }
 {
     match end {
-        End::Halted(v) => put_four(res, 0, 0, 0, answer_cell(v)),
-        End::Wrong(n) => put_four(res, 1, n as u64, 0, 0),
-        End::OutOfBudget => put_four(res, 2, 19, 0, 0),
-        End::Refused(n, p) => put_four(res, 3, n as u64, p as u64, 0),
+        End::Halted(v) => put_slots(res, &[0, 0, 0, answer_cell(v)]),
+        End::Wrong(n) => put_slots(res, &[1, n as u64, 0, 0]),
+        End::OutOfBudget => put_slots(res, &[2, 19, 0, 0]),
+        End::Refused(n, p) => put_slots(res, &[3, n as u64, p as u64, 0]),
     }
 }
 
@@ -227,22 +215,13 @@ pub fn exporter_pull_list(clips: &[i32], file: &[u8], budget: u64, list: &mut [u
 
 // ---- trimming
 
-fn put_three(res: &mut [u64], a: u64, b: u64, d: u64)
-    requires { 3 ≤ length res.old }
-    ensures { res.new ≡ sets res.old 0 (a ∷ b ∷ d ∷ []) }
-{
-    res[0] = a;
-    res[1] = b;
-    res[2] = d;
-}
-
-fn put_trimmed(res: &mut [u64], answer: Trimmed)
+fn put_trimmed(res: &mut [u64], answer: Result<(usize, usize), Refusal<usize>>)
     requires { 3 ≤ length res.old }
     ensures { res.new ≡ sets res.old 0 (trim_slots answer) }
 {
     match answer {
-        Trimmed::Written(n, m) => put_three(res, 0, n as u64, m as u64),
-        Trimmed::Refused(n, p) => put_three(res, n as u64, p as u64, 0),
+        Ok((n, m)) => put_slots(res, &[0, n as u64, m as u64]),
+        Err(Refusal(n, p)) => put_slots(res, &[n as u64, p as u64, 0]),
     }
 }
 

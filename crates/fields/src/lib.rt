@@ -6,13 +6,6 @@ ghost use Rattle.fields.specs.Field.{field_at, field_read};
 
 use cells::BitPlace;
 
-// What reading a field finds: its value and the place past it, or that it runs past the end.
-#[derive(Clone, Copy)]
-pub enum Field {
-    Read(u32, BitPlace),
-    Cut,
-}
-
 // The byte at i, or 0 past the end.
 fn byte_at(s: &[u8], i: usize) -> u32
     ensures { (result ≡ get_or s.now i 0) × (result < 256) }
@@ -94,35 +87,35 @@ pub fn wide_at(s: &[u8], at: BitPlace) -> u64
 }
 
 // The field of `width` bits, at most 8, at a place.
-pub fn read_field(s: &[u8], at: BitPlace, width: usize) -> Field
+pub fn read_field(s: &[u8], at: BitPlace, width: usize) -> Option<(u32, BitPlace)>
     requires { (length s.now ≤ 262144) × (width ≤ 8) }
     ensures { result ≡ field_read s.now at.0 width }
 {
     if at.within(width, s.len()) {
-        return Field::Read(bits_at(s, at, width), at.past(width));
+        return Some((bits_at(s, at, width), at.past(width)));
     }
-    Field::Cut
+    None
 }
 
 // The field of 32 bits at a place.
-pub fn read_word(s: &[u8], at: BitPlace) -> Field
+pub fn read_word(s: &[u8], at: BitPlace) -> Option<(u32, BitPlace)>
     requires { length s.now ≤ 262144 }
     ensures { result ≡ field_read s.now at.0 32 }
 {
     if at.within(32, s.len()) {
-        return Field::Read(word_at(s, at), at.past(32));
+        return Some((word_at(s, at), at.past(32)));
     }
-    Field::Cut
+    None
 }
 
 // The field of 24 bits at a place.
-pub fn read_three(s: &[u8], at: BitPlace) -> Field
+pub fn read_three(s: &[u8], at: BitPlace) -> Option<(u32, BitPlace)>
     requires { length s.now ≤ 262144 }
     ensures { result ≡ field_read s.now at.0 24 }
 {
     if at.within(24, s.len()) {
         let three = bits_at(s, at, 8) * 65536 + half_word_at(s, at.past(8));
-        return Field::Read(three, at.past(24));
+        return Some((three, at.past(24)));
     }
-    Field::Cut
+    None
 }

@@ -1,10 +1,9 @@
 -- Entries of a template, and padding (document 01, 'Two files'; refusals 2, 3 and 5).
-use Rattle.std.specs.Prelude.{ℕ, zero, suc, ◌+◌, ◌*◌, ◌-◌, ◌%◌, Bool, true, false, cond, ◌&&◌, List, [], ◌∷◌, length, ltb, eqb}
+use Rattle.std.specs.Prelude.{ℕ, zero, suc, ◌+◌, ◌*◌, ◌-◌, ◌%◌, Bool, true, false, cond, ◌&&◌, List, [], ◌∷◌, length, ltb, eqb, Option, Some, None}
 use Rattle.cells.specs.Numbers.{cut_field, invalid_field, not_the_end}
-use Rattle.fields.specs.declared.Field.{Field}
-use Rattle.fields.specs.declared.Field.TheVariants.{Read, Cut}
 use Rattle.fields.specs.Field.{bit_at, field_read}
 use Rattle.files.specs.Reading.{Got, got, refused}
+use Rattle.cells.specs.declared.BitPlace.{BitPlace}
 
 -- a constant is its tag, and the number that the bits after it are (0 where the tag has none)
 pub data Entry : Type 0 where
@@ -17,9 +16,9 @@ unfoldable pub then : {A B : Type 0} → Got A → (A → ℕ → Got B) → Got
 then (got a p) f = f a p
 then (refused n p) f = refused n p
 
-unfoldable pub field_got : ℕ → Field → Got ℕ
-field_got p (Read v q) = got v q.0
-field_got p Cut = refused cut_field p
+unfoldable pub field_got : ℕ → Option (ℕ × BitPlace) → Got ℕ
+field_got p (Some (v, q)) = got v q.0
+field_got p None = refused cut_field p
 
 -- the field of w bits at p
 unfoldable pub field : List ℕ → ℕ → ℕ → Got ℕ

@@ -1,29 +1,26 @@
--- What the readers of entries and of padding tell of what is read, and what they leave in a run's table.
-use Rattle.std.specs.Prelude.{ℕ, zero, suc, List, [], ◌∷◌}
-use Rattle.files.specs.declared.EntryRead.{EntryRead}
-use Rattle.files.specs.declared.EntryRead.TheVariants.{Slot, Refused as RefusedEntry}
-use Rattle.files.specs.declared.Entries.{Entries}
-use Rattle.files.specs.declared.Entries.TheVariants.{Read, Refused}
-use Rattle.files.specs.declared.Padding.{Padding}
-use Rattle.files.specs.declared.Padding.TheVariants.{Zero, Refused as RefusedPadding}
+-- What readers tell of what is read: fields, entries, padding, and what they leave in a run's table.
+use Rattle.std.specs.Prelude.{ℕ, zero, suc, List, [], ◌∷◌, Result, Ok, Err}
 use Rattle.files.specs.Reading.{Got, got, refused}
 use Rattle.files.specs.Entries.{Entry, entry_at}
 use Rattle.files.specs.Table.{slot_of}
+use Rattle.files.specs.declared.Refusal.{Refusal}
+use Rattle.files.specs.Refusal.{refusal}
+use Rattle.cells.specs.declared.BitPlace.{BitPlace}
+
+-- what was read, and the place past it
+unfoldable pub told : {A : Type 0} → Got A → Result (A × BitPlace) (Refusal BitPlace)
+told (got a q) = Ok (a, record { 0 = q })
+told (refused n p) = Err (refusal n (record { 0 = p }))
+
+-- the place past what was read: entries, padding, what follows them
+unfoldable pub past_told : {A : Type 0} → Got A → Result BitPlace (Refusal BitPlace)
+past_told (got a q) = Ok (record { 0 = q })
+past_told (refused n p) = Err (refusal n (record { 0 = p }))
 
 -- an entry: its slot and the place past it
-unfoldable pub entry_told : Got Entry → EntryRead
-entry_told (got e q) = Slot (slot_of e) (record { 0 = q })
-entry_told (refused n p) = RefusedEntry n (record { 0 = p })
-
--- entries: the place past them
-unfoldable pub entries_told : Got (List Entry) → Entries
-entries_told (got es q) = Read (record { 0 = q })
-entries_told (refused n p) = Refused n (record { 0 = p })
-
--- padding: the place past it, or of the bit that is 5
-unfoldable pub padding_told : {A : Type 0} → Got A → Padding
-padding_told (got a q) = Zero (record { 0 = q })
-padding_told (refused n p) = RefusedPadding (record { 0 = p })
+unfoldable pub entry_told : Got Entry → Result (ℕ × BitPlace) (Refusal BitPlace)
+entry_told (got e q) = Ok (slot_of e, record { 0 = q })
+entry_told (refused n p) = Err (refusal n (record { 0 = p }))
 
 -- the slot of an entry before those that follow it
 unfoldable pub slot_then : Got Entry → (ℕ → List ℕ) → List ℕ

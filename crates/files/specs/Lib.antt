@@ -11,6 +11,7 @@ pub mod Linear
 pub mod Accepted
 pub mod Table
 pub mod Valid
+pub mod Refusal
 pub mod EntriesRead
 pub mod RowFilled
 pub mod Filled

@@ -1,11 +1,10 @@
 -- Reading a code list (document 01, 'Two files'; refusals 2, 3 and 4).
-use Rattle.std.specs.Prelude.{ℕ, zero, suc, ◌*◌, List, [], ◌∷◌, length}
+use Rattle.std.specs.Prelude.{ℕ, zero, suc, ◌*◌, List, [], ◌∷◌, length, Option, Some, None}
 use Rattle.cells.specs.Numbers.{cut_field, invalid_field, too_deep}
-use Rattle.fields.specs.declared.Field.{Field}
-use Rattle.fields.specs.declared.Field.TheVariants.{Read, Cut}
 use Rattle.fields.specs.Field.{field_read}
 use Rattle.files.specs.Codes.{shape_of}
 use Rattle.files.specs.Code.{Code, done, Instr, unless_i, cont_i, simple, put}
+use Rattle.cells.specs.declared.BitPlace.{BitPlace}
 
 -- what was read, and the place past it; or a refusal's number and place
 pub data Got (A : Type 0) : Type 0 where
@@ -24,9 +23,9 @@ pub data Deep : Type 0 where
   below : (ℕ → Got Code) → Deep
 
 -- on with a field's value and the place past it, or refused 2 at its first bit
-unfoldable pub with_field : ℕ → (ℕ → ℕ → Head) → Field → Head
-with_field p k (Read v q) = k v q.0
-with_field p k Cut = bad cut_field p
+unfoldable pub with_field : ℕ → (ℕ → ℕ → Head) → Option (ℕ × BitPlace) → Head
+with_field p k (Some (v, q)) = k v q.0
+with_field p k None = bad cut_field p
 
 unfoldable pub with_list : (Code → ℕ → Head) → Got Code → Head
 with_list k (got c q) = k c q

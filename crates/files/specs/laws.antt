@@ -9,6 +9,7 @@ pub mod TableLaws
 pub mod AllGot
 pub mod Heads
 pub mod EntriesRead
+pub mod RefusalLaws
 pub mod EntriesSteps
 pub mod PaddingSteps
 pub mod RowFilled

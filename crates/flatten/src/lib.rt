@@ -6,15 +6,13 @@ ghost use Rattle.std.proofs.lemmas.List.Edits.{sets};
 ghost use Rattle.files.specs.Linear.{byte_of, bytes_of, three_bytes, templates_bytes};
 ghost use Rattle.flatten.specs.Flatten.{flattened};
 ghost use Rattle.files.specs.Outcome.{answered, written};
-ghost use Rattle.files.specs.Room.{ZerosFor};
-ghost use Rattle.tree.specs.Tiers.{Fits, InTier};
+ghost use Rattle.files.specs.Room.{RoomFor, ZerosFor};
 ghost use Rattle.readback.specs.Lists.{bits_from};
 ghost use Rattle.flatten.specs.ToFlatten.{TemplateToWrite, TemplatesToWrite, TemplateDone};
 
 use cells::BitPlace;
-use files::Outcome;
+use files::{Outcome, Refusal};
 use lists::Keep;
-use tree::Judged;
 
 // The place past a template, and how many bytes of the linear file are written.
 #[derive(Clone, Copy)]
@@ -37,15 +35,15 @@ fn first_byte(s: &[u8], at: BitPlace, end: BitPlace) -> u8
 
 // The bits from a place to `end` as bytes, with zero bits to the last byte.
 fn write_bits(s: &[u8], at: BitPlace, end: BitPlace, out: &mut [u8], front: usize)
-    requires { (length s.now ≤ 65536) × (end.0 ≤ 8 * length s.now) × (front + (end.0 - at.0 + 7) / 8 ≤ length out.old) }
+    requires at_in { (length s.now ≤ 65536) × (at.0 ≤ end.0) × (end.0 ≤ 8 * length s.now) }
+    requires out_long { front + (end.0 - at.0 + 7) / 8 ≤ length out.old }
     ensures { out.new ≡ sets out.old front (bytes_of (bits_from s.now at.0 (end.0 - at.0))) }
 {
+    let size = (end.since(at) + 7) / 8;
     let mut here = at;
-    let mut f = front;
-    while here.before(end) {
-        out[f] = first_byte(s, here, end);
+    for byte in &mut out[front..front + size] {
+        *byte = first_byte(s, here, end);
         here = here.past(8);
-        f += 1;
     }
 }
 
@@ -69,8 +67,8 @@ fn write_template(
     out: &mut [u8],
     front: usize,
 ) -> Past
-    requires { (length s.now ≤ 65536) × (256 * own + 256 ≤ length table.now) × (own < 64)
-        × TemplateToWrite s.now table.now marks.now own at.0 front (length out.old) }
+    requires sizes { (length s.now ≤ 65536) × (256 * own + 256 ≤ length table.now) × (own < 64) }
+    requires to_write { TemplateToWrite s.now table.now marks.now own at.0 front (length out.old) }
     ensures { (w : TemplateToWrite s.now table.now marks.now own at.0 front (length out.old))
         → TemplateDone w result out.old out.new }
 {
@@ -88,20 +86,17 @@ fn write_template(
 
 // The `count` templates, which stand from bit 8 on, into the bytes from 1 on.
 fn write_templates(s: &[u8], table: &[u64], marks: &[u32], count: usize, out: &mut [u8])
-    requires { (length s.now ≤ 65536) × (256 * count ≤ length table.now)
-        × TemplatesToWrite s.now table.now marks.now count 0 8 1 (length out.old) }
+    requires sizes { (length s.now ≤ 65536) × (256 * count ≤ length table.now) }
+    requires to_write { TemplatesToWrite s.now table.now marks.now count 0 8 1 (length out.old) }
     ensures { (w : TemplatesToWrite s.now table.now marks.now count 0 8 1 (length out.old))
         → out.new ≡ sets out.old 1 (templates_bytes w.templates) }
 {
-    let mut own: usize = 0;
     let mut here = BitPlace(8);
     let mut front: usize = 1;
-    while own < count {
+    for own in 0..count {
         let past = write_template(s, table, marks, own, here, out, front);
-        let next = past.next;
-        here = next;
+        here = past.next;
         front = past.front;
-        own += 1;
     }
 }
 
@@ -111,86 +106,42 @@ fn flatten_marked(s: &[u8], table: &mut [u64], marks: &mut [u32], out: &mut [u8]
     ensures value { result ≡ answered (flattened s.now (length out.old)) }
     ensures out_after { out.new ≡ written out.old (flattened s.now (length out.old)) }
 {
-    match tree::read_accepted(s, table, Keep::Sizes, marks) {
-        Judged::Accepted(sum) => {
-            if sum.far < 64 {
-                return Outcome::Refused(8, sum.far as usize);
-            }
-            let size = sum.size;
-            if out.len() < size {
-                return Outcome::Refused(9, size);
-            }
-            let count = sum.count;
-            out[0] = count;
-            write_templates(s, table, marks, count as usize, out);
-            Outcome::Written(size)
-        }
-        Judged::Refused(no, place) => Outcome::Refused(no, place),
+    let sum = tree::read_accepted(s, table, Keep::Sizes, marks)?;
+    if sum.far < 64 {
+        return Err(Refusal(8, sum.far as usize));
     }
-}
-
-// The same with a table and marks of its own, one mark for each 5 bits, for a file of at most 4 templates and 512 bytes, ..
-fn flatten_small(s: &[u8], out: &mut [u8]) -> Outcome
-    requires { Fits s.now 1024 512 }
-    ensures value { result ≡ answered (flattened s.now (length out.old)) }
-    ensures out_after { out.new ≡ written out.old (flattened s.now (length out.old)) }
-{
-    let mut table = [0u64; 1024];
-    let mut marks = [0u32; 820];
-    flatten_marked(s, &mut table, &mut marks, out)
-}
-
-// .. of at most 16 templates and 4,096 bytes, ..
-fn flatten_middle(s: &[u8], out: &mut [u8]) -> Outcome
-    requires { Fits s.now 4096 4096 }
-    ensures value { result ≡ answered (flattened s.now (length out.old)) }
-    ensures out_after { out.new ≡ written out.old (flattened s.now (length out.old)) }
-{
-    let mut table = [0u64; 4096];
-    let mut marks = [0u32; 6554];
-    flatten_marked(s, &mut table, &mut marks, out)
-}
-
-// .. of as many templates as there may be and at most 4,096 bytes, ..
-fn flatten_many(s: &[u8], out: &mut [u8]) -> Outcome
-    requires { length s.now ≤ 4096 }
-    ensures value { result ≡ answered (flattened s.now (length out.old)) }
-    ensures out_after { out.new ≡ written out.old (flattened s.now (length out.old)) }
-{
-    let mut table = [0u64; 16384];
-    let mut marks = [0u32; 6554];
-    flatten_marked(s, &mut table, &mut marks, out)
-}
-
-// .. for any file.
-fn flatten_large(s: &[u8], out: &mut [u8]) -> Outcome
-    ensures value { result ≡ answered (flattened s.now (length out.old)) }
-    ensures out_after { out.new ≡ written out.old (flattened s.now (length out.old)) }
-{
-    let mut table = [0u64; 16384];
-    let mut marks = [0u32; 104858];
-    flatten_marked(s, &mut table, &mut marks, out)
-}
-
-// The flattener for a file of a size, where 0 is the one it has. That it calls itself keeps the four tables out of one frame.
-fn flatten_tier(s: &[u8], tier: usize, out: &mut [u8]) -> Outcome
-    requires { InTier s.now tier }
-    ensures value { result ≡ answered (flattened s.now (length out.old)) }
-    ensures out_after { out.new ≡ written out.old (flattened s.now (length out.old)) }
-{
-    match tier {
-        0 => flatten_tier(s, tree::tier_of(s), out),
-        1 => flatten_small(s, out),
-        2 => flatten_middle(s, out),
-        3 => flatten_many(s, out),
-        _ => flatten_large(s, out),
+    let size = sum.size;
+    if out.len() < size {
+        return Err(Refusal(9, size));
     }
+    let count = sum.count;
+    out[0] = count;
+    write_templates(s, table, marks, count as usize, out);
+    Ok(size)
 }
 
-// Flattens a tree file into an output.
+// The same with a table of CELLS numbers and MARKS marks of its own, one for each 5 bits, where they are enough. It is not inlined: tables of several
+// sizes would share one frame.
+#[inline(never)]
+fn flatten_sized<const CELLS: usize, const MARKS: usize>(s: &[u8], out: &mut [u8]) -> Outcome
+    requires { (CELLS ≤ 16384) × (MARKS ≤ 104858) × RoomFor s.now CELLS × (length s.now ≤ 65536 → 8 * length s.now ≤ 5 * MARKS) }
+    ensures value { result ≡ answered (flattened s.now (length out.old)) }
+    ensures out_after { out.new ≡ written out.old (flattened s.now (length out.old)) }
+{
+    let mut table = [0u64; CELLS];
+    let mut marks = [0u32; MARKS];
+    flatten_marked(s, &mut table, &mut marks, out)
+}
+
+// Flattens a tree file into an output, with tables for the file's size.
 pub fn flatten(s: &[u8], out: &mut [u8]) -> Outcome
     ensures value { result ≡ answered (flattened s.now (length out.old)) }
     ensures out_after { out.new ≡ written out.old (flattened s.now (length out.old)) }
 {
-    flatten_tier(s, 0, out)
+    match tree::tier_of(s) {
+        1 => flatten_sized::<1024, 820>(s, out),
+        2 => flatten_sized::<4096, 6554>(s, out),
+        3 => flatten_sized::<16384, 6554>(s, out),
+        _ => flatten_sized::<16384, 104858>(s, out),
+    }
 }

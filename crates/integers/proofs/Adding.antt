@@ -1,4 +1,5 @@
 -- A total grows by one cell: the answer, where `total` is summed up and cs are left. Assumes nothing.
+use Rattle.std.specs.Prelude.{Option, Result, Ok, Err}
 use mathlib.Core.Path.{◌≡◌, ◌∙◌}
 use mathlib.Core.Bool.{cond}
 use mathlib.Core.List.{List}
@@ -11,36 +12,35 @@ use lib.Signed.{mag}
 use mir.Syntax.{w64}
 use mir.Val.{SFits, to_z, of_z}
 use mir.Facts.{to_z-of_z}
-use lib.ListN.{length, get_or}
-use lib.Seq.{slice, slice-cons, slice_empty}
+use lib.ListN.{length, get_or, drop, drop_of_length-le}
+use lib.Seq.{drop-cons}
 use Rattle.cells.specs.Cells.{half, tag_of, int_of}
 use Rattle.integers.specs.Integers.{signed, all_integers, total_of}
-use Rattle.integers.specs.Answers.{ranged_of, sum_of}
+use Rattle.integers.specs.Answers.{ranged_of, sum_of, not_integers}
 use Rattle.integers.proofs.Exact.{Value, value_again, mag_add}
-use Rattle.integers.specs.declared.Total.{Total}
-use Rattle.integers.specs.declared.Total.TheVariants.{Exactly, NotIntegers}
+use Rattle.integers.specs.declared.NotIntegers.{NotIntegers}
 
-unfoldable pub sum_from : ℤ → List ℕ → Total
-sum_from total cs = cond (all_integers cs) (Exactly (ranged_of (total +ℤ total_of cs))) NotIntegers
+unfoldable pub sum_from : ℤ → List ℕ → Result (Option ℕ) NotIntegers
+sum_from total cs = cond (all_integers cs) (Ok (ranged_of (total +ℤ total_of cs))) (Err not_integers)
 
 pub sum_start : (cs : List ℕ) → sum_from (pos 0) cs ≡ sum_of cs
 unfolding sum_from sum_of
 sum_start cs = rw (+ℤ_idl (total_of cs))
 
-module _ (total : ℤ) (s : List ℕ) (i n : ℕ) where
-  pub sum_on : i < n → n ≤ length s → tag_of (get_or s i 0) ≡ 6
-      → sum_from total (slice i n s) ≡ sum_from (total +ℤ signed (int_of (get_or s i 0))) (slice (i + 1) n s)
+module _ (total : ℤ) (cs : List ℕ) (i : ℕ) where
+  pub sum_on : i < length cs → tag_of (get_or cs i 0) ≡ 6
+      → sum_from total (drop i cs) ≡ sum_from (total +ℤ signed (int_of (get_or cs i 0))) (drop (i + 1) cs)
   unfolding sum_from all_integers total_of
-  sum_on h l e =
-      rw (slice-cons i n s 0 h l, eq-eqb (tag_of (get_or s i 0)) 6 e, add-one i, +ℤ_assoc total (signed (int_of (get_or s i 0))))
+  sum_on h e =
+      rw (drop-cons cs i 0 h, eq-eqb (tag_of (get_or cs i 0)) 6 e, add-one i, +ℤ_assoc total (signed (int_of (get_or cs i 0))))
 
-  pub sum_other : i < n → n ≤ length s → (tag_of (get_or s i 0) ≡ 6 → ⊥) → sum_from total (slice i n s) ≡ NotIntegers
+  pub sum_other : i < length cs → (tag_of (get_or cs i 0) ≡ 6 → ⊥) → sum_from total (drop i cs) ≡ Err not_integers
   unfolding sum_from all_integers
-  sum_other h l e = rw (slice-cons i n s 0 h l, ne_eqb (tag_of (get_or s i 0)) 6 e)
+  sum_other h e = rw (drop-cons cs i 0 h, ne_eqb (tag_of (get_or cs i 0)) 6 e)
 
-  pub sum_done : i ≤ n → n ≤ i → sum_from total (slice i n s) ≡ Exactly (ranged_of total)
+  pub sum_done : length cs ≤ i → sum_from total (drop i cs) ≡ Ok (ranged_of total)
   unfolding sum_from all_integers total_of
-  sum_done h l = let e : i ≡ n = omega arith in rw (e, slice_empty n s, +ℤ_idr total)
+  sum_done h = rw (drop_of_length-le cs h, +ℤ_idr total)
 
 -- ---- no i64 overflows
 -- t is what i integers can sum up to

@@ -1,4 +1,5 @@
 -- On the way a number is an i64: it fits, and what is judged in range is so. Assumes nothing.
+use Rattle.std.specs.Prelude.{Some, None}
 use mathlib.Core.Path.{◌≡◌, refl, sym, ◌∙◌}
 use mathlib.Core.Bool.{Bool, true, false, true≢false, false≢true}
 use Prim.Native.Nat.{ℕ, zero, suc, ◌+◌, ◌-◌, ◌≤◌, ◌<◌}
@@ -15,7 +16,6 @@ use Rattle.cells.specs.Cells.{half, full}
 use Rattle.integers.specs.Integers.{signed, within, int_bits}
 use Rattle.integers.specs.Answers.{ranged_of}
 use Rattle.integers.specs.laws.Laws.{signed_low, signed_high, signed_mag, mag_within, bits_fit}
-use Rattle.integers.specs.declared.Ranged.TheVariants.{Within, Over}
 
 not_below_zero : (n : ℕ) → n < 0 → ⊥
 not_below_zero n h = omega arith
@@ -62,12 +62,12 @@ module _ (a : ℕ) (h : half ≤ a) (k : a < full) where
   high_value = value_of a _ k (to_z-of_z high_fits ∙ high_is ∙ sym (signed_high a h k))
 
 -- ---- in range or over, by the tests of `in_range`
-over_below : (z : ℤ) → lt_z z (neg_ℤ (pos half)) ≡ true → Over ≡ ranged_of z
+over_below : (z : ℤ) → lt_z z (neg_ℤ (pos half)) ≡ true → None ≡ ranged_of z
 unfolding ranged_of within
 over_below (pos n) e = absurd (false≢true e)
 over_below (negsuc n) e = rw (lt-leb n (half - 1) (ltb-true (half - 1) n e))
 
-over_above : (z : ℤ) → lt_z z (pos half) ≡ false → Over ≡ ranged_of z
+over_above : (z : ℤ) → lt_z z (pos half) ≡ false → None ≡ ranged_of z
 unfolding ranged_of within
 over_above (pos n) e = rw e
 over_above (negsuc n) e = absurd (true≢false e)
@@ -76,7 +76,7 @@ over_above (negsuc n) e = absurd (true≢false e)
 pub record Bits (z y : ℤ) : Type 0 where
   pub is : y ≡ pos (int_bits z)
   pub low : int_bits z < full
-  pub answer : Within (int_bits z) ≡ ranged_of z
+  pub answer : Some (int_bits z) ≡ ranged_of z
 
 in_range : (z y : ℤ) → mag z < half → y ≡ pos (int_bits z) → Bits z y
 unfolding ranged_of
@@ -101,7 +101,7 @@ module _ {z y : ℤ} (b : Bits z y) where
   pub bits_cast : T (non_neg (to_z w64 (of_z w64 y))) × Fits w64 (nat_abs (to_z w64 (of_z w64 y)))
   bits_cast = rw (to_z-of_z bits_sfit, b.is) (tt, record { fits = omega (arith, b.low) })
 
-  pub bits_answer : Within (nat_abs (to_z w64 (of_z w64 y))) ≡ ranged_of z
+  pub bits_answer : Some (nat_abs (to_z w64 (of_z w64 y))) ≡ ranged_of z
   bits_answer = rw (to_z-of_z bits_sfit, b.is) b.answer
 
 cast_positive : (z : ℤ) → SFits w64 z → lt_z z (pos 0) ≡ false → T (non_neg z) × Fits w64 (nat_abs z)
@@ -113,10 +113,10 @@ module _ {z : ℤ} (f : SFits w64 z) where
   pub positive_cast : lt_z (to_z w64 (of_z w64 z)) (pos 0) ≡ false → T (non_neg (to_z w64 (of_z w64 z))) × Fits w64 (nat_abs (to_z w64 (of_z w64 z)))
   positive_cast e = rw (to_z-of_z f) (cast_positive z f (rw (to_z-of_z f) at e))
 
-  pub below : lt_z (to_z w64 (of_z w64 z)) (neg_ℤ (pos half)) ≡ true → Over ≡ ranged_of z
+  pub below : lt_z (to_z w64 (of_z w64 z)) (neg_ℤ (pos half)) ≡ true → None ≡ ranged_of z
   below e = over_below z (rw (to_z-of_z f) at e)
 
-  pub above : lt_z (to_z w64 (of_z w64 z)) (pos half) ≡ false → Over ≡ ranged_of z
+  pub above : lt_z (to_z w64 (of_z w64 z)) (pos half) ≡ false → None ≡ ranged_of z
   above e = over_above z (rw (to_z-of_z f) at e)
 
   pub negative : lt_z (to_z w64 (of_z w64 z)) (pos 0) ≡ true → lt_z (to_z w64 (of_z w64 z)) (neg_ℤ (pos half)) ≡ false → Bits z (to_z w64 (of_z w64 z) +ℤ pos full)

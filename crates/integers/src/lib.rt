@@ -3,25 +3,15 @@
 // That 256 is all a stack holds; `sum_up` asks for it, and the proof of its loop bounds the total of i integers by i * HALF.
 #![tactic(auto)]
 
-ghost use Rattle.std.specs.Prelude.{◌≡◌, ◌<◌, ◌≤◌, pos, ◌-ℤ◌, length, take};
+ghost use Rattle.std.specs.Prelude.{◌≡◌, ◌≢◌, ◌<◌, ◌≤◌, pos, ◌-ℤ◌, length, take};
 ghost use Rattle.std.specs.Int.Signed.{mag, lt_z};
 ghost use Rattle.cells.specs.Cells.{half, full};
 ghost use Rattle.integers.specs.Integers.{signed, floor_quotient};
 ghost use Rattle.integers.specs.Answers.{ranged_of, sum_of};
 
-// The bits of a number that is in range, or that it is not.
-#[derive(Clone, Copy)]
-pub enum Ranged {
-    Within(u64),
-    Over,
-}
-
-// A total, or that not all cells are integers.
-#[derive(Clone, Copy)]
-pub enum Total {
-    Exactly(Ranged),
-    NotIntegers,
-}
+// What a total answers where not all cells are integers.
+#[derive(Clone, Copy, PartialEq, Eq)]
+pub struct NotIntegers;
 
 fn signed_value(a: u64) -> i64
     requires { a < full }
@@ -35,31 +25,34 @@ fn signed_value(a: u64) -> i64
     }
 }
 
-fn in_range(z: i64) -> Ranged
+// The bits of a number that is in range.
+fn in_range(z: i64) -> Option<u64>
     ensures { result ≡ ranged_of z }
 {
     if z < 0 {
         if z < -(cells::HALF as i64) {
-            Ranged::Over
+            None
         } else {
-            Ranged::Within((z + cells::FULL as i64) as u64)
+            Some((z + cells::FULL as i64) as u64)
         }
     } else if z < cells::HALF as i64 {
-        Ranged::Within(z as u64)
+        Some(z as u64)
     } else {
-        Ranged::Over
+        None
     }
 }
 
-pub fn difference(a: u64, b: u64) -> Ranged
-    requires { (a < full) × (b < full) }
+pub fn difference(a: u64, b: u64) -> Option<u64>
+    requires a_fits { a < full }
+    requires b_fits { b < full }
     ensures { result ≡ ranged_of (signed a -ℤ signed b) }
 {
     in_range(signed_value(a) - signed_value(b))
 }
 
 pub fn less(a: u64, b: u64) -> bool
-    requires { (a < full) × (b < full) }
+    requires a_fits { a < full }
+    requires b_fits { b < full }
     ensures { result ≡ lt_z (signed a) (signed b) }
 {
     signed_value(a) < signed_value(b)
@@ -67,7 +60,8 @@ pub fn less(a: u64, b: u64) -> bool
 
 // The quotient toward zero, corrected by one where the signs differ and a remainder is left.
 fn floor_quotient(x: i64, y: i64) -> i64
-    requires { (mag x < half) × (y ≡ pos 0 → ⊥) }
+    requires x_fits { mag x < half }
+    requires not_zero { y ≢ pos 0 }
     ensures { result ≡ floor_quotient x y }
 {
     let q = x / y;
@@ -79,27 +73,27 @@ fn floor_quotient(x: i64, y: i64) -> i64
 }
 
 // The least integer by -1 is over.
-pub fn floor_div(a: u64, b: u64) -> Ranged
-    requires { (a < full) × (b < full) × (b ≡ 0 → ⊥) }
+pub fn floor_div(a: u64, b: u64) -> Option<u64>
+    requires a_fits { a < full }
+    requires b_fits { b < full }
+    requires not_zero { b ≢ 0 }
     ensures { result ≡ ranged_of (floor_quotient (signed a) (signed b)) }
 {
     in_range(floor_quotient(signed_value(a), signed_value(b)))
 }
 
 // The total of the first n cells is exact: partial sums may be out of range.
-pub fn sum_up(s: &[u64], n: usize) -> Total
-    requires { (n ≤ length s.now) × (n ≤ 256) }
+pub fn sum_up(s: &[u64], n: usize) -> Result<Option<u64>, NotIntegers>
+    requires within { n ≤ length s.now }
+    requires few { n ≤ 256 }
     ensures { result ≡ sum_of (take n s.now) }
 {
     let mut total: i64 = 0;
-    let mut i: usize = 0;
-    while i < n {
-        let c = s[i];
+    for &c in &s[..n] {
         if cells::tag_of(c) != 6 {
-            return Total::NotIntegers;
+            return Err(NotIntegers);
         }
-        total = total + signed_value(cells::int_of(c));
-        i = i + 1;
+        total += signed_value(cells::int_of(c));
     }
-    Total::Exactly(in_range(total))
+    Ok(in_range(total))
 }

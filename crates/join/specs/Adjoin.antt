@@ -1,5 +1,5 @@
 -- Open-adjoin (document 000, 3.1), and where in the first list the second goes.
-use Rattle.std.specs.Prelude.{ℕ, suc, ◌+◌, ◌*◌, List, [], ◌∷◌, ◌++◌, length}
+use Rattle.std.specs.Prelude.{ℕ, suc, ◌+◌, ◌*◌, List, [], ◌++◌, length}
 use Rattle.files.specs.Code.{Code, done, neutral, return, call, unless_false, make_cont, bits}
 use Rattle.files.specs.Linear.{bits_of}
 use Rattle.tree_file.specs.File.{operands_bits, list_bits}

@@ -1,5 +1,5 @@
 -- Joining a prologue and a file (document 02, request 10).
-use Rattle.std.specs.Prelude.{ℕ, ◌+◌, ◌*◌, Bool, false, cond, List, [], ◌∷◌, ◌++◌, length, leb}
+use Rattle.std.specs.Prelude.{ℕ, ◌+◌, ◌*◌, Bool, true, false, cond, List, [], ◌∷◌, ◌++◌, length, leb}
 use Rattle.std.proofs.Math.Option.{Option, none}
 use Rattle.cells.specs.Numbers.{too_long, too_deep, not_closed, wrong_index, many_entries}
 use Rattle.files.specs.Code.{Code}
@@ -36,6 +36,11 @@ unclosed ts = cond (is_prologue ts) none (lowest closed_template 0 ts)
 unfoldable pub second_checked : List ℕ → Got (List Template)
 unfolding indices_checked
 second_checked s = then (tree_read s) (λ ts q. or_lowest not_closed (unclosed ts) (indices_checked ts q))
+
+-- an operand: a prologue, or also a file whose lists are closed
+abbrev pub operand_checked : Bool → List ℕ → Got (List Template)
+operand_checked false s = prologue_checked s
+operand_checked true s = second_checked s
 
 -- ---- joined
 -- indices moved up by n

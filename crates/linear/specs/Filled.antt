@@ -1,34 +1,26 @@
 -- What the readers of a linear file tell of what is read, and what they leave in a run's table: each template that is read fills slots of its
 -- row, the entries' first and slot 0 last, up to the first refusal.
-use Rattle.std.specs.Prelude.{ℕ, ◌+◌, ◌*◌, cond, List, length, set, leb}
+use Rattle.std.specs.Prelude.{ℕ, ◌+◌, ◌*◌, cond, List, length, set, leb, Result, Ok, Err}
 use Rattle.std.proofs.lemmas.List.Edits.{sets}
 use Rattle.files.specs.Reading.{Got, got, refused}
 use Rattle.files.specs.Entries.{Entry, then, field, to_byte, zero_bits}
 use Rattle.files.specs.Linear.{Linear, code_at, linear_template_at}
 use Rattle.files.specs.EntriesRead.{slots_at}
 use Rattle.files.specs.Filled.{templates_by, count_by}
-use Rattle.linear.specs.declared.Part.{Part}
-use Rattle.linear.specs.declared.Part.TheVariants.{Read, Refused}
-use Rattle.linear.specs.declared.LinearFile.{LinearFile}
-use Rattle.linear.specs.declared.LinearFile.TheVariants.{Read as ReadFile, Refused as RefusedFile}
-use Rattle.linear.specs.declared.Checked.{Checked}
-use Rattle.linear.specs.declared.Checked.TheVariants.{Accepted, Refused as RefusedChecked}
+use Rattle.files.specs.declared.Refusal.{Refusal}
+use Rattle.files.specs.Refusal.{refusal}
+use Rattle.cells.specs.declared.BitPlace.{BitPlace}
 
 -- ---- what is told
--- of a part: the place past it
-unfoldable pub part_told : {A : Type 0} → Got A → Part
-part_told (got a q) = Read (record { 0 = q })
-part_told (refused n p) = Refused n (record { 0 = p })
-
 -- of a file: its number of templates
-unfoldable pub linear_told : Got (List Linear) → LinearFile
-linear_told (got ts q) = ReadFile (length ts)
-linear_told (refused n p) = RefusedFile n (record { 0 = p })
+unfoldable pub linear_told : Got (List Linear) → Result ℕ (Refusal BitPlace)
+linear_told (got ts q) = Ok (length ts)
+linear_told (refused n p) = Err (refusal n (record { 0 = p }))
 
 -- whether the file is accepted
-unfoldable pub checked_told : Got (List Linear) → Checked
-checked_told (got ts q) = Accepted
-checked_told (refused n p) = RefusedChecked n p
+unfoldable pub checked_told : Got (List Linear) → Result Unit (Refusal ℕ)
+checked_told (got ts q) = Ok tt
+checked_told (refused n p) = Err (refusal n p)
 
 -- ---- what is left in the table
 -- what follows the entries es of a template

@@ -11,13 +11,6 @@ ghost use Rattle.linear_code.specs.Neutral.{is_transfer, neutral_as};
 use cells::BytePlace;
 use machines::{CodePlace, Instruction};
 
-// A neutral code's operands, of which it may have fewer, and the place past it; or it is cut.
-#[derive(Clone, Copy)]
-pub enum NeutralAt {
-    Whole(u8, u8, BytePlace),
-    Cut,
-}
-
 // Byte k of the `left` bytes at i, 0 past them.
 fn operand(file: &[u8], i: usize, left: usize, k: usize) -> u8
     requires { i + left ≤ length file.now }
@@ -118,8 +111,15 @@ pub fn fetch_op(file: &[u8], i: usize, left: usize, op: u8, at: BytePlace) -> In
     fetch_whole(file, i, left, op, at.past(1 + count))
 }
 
-// A neutral code, which stands at a place, and the `left` bytes at i after it.
-pub fn neutral_at(file: &[u8], i: usize, left: usize, op: u8, at: BytePlace) -> NeutralAt
+// The operands of a neutral code, of which it may have fewer, and the place past it, where it stands at a place and the `left` bytes at i are after it; none
+// where it is cut.
+pub fn neutral_at(
+    file: &[u8],
+    i: usize,
+    left: usize,
+    op: u8,
+    at: BytePlace,
+) -> Option<(u8, u8, BytePlace)>
     requires { (i + left ≤ length file.now) × (at.0 ≤ 262144) × (is_transfer op ≡ false) }
     ensures { (slot : ℕ → ℕ) → neutral_as slot op result ≡ code_bytes slot at.0 op (part file.now i left) }
 {
@@ -127,7 +127,7 @@ pub fn neutral_at(file: &[u8], i: usize, left: usize, op: u8, at: BytePlace) -> 
     if count <= left {
         let a = operand(file, i, left, 0);
         let b = operand(file, i, left, 1);
-        return NeutralAt::Whole(a, b, at.past(1 + count));
+        return Some((a, b, at.past(1 + count)));
     }
-    NeutralAt::Cut
+    None
 }

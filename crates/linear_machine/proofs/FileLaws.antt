@@ -11,9 +11,6 @@ use Rattle.files.specs.laws.RoomLaws.{all_rows}
 use Rattle.files.specs.Table.{linear_table}
 use Rattle.linear.specs.Filled.{linear_told, linear_filled}
 use Rattle.linear.specs.laws.LinearTable.{linear_table_lem}
-use Rattle.linear.specs.declared.LinearFile.{LinearFile}
-use Rattle.linear.specs.declared.LinearFile.TheVariants.{Read, Refused}
-use Rattle.owners.specs.Owners.{owner_of}
 use Rattle.owners.specs.declared.Owner.{Owner}
 use Rattle.machines.specs.Machine.{linear_program}
 use Rattle.machines.specs.Runs.{Memory, Ran, ran, refused_run, start_state, program_run, on_linear}
@@ -24,6 +21,10 @@ use Rattle.machines.specs.declared.Run.{Run}
 use Rattle.linear_code.specs.Bytes.{bytes_program, AllBytes, AllWithin}
 use Rattle.linear_code.specs.laws.ProgramLaws.{table_within, program_is}
 use Rattle.linear_machine.specs.Again.{TableOf}
+use Rattle.std.specs.Prelude.{Result, Ok, Err}
+use Rattle.files.specs.declared.Refusal.{Refusal}
+use Rattle.files.specs.laws.RefusalLaws.{err_number, err_place}
+use Rattle.files.specs.Refusal.{refusal as why}
 
 -- ---- what reading answered
 record WasRead (g : Got (List Linear)) : Type 0 where
@@ -31,19 +32,19 @@ record WasRead (g : Got (List Linear)) : Type 0 where
   past : ℕ
   is : g ≡ got templates past
 
-was_read : (g : Got (List Linear)) (n : ℕ) → Read n ≡ linear_told g → WasRead g
+was_read : (g : Got (List Linear)) (n : ℕ) → Ok n ≡ linear_told g → WasRead g
 unfolding linear_told
 was_read (got ts q) n e = record { templates = ts; past = q; is = refl }
 was_read (refused m p) n e = clash (cc)
 
-was_refused : (g : Got (List Linear)) (n : ℕ) (p : BitPlace) → Refused n p ≡ linear_told g → g ≡ refused n p.0
+was_refused : (g : Got (List Linear)) (n : ℕ) (p : BitPlace) → Err (why n p) ≡ linear_told g → g ≡ refused n p.0
 unfolding linear_told
 was_refused (got ts q) n p e = clash (cc)
-was_refused (refused m q) n p e = let k : ◌≡◌ {A = BitPlace} p (record { 0 = q }) = cc in let i : n ≡ m = cc in rw (i, k)
+was_refused (refused m q) n p e = rw (err_number e, err_place e)
 
 -- ---- a file s that was read, x the answer; table is what the table was before and table' after
-module _ (s table table' : List ℕ) (x : LinearFile) (asked : x ≡ linear_told (linear_read s)) (was : ZerosFor s table) (filled : table' ≡ linear_filled s table) (n : ℕ)
-    (there : x ≡ Read n) where
+module _ (s table table' : List ℕ) (x : Result ℕ (Refusal BitPlace)) (asked : x ≡ linear_told (linear_read s)) (was : ZerosFor s table)
+    (filled : table' ≡ linear_filled s table) (n : ℕ) (there : x ≡ Ok n) where
   file : WasRead (linear_read s)
   file = was_read (linear_read s) n (sym there ∙ asked)
 
@@ -66,18 +67,14 @@ zeros_for s = all_rows s refl
 
 module _ (s table : List ℕ) (t : TableOf s table) where
   pub again_within : AllWithin s table
-  again_within = file_within_lem s (zeros 16384) table (Read t.count) (sym t.read) (zeros_for s) t.filled t.count refl
+  again_within = file_within_lem s (zeros 16384) table (Ok t.count) (sym t.read) (zeros_for s) t.filled t.count refl
 
   pub again_ran : (o : Owner) (b : ℕ) (m : Memory) (r : Ran) → AllBytes s → r ≡ ran_from o (bytes_program s table) b 0 (start_state m.globals 0)
       → r ≡ on_linear o b m (linear_read s)
-  again_ran = file_ran s (zeros 16384) table (Read t.count) (sym t.read) (zeros_for s) t.filled t.count refl
+  again_ran = file_ran s (zeros 16384) table (Ok t.count) (sym t.read) (zeros_for s) t.filled t.count refl
 
 -- ---- a file that is refused
-pub file_refused : (s : List ℕ) (x : LinearFile) (o : Owner) (b : ℕ) (m : Memory) (n : ℕ) (p : BitPlace) (r : Run) → x ≡ linear_told (linear_read s) → x ≡ Refused n p → r ≡ refusal n p.0
-    → ran r m ≡ on_linear o b m (linear_read s)
+pub file_refused : (s : List ℕ) (x : Result ℕ (Refusal BitPlace)) (o : Owner) (b : ℕ) (m : Memory) (n : ℕ) (p : BitPlace) (r : Run)
+    → x ≡ linear_told (linear_read s) → x ≡ Err (why n p) → r ≡ refusal n p.0 → ran r m ≡ on_linear o b m (linear_read s)
 unfolding on_linear refused_run
 file_refused s x o b m n p r e h k = rw (k, was_refused (linear_read s) n p (sym h ∙ e))
-
--- ---- the owner of that number
-pub file_owned : (s : List ℕ) (n : ℕ) (o : Owner) (b : ℕ) (m : Memory) (r : Ran) → o ≡ owner_of n → r ≡ on_linear o b m (linear_read s) → r ≡ on_linear (owner_of n) b m (linear_read s)
-file_owned s n o b m r e h = rw e at h

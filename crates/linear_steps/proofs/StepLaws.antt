@@ -20,7 +20,7 @@ use Rattle.machines.specs.declared.CodePlace.TheVariants.{Tree, Linear}
 use Rattle.linear_code.specs.Bytes.{code_bytes, fetch_bytes, bytes_program, code_start, code_length, Within, AllWithin}
 use mathlib.Core.Bool.{false}
 use Rattle.linear_code.specs.Neutral.{is_transfer, neutral_as}
-use Rattle.linear_code.specs.declared.NeutralAt.{NeutralAt}
+use Rattle.std.specs.Prelude.{Option}
 use Rattle.steps.specs.Step.{start_at, CodeReady, control, state_of, Taken, StepReady}
 use Rattle.steps.specs.declared.Control.{Control}
 use Rattle.steps.specs.declared.OneStep.{OneStep}
@@ -33,7 +33,7 @@ unfolding form_of
 no_bit q p e o = let z : tree_form ≡ linear_form = rw e at o in clash (cc)
 
 -- ---- by what was read
-pub neutral_as_lem : {form : Form} {x : OneStep} {m m' : Memory} (own : Owner) (P : Program) (st : State) (slot : ℕ → ℕ) (F : Fetched) (op : ℕ) (y z : NeutralAt)
+pub neutral_as_lem : {form : Form} {x : OneStep} {m m' : Memory} (own : Owner) (P : Program) (st : State) (slot : ℕ → ℕ) (F : Fetched) (op : ℕ) (y z : Option (ℕ × ℕ × BytePlace))
     → neutral_as slot op y ≡ F → y ≡ z → Taken form x m m' (act own P (neutral_as slot op z) st) → Taken form x m m' (act own P F st)
 neutral_as_lem own P st slot F op y z e h t = rw (← e, h) t
 
@@ -43,11 +43,10 @@ pub coded : {x : OneStep} {m m' : Memory} (own : Owner) (P : Program) (st : Stat
 coded own P st slot q w op k e t = rw e t
 
 -- what a neutral code's step asks
-pub neutral_asked : (s table : List ℕ) (m : Memory) (r : Regs) (c : Control) (n q op : ℕ)
-    → (n ≤ length s) × (q ≤ 262144) × Of linear_form c.place × StepReady s table m r c → is_transfer op ≡ false
-    → (n ≤ length s) × (q ≤ 262144) × (is_transfer op ≡ false) × (length m.globals ≡ 256) × (length m.stack ≡ 256) × (length m.store ≡ 2048) × Fit r × (c.fr ≤ 2048)
-neutral_asked s table m r c n q op p h =
-    (p.0, p.1, h, p.3.globals_long, p.3.stack_long, p.3.store_long, p.3.fit, p.3.frames_fit)
+pub neutral_asked : (s table : List ℕ) (r : Regs) (c : Control) (n q op : ℕ)
+    → (n ≤ length s) × (q ≤ 262144) × Of linear_form c.place × StepReady s table r c → is_transfer op ≡ false
+    → (n ≤ length s) × (q ≤ 262144) × (is_transfer op ≡ false) × Fit r × (c.fr ≤ 2048)
+neutral_asked s table r c n q op p h = (p.0, p.1, h, p.3.fit, p.3.frames_fit)
 
 -- where a template's code begins
 pub starts : (form : Form) (table : List ℕ) → form ≡ linear_form → (t : ℕ) → start_at form table t ≡ 0
@@ -83,16 +82,6 @@ module _ (a : BytePlace) (k : Control) (e : a.0 ≡ number k.place) where
   unfolding number
   placed_turn own P left n q m h = rw e h
 
-  pub placed_ready : (s table : List ℕ) (q : Regs) (m : Memory) → Of linear_form k.place → StepReady s table m q k
-      → StepReady s table m q (control k.template (Linear a) k.fr)
+  pub placed_ready : (s table : List ℕ) (q : Regs) → Of linear_form k.place → StepReady s table q k → StepReady s table q (control k.template (Linear a) k.fr)
   unfolding form_of
-  placed_ready s table q m o w =
-      record {
-        code_ready = rw o at w.code_ready;
-        fit = w.fit;
-        frames_fit = w.frames_fit;
-        globals_long = w.globals_long;
-        stack_long = w.stack_long;
-        store_long = w.store_long;
-        frames_long = w.frames_long;
-      }
+  placed_ready s table q o w = record { code_ready = rw o at w.code_ready; fit = w.fit; frames_fit = w.frames_fit }

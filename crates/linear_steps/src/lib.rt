@@ -16,10 +16,9 @@ ghost use Rattle.steps.specs.Step.{control, state_of, Taken, StepReady};
 ghost use Rattle.linear_steps.specs.Code.{code_of};
 
 use cells::BytePlace;
-use linear_code::NeutralAt;
 use machines::{CodePlace, End, Instruction, Run};
 use owners::Owner;
-use rules::Regs;
+use rules::{Regs, Wrong};
 use steps::{Control, OneStep};
 
 // Where a template's code lies in the file: its first byte, and how many there are.
@@ -56,14 +55,13 @@ fn take_neutral(
     table: &[u64],
     here: Here,
     op: u8,
-    globals: &mut [u64],
-    stack: &mut [u64],
-    store: &mut [u64],
+    globals: &mut [u64; 256],
+    stack: &mut [u64; 256],
+    store: &mut [u64; 2048],
     r: Regs,
     c: Control,
 ) -> OneStep
-    requires { (here.i + here.left ≤ length s.now) × (here.at.0 ≤ 262144) × (is_transfer op ≡ false) × (length globals.old ≡ 256)
-        × (length stack.old ≡ 256) × (length store.old ≡ 2048) × Fit r × (c.fr ≤ 2048) }
+    requires { (here.i + here.left ≤ length s.now) × (here.at.0 ≤ 262144) × (is_transfer op ≡ false) × Fit r × (c.fr ≤ 2048) }
     ensures { (P : Program) (f : List ℕ)
         → Taken linear_form result (memory globals.old stack.old store.old f)
         (memory globals.new stack.new store.new f)
@@ -71,7 +69,7 @@ fn take_neutral(
         (state_of r c (memory globals.old stack.old store.old f))) }
 {
     match linear_code::neutral_at(s, here.i, here.left, op, here.at) {
-        NeutralAt::Whole(a, b, next) => steps::act_neutral(
+        Some((a, b, next)) => steps::act_neutral(
             owner,
             table,
             op,
@@ -84,7 +82,7 @@ fn take_neutral(
             r,
             c,
         ),
-        NeutralAt::Cut => OneStep::Wrong(16),
+        None => OneStep::Wrong(Wrong::BadCode),
     }
 }
 
@@ -94,15 +92,15 @@ fn take_transfer(
     table: &[u64],
     here: Here,
     op: u8,
-    globals: &mut [u64],
-    stack: &mut [u64],
-    store: &mut [u64],
-    frames: &mut [u64],
+    globals: &mut [u64; 256],
+    stack: &mut [u64; 256],
+    store: &mut [u64; 2048],
+    frames: &mut [u64; 2048],
     r: Regs,
     c: Control,
 ) -> OneStep
     requires { (here.i + here.left ≤ length s.now) × (here.at.0 ≤ 262144) × Of linear_form c.place
-        × StepReady s.now table.now (lent globals stack store frames) r c }
+        × StepReady s.now table.now r c }
     ensures { Taken linear_form result (lent globals.entry stack.entry store.entry frames.entry)
         (lent globals.exit stack.exit store.exit frames.exit)
         (act owner (bytes_program s.now table.now)
@@ -120,7 +118,7 @@ fn take_transfer(
             steps::act_save(n, saved, rest, stack, frames, r, c)
         }
         Instruction::Jump(to) => steps::act_jump(to, r, c),
-        Instruction::Bad => OneStep::Wrong(16),
+        Instruction::Bad => OneStep::Wrong(Wrong::BadCode),
     }
 }
 
@@ -131,14 +129,13 @@ fn take_primitive(
     table: &[u64],
     here: Here,
     op: u8,
-    g: &mut [u64],
-    k: &mut [u64],
-    t: &mut [u64],
+    g: &mut [u64; 256],
+    k: &mut [u64; 256],
+    t: &mut [u64; 2048],
     r: Regs,
     c: Control,
 ) -> OneStep
-    requires { (here.i + here.left ≤ length s.now) × (here.at.0 ≤ 262144) × (is_transfer op ≡ false) × (length g.old ≡ 256)
-        × (length k.old ≡ 256) × (length t.old ≡ 2048) × Fit r × (c.fr ≤ 2048) }
+    requires { (here.i + here.left ≤ length s.now) × (here.at.0 ≤ 262144) × (is_transfer op ≡ false) × Fit r × (c.fr ≤ 2048) }
     ensures { (P : Program) (f : List ℕ)
         → Taken linear_form result (memory g.old k.old t.old f)
         (memory g.new k.new t.new f)
@@ -165,14 +162,13 @@ fn take_data(
     table: &[u64],
     here: Here,
     op: u8,
-    g: &mut [u64],
-    k: &mut [u64],
-    t: &mut [u64],
+    g: &mut [u64; 256],
+    k: &mut [u64; 256],
+    t: &mut [u64; 2048],
     r: Regs,
     c: Control,
 ) -> OneStep
-    requires { (here.i + here.left ≤ length s.now) × (here.at.0 ≤ 262144) × (is_transfer op ≡ false) × (length g.old ≡ 256)
-        × (length k.old ≡ 256) × (length t.old ≡ 2048) × Fit r × (c.fr ≤ 2048) }
+    requires { (here.i + here.left ≤ length s.now) × (here.at.0 ≤ 262144) × (is_transfer op ≡ false) × Fit r × (c.fr ≤ 2048) }
     ensures { (P : Program) (f : List ℕ)
         → Taken linear_form result (memory g.old k.old t.old f)
         (memory g.new k.new t.new f)
@@ -199,15 +195,15 @@ fn take_coded(
     table: &[u64],
     here: Here,
     op: u8,
-    g: &mut [u64],
-    k: &mut [u64],
-    t: &mut [u64],
-    f: &mut [u64],
+    g: &mut [u64; 256],
+    k: &mut [u64; 256],
+    t: &mut [u64; 2048],
+    f: &mut [u64; 2048],
     r: Regs,
     c: Control,
 ) -> OneStep
     requires { (here.i + here.left ≤ length s.now) × (here.at.0 ≤ 262144) × Of linear_form c.place
-        × StepReady s.now table.now (lent g k t f) r c }
+        × StepReady s.now table.now r c }
     ensures { Taken linear_form result (lent g.entry k.entry t.entry f.entry)
         (lent g.exit k.exit t.exit f.exit)
         (act owner (bytes_program s.now table.now)
@@ -255,15 +251,15 @@ fn take_step(
     file: &[u8],
     table: &[u64],
     code: Code,
-    globals: &mut [u64],
-    stack: &mut [u64],
-    store: &mut [u64],
-    frames: &mut [u64],
+    globals: &mut [u64; 256],
+    stack: &mut [u64; 256],
+    store: &mut [u64; 2048],
+    frames: &mut [u64; 2048],
     r: Regs,
     c: Control,
 ) -> OneStep
     requires { (code ≡ code_of table.now c.template) × Of linear_form c.place
-        × StepReady file.now table.now (lent globals stack store frames) r c }
+        × StepReady file.now table.now r c }
     ensures { Taken linear_form result (lent globals.entry stack.entry store.entry frames.entry)
         (lent globals.exit stack.exit store.exit frames.exit)
         (step owner (bytes_program file.now table.now)
@@ -274,12 +270,12 @@ fn take_step(
     let left = at.left(code.len);
     if left == 0 {
         if code.start != 0 {
-            return OneStep::Wrong(16);
+            return OneStep::Wrong(Wrong::BadCode);
         }
         if at.is_first() {
             return steps::act_return(stack, frames, r, c);
         }
-        return OneStep::Wrong(16);
+        return OneStep::Wrong(Wrong::BadCode);
     }
     let i = at.index(code.start);
     let here = Here {
@@ -300,16 +296,16 @@ fn take_step(
 fn run_from(
     file: &[u8],
     table: &[u64],
-    globals: &mut [u64],
-    stack: &mut [u64],
-    store: &mut [u64],
-    frames: &mut [u64],
+    globals: &mut [u64; 256],
+    stack: &mut [u64; 256],
+    store: &mut [u64; 2048],
+    frames: &mut [u64; 2048],
     budget: u64,
     owner: Owner,
     first: Regs,
     begin: BytePlace,
 ) -> Run
-    requires { StepReady file.now table.now (lent globals stack store frames) first (control 0 (CodePlace.Linear begin) 0) }
+    requires { StepReady file.now table.now first (control 0 (CodePlace.Linear begin) 0) }
     ensures { ran result (lent globals.exit stack.exit store.exit frames.exit)
         ≡ ran_from owner (bytes_program file.now table.now) budget 0
         (state_of first (control 0 (CodePlace.Linear begin) 0) (lent globals.entry stack.entry store.entry frames.entry)) }
@@ -348,8 +344,8 @@ fn run_from(
             OneStep::Halted => {
                 return steps::ended(End::Halted(cells::value_of(r.v)), budget, rest, r, c);
             }
-            OneStep::Wrong(n) => {
-                return steps::ended(End::Wrong(n), budget, left, r, c);
+            OneStep::Wrong(wrong) => {
+                return steps::ended(End::Wrong(wrong.number()), budget, left, r, c);
             }
         }
         left = rest;
@@ -374,13 +370,12 @@ pub fn run_code(
     table: &[u64],
     budget: u64,
     owner: Owner,
-    globals: &mut [u64],
-    stack: &mut [u64],
-    store: &mut [u64],
-    frames: &mut [u64],
+    globals: &mut [u64; 256],
+    stack: &mut [u64; 256],
+    store: &mut [u64; 2048],
+    frames: &mut [u64; 2048],
 ) -> Run
-    requires { AllWithin file.now table.now × (length globals.old ≡ 256) × (length stack.old ≡ 256) × (length store.old ≡ 2048)
-        × (length frames.old ≡ 2048) }
+    requires { AllWithin file.now table.now }
     ensures { ran result (lent globals.exit stack.exit store.exit frames.exit)
         ≡ ran_from owner (bytes_program file.now table.now) budget 0 (start_state globals.old 0) }
 {

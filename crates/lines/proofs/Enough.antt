@@ -1,7 +1,7 @@
 -- The lines of a sheet of at most 4,096 bytes by what the flattener answers with an output of 16,384 bytes: that is always enough. Assumes nothing.
 use Prim.Native.Nat.{ℕ, ◌≤◌}
 use native.Mathlib.Omega.{arith}
-use mathlib.Core.Path.{◌≡◌, refl}
+use mathlib.Core.Path.{◌≡◌, refl, ap}
 use mathlib.Core.List.{List}
 use borrow.Author.Tests.{le-leb}
 use lib.ListN.{length, take, drop}
@@ -16,8 +16,10 @@ use Rattle.readback.specs.laws.TreeFacts.{tree_short}
 use Rattle.files.specs.laws.AcceptedLaws.{checked_read, flat_checked_lem, flat_accepted_checked}
 use Rattle.files.specs.Outcome.{into_bytes, answered, written}
 use Rattle.flatten.specs.Flatten.{flattened}
-use Rattle.files.specs.declared.Outcome.TheVariants.{Written, Refused}
 use Rattle.lines.specs.Lines.{linear_of, refused_line, accepted_lines, sheet_lines}
+use Rattle.std.specs.Prelude.{Ok, Err}
+use Rattle.files.specs.declared.Refusal.{Refusal}
+use Rattle.files.specs.Refusal.{refusal}
 
 -- the file is shorter than 16,384 bytes
 abbrev Short : Got (List ℕ) → Type 0
@@ -45,12 +47,12 @@ module _ (s : List ℕ) (small : length s ≤ 4096) where
       by (got ts q) e = short ts q e
       by (refused n p) e = tt
 
-  module _ (n : ℕ) (answer : Written n ≡ answered (flattened s 16384)) where
+  module _ (n : ℕ) (answer : Ok n ≡ answered (flattened s 16384)) where
     pub written_within : n ≤ 16384
     unfolding answered
     written_within = by (linear_of s) all_short (rw enough at answer)
       where
-        by : (g : Got (List ℕ)) → Short g → Written n ≡ answered g → n ≤ 16384
+        by : (g : Got (List ℕ)) → Short g → Ok n ≡ answered g → n ≤ 16384
         by (got w q) h e = let same : n ≡ length w = cc in omega arith
         by (refused m p) h e = clash (cc)
 
@@ -59,14 +61,14 @@ module _ (s : List ℕ) (small : length s ≤ 4096) where
     unfolding answered written sheet_lines
     accepted_lines_lem old w h = rw (h, enough) (by (linear_of s) (rw enough at answer))
       where
-        by : (g : Got (List ℕ)) → Written n ≡ answered g → sheet_lines s g ≡ accepted_lines s (take n (written old g))
+        by : (g : Got (List ℕ)) → Ok n ≡ answered g → sheet_lines s g ≡ accepted_lines s (take n (written old g))
         by (got v q) e = let same : length v ≡ n = cc in rw (take_at v (drop (length v) old) n same)
         by (refused m p) e = clash (cc)
 
-  pub refused_lines : (n p : ℕ) → Refused n p ≡ answered (flattened s 16384) → sheet_lines s (linear_of s) ≡ refused_line n p
+  pub refused_lines : (r : Refusal ℕ) → Err r ≡ answered (flattened s 16384) → sheet_lines s (linear_of s) ≡ refused_line r.0 r.1
   unfolding answered sheet_lines
-  refused_lines n p answer = by (linear_of s) (rw enough at answer)
+  refused_lines r answer = by (linear_of s) (rw enough at answer)
     where
-      by : (g : Got (List ℕ)) → Refused n p ≡ answered g → sheet_lines s g ≡ refused_line n p
+      by : (g : Got (List ℕ)) → Err r ≡ answered g → sheet_lines s g ≡ refused_line r.0 r.1
       by (got w q) e = clash (cc)
-      by (refused m o) e = let a : m ≡ n = cc in let b : o ≡ p = cc in rw (a, b)
+      by (refused m o) e = let k : ◌≡◌ {A = Refusal ℕ} (refusal m o) r = cc in ap (λ (x : Refusal ℕ). refused_line x.0 x.1) k

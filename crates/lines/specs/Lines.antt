@@ -1,5 +1,5 @@
 -- The program's lines as ASCII bytes (document 01, 'Rule sheets to try', the program).
-use Rattle.std.specs.Prelude.{ℕ, cond, List, [], ◌∷◌, ◌++◌, leb, length, drop}
+use Rattle.std.specs.Prelude.{ℕ, cond, List, [], ◌∷◌, ◌++◌, leb, length, drop, Result, Ok, Err}
 use Rattle.cells.specs.Cells.{full}
 use Rattle.cells.specs.declared.Value.{Value}
 use Rattle.cells.specs.declared.Value.TheVariants.{False, True, Null, Unspecified, Integer, Procedure, Pair, NoValue}
@@ -12,8 +12,8 @@ use Rattle.machines.specs.Runs.{fresh_memory, run_of, tree_run, linear_run}
 use Rattle.machines.specs.declared.End.{End}
 use Rattle.machines.specs.declared.End.TheVariants.{Halted, Wrong, OutOfBudget, Refused}
 use Rattle.machines.specs.declared.Run.{Run}
-use Rattle.files.specs.declared.Outcome.{Outcome}
-use Rattle.files.specs.declared.Outcome.TheVariants.{Written, Refused as RefusedLines}
+use Rattle.files.specs.declared.Refusal.{Refusal}
+use Rattle.files.specs.Refusal.{refusal}
 
 -- ---- words
 abbrev pub linear_word : List ℕ
@@ -86,8 +86,8 @@ program_lines s = cond (leb (length s) 4096) (sheet_lines s (linear_of s)) (refu
 
 -- ---- the lines in a lent output
 -- what the program answers for an output of n bytes: how many the lines are; 9 and the bytes needed where they do not fit
-unfoldable pub printed : List ℕ → ℕ → Outcome
-printed ls n = cond (leb (length ls) n) (Written (length ls)) (RefusedLines 9 (length ls))
+unfoldable pub printed : List ℕ → ℕ → Result ℕ (Refusal ℕ)
+printed ls n = cond (leb (length ls) n) (Ok (length ls)) (Err (refusal 9 (length ls)))
 
 -- what the output holds that held old: the lines in its first bytes; where they do not fit it is unchanged
 unfoldable pub program_output : List ℕ → List ℕ → List ℕ

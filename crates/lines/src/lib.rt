@@ -8,7 +8,7 @@ ghost use Rattle.lines.specs.Lines.{answer_word, end_words, machine_line, linear
 ghost use Rattle.lines.specs.Lines.{tabular_run, flat_run, accepted_lines, linear_of, sheet_lines, program_lines, printed, program_output};
 
 use cells::Value;
-use files::Outcome;
+use files::{Outcome, Refusal};
 use machines::{End, Run};
 
 // ---- words into a buffer, from place at on; each function answers the place after them
@@ -135,8 +135,8 @@ fn put_sheet(out: &mut [u8], sheet: &[u8]) -> usize
 {
     let mut linear = [0u8; 16384];
     match flatten::flatten(sheet, &mut linear) {
-        Outcome::Written(n) => put_accepted(out, sheet, &linear[..n]),
-        Outcome::Refused(n, p) => text::put_numbers(out, 0, b"refused", n as u64, p as u64),
+        Ok(n) => put_accepted(out, sheet, &linear[..n]),
+        Err(Refusal(n, p)) => text::put_numbers(out, 0, b"refused", n as u64, p as u64),
     }
 }
 
@@ -160,7 +160,7 @@ pub fn program(sheet: &[u8], out: &mut [u8]) -> Outcome
     let mut lines = [0u8; 256];
     let count = put_lines(&mut lines, sheet);
     if out.len() < count {
-        return Outcome::Refused(9, count);
+        return Err(Refusal(9, count));
     }
-    Outcome::Written(text::put_bytes(out, 0, &lines[..count]))
+    Ok(text::put_bytes(out, 0, &lines[..count]))
 }

@@ -10,6 +10,7 @@ ghost use Rattle.links.specs.TreeSteps.{linked_from, FileReady, FileMarked};
 ghost use Rattle.links.specs.Parts.{parts_of, ToLink, ArmsToLink, SavedToLink, linked_got, linked_arms, linked_saved};
 
 use cells::BitPlace;
+use lists::Shape;
 
 // What stands at a place of a list: its end, an instruction without lists and the place past it, the place of a conditional's second arm
 // and the place past both, the place past a make-cont's saved list, or no instruction.
@@ -43,21 +44,21 @@ fn set_link(links: &mut [u32], at: BitPlace, to: BitPlace)
 
 // What stands at a place of a list that was read. The links of places that are not linked yet hold what reading kept: at a list's first
 // place the place past it.
+#[tactic(auto, unfolding(lists::specs::Shapes::Numbered))]
 fn parts_at(s: &[u8], links: &[u32], at: BitPlace) -> Parts
     requires { (length s.now ≤ 65536) × (at.0 + 5 ≤ 8 * length s.now) }
     ensures { (l : ℕ) → ToLink s.now links.now l at.0
         → result ≡ parts_of at.0 (head_at s.now (deep_of s.now l) at.0) }
 {
-    let shape = lists::shape_of(fields::bits_at(s, at, 5));
-    match shape {
-        0 => Parts::End,
-        1 | 2 | 3 => Parts::Simple(at.past(5 + 8 * (shape as usize - 1))),
-        4 => {
+    match lists::shape_of(fields::bits_at(s, at, 5)) {
+        Shape::End => Parts::End,
+        Shape::Plain(operands) => Parts::Simple(at.past(5 + 8 * operands)),
+        Shape::Branch => {
             let second = link_at(links, at.past(5));
             Parts::Arms(second, link_at(links, second))
         }
-        5 => Parts::Saved(link_at(links, at.past(13))),
-        _ => Parts::Bad,
+        Shape::Save => Parts::Saved(link_at(links, at.past(13))),
+        Shape::NoCode => Parts::Bad,
     }
 }
 
@@ -145,10 +146,8 @@ pub fn link_tree(s: &[u8], table: &[u64], count: usize, links: &mut [u32])
     requires { FileReady s.now table.now count × (256 * count ≤ length table.now) × FileMarked s.now links.old }
     ensures { links.new ≡ linked_from links.old 0 (tree_read s.now) }
 {
-    let mut own: usize = 0;
-    while own < count {
+    for own in 0..count {
         let start = BitPlace::from_slot(table[256 * own]);
         link_list(s, links, start, BitPlace(0), BitPlace(0), 15);
-        own = own + 1;
     }
 }

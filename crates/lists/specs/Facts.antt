@@ -1,5 +1,5 @@
 -- The facts of a code list that refusals 6, 7, 24 and 8 and the flattener need.
-use Rattle.std.specs.Prelude.{ℕ, ◌+◌, ◌*◌, ◌%◌, ◌^◌, Bool, true, false, cond, ◌&&◌, List, length, get_or, leb, eqb}
+use Rattle.std.specs.Prelude.{ℕ, ◌+◌, ◌*◌, ◌%◌, ◌^◌, Bool, true, false, cond, ◌&&◌, List, length, get_or, leb, eqb, Result, Ok, Err}
 use Rattle.std.proofs.Math.Option.{Option, none, some}
 use Rattle.cells.specs.Cells.{tag_of}
 use Rattle.files.specs.Code.{Code, done, neutral, return, call, unless_false, make_cont}
@@ -8,15 +8,35 @@ use Rattle.files.specs.Entries.{Entry, constant, global, template}
 use Rattle.files.specs.Grammar.{is_empty, is_open, is_closed, entry_of, each_neutral}
 use Rattle.files.specs.Flat.{flat, offsets_fit}
 use Rattle.lists.specs.Sets.{unite}
+use Rattle.lists.specs.declared.Class.{Class}
+use Rattle.lists.specs.declared.Class.TheVariants.{Empty, Open, Closed, Neither}
 use Rattle.lists.specs.declared.Facts.{Facts}
-use Rattle.lists.specs.declared.Listed.{Listed}
-use Rattle.lists.specs.declared.Listed.TheVariants.{Done, Refused}
+use Rattle.files.specs.declared.Refusal.{Refusal}
+use Rattle.files.specs.Refusal.{refusal}
+use Rattle.cells.specs.declared.BitPlace.{BitPlace}
 
--- 0 empty, 1 open, 2 closed, 3 neither
-abbrev pub class_by : Bool → Bool → Bool → ℕ
-class_by e o k = cond e 0 (cond o 1 (cond k 2 3))
+unfoldable pub says_empty : Class → Bool
+says_empty Empty = true
+says_empty Open = false
+says_empty Closed = false
+says_empty Neither = false
 
-unfoldable pub class_of : Code → ℕ
+unfoldable pub says_open : Class → Bool
+says_open Empty = false
+says_open Open = true
+says_open Closed = false
+says_open Neither = false
+
+unfoldable pub says_closed : Class → Bool
+says_closed Empty = false
+says_closed Open = false
+says_closed Closed = true
+says_closed Neither = false
+
+abbrev pub class_by : Bool → Bool → Bool → Class
+class_by e o k = cond e Empty (cond o Open (cond k Closed Neither))
+
+unfoldable pub class_of : Code → Class
 class_of c = class_by (is_empty c) (is_open c) (is_closed c)
 
 -- what a table's slot holds suits code 6 (a constant's cell), 7 (a template), 8 and 9 (a global)
@@ -70,6 +90,6 @@ facts_of table own c =
     record { class = class_of c; size = length (flat c); named = slots_fit table own c; fits = offsets_fit c; closes = slots_close table own c }
 
 -- what was read, without the code
-unfoldable pub listed : List ℕ → ℕ → Got Code → Listed
-listed table own (got c q) = Done (record { 0 = q }) (facts_of table own c)
-listed table own (refused n p) = Refused n (record { 0 = p })
+unfoldable pub listed : List ℕ → ℕ → Got Code → Result (BitPlace × Facts) (Refusal BitPlace)
+listed table own (got c q) = Ok (record { 0 = q }, facts_of table own c)
+listed table own (refused n p) = Err (refusal n (record { 0 = p }))

@@ -1,4 +1,5 @@
 -- The specs of the crate lists.
+pub mod Shapes
 pub mod Sets
 pub mod Facts
 pub mod Pass

@@ -1,11 +1,12 @@
 -- Marks: what reading keeps of each list, by the list's first place / 5 (a list has at least 5 bits, so two of them never share a mark). For
 -- the flattener twice the size of its flat code, and 1 more if it is closed; for the links the place past it.
-use Rattle.std.specs.Prelude.{ℕ, ◌+◌, ◌*◌, ◌/◌, ◌≡◌, Bool, cond, List, length, get_or, set, eqb}
+use Rattle.std.specs.Prelude.{ℕ, ◌+◌, ◌*◌, ◌/◌, ◌≡◌, Bool, cond, List, length, get_or, set}
 use Rattle.files.specs.Code.{Code, done, neutral, return, call, unless_false, make_cont, bits, Instr, neutral_i, return_i, call_i, unless_i, cont_i}
 use Rattle.files.specs.Reading.{Got, got, refused, Head, stop, item, bad}
 use Rattle.files.specs.Grammar.{is_closed}
 use Rattle.files.specs.Flat.{flat}
 use Rattle.lists.specs.declared.Facts.{Facts}
+use Rattle.lists.specs.Facts.{says_closed}
 use Rattle.lists.specs.declared.Keep.{Keep}
 use Rattle.lists.specs.declared.Keep.TheVariants.{Sizes, Pasts}
 
@@ -19,7 +20,7 @@ mark_of Pasts c q = q
 
 -- by the list's facts
 unfoldable pub mark_by : Keep → Facts → ℕ → ℕ
-mark_by Sizes f q = size_mark (eqb f.class 2) f.size
+mark_by Sizes f q = size_mark (says_closed f.class) f.size
 mark_by Pasts f q = q
 
 -- ---- marks of lists

@@ -1,23 +1,25 @@
 -- The facts of a list in one pass: what each instruction adds, from the first to the last.
-use Rattle.std.specs.Prelude.{ℕ, zero, suc, ◌+◌, ◌≤◌, ◌≡◌, Bool, true, false, cond, ◌&&◌, ◌||◌, List, [], ◌∷◌, length, get_or, leb, ltb, eqb}
+use Rattle.std.specs.Prelude.{ℕ, zero, suc, ◌+◌, ◌≤◌, ◌≡◌, Bool, true, false, cond, ◌&&◌, ◌||◌, List, [], ◌∷◌, length, get_or, ltb, eqb, Result, Ok, Err}
 use Rattle.fields.specs.Field.{field_at}
 use Rattle.cells.specs.declared.BitPlace.{BitPlace}
 use Rattle.files.specs.Codes.{shape_of}
 use Rattle.files.specs.Code.{Code, done, neutral, return, call, unless_false, make_cont, Instr, neutral_i, return_i, call_i, unless_i, cont_i}
 use Rattle.files.specs.Reading.{Got, got, refused, Head, stop, item, bad, bottom, below, shaped, head_at, deep_of, list_at}
 use Rattle.files.specs.Flat.{fits_offset, arms_fit}
+use Rattle.lists.specs.declared.Class.{Class}
+use Rattle.lists.specs.declared.Class.TheVariants.{Empty, Open, Closed, Neither as NoClass}
 use Rattle.lists.specs.declared.Facts.{Facts}
-use Rattle.lists.specs.declared.Listed.{Listed}
-use Rattle.lists.specs.declared.Listed.TheVariants.{Done, Refused}
 use Rattle.lists.specs.declared.Kind.{Kind}
 use Rattle.lists.specs.declared.Kind.TheVariants.{Neutral, Ending, SavesOpen, SavesClosed, SavesNeither, Neither}
 use Rattle.lists.specs.declared.Added.{Added}
-use Rattle.lists.specs.declared.Item.{Item}
-use Rattle.lists.specs.declared.Item.TheVariants.{End, More, Bad}
 use Rattle.lists.specs.declared.Classes.{Classes}
 use Rattle.lists.specs.declared.State.{State}
 use Rattle.lists.specs.Sets.{unite}
-use Rattle.lists.specs.Facts.{slot_named, slot_closes, facts_of}
+use Rattle.lists.specs.Facts.{says_open, says_closed, slot_named, slot_closes, facts_of}
+use Rattle.files.specs.declared.Refusal.{Refusal}
+use Rattle.files.specs.Refusal.{refusal}
+use Rattle.lists.specs.declared.Item.{Item}
+use Rattle.lists.specs.declared.Item.TheVariants.{End, More}
 
 -- ---- one instruction
 -- without lists: its code, how many operands it has, the first of them
@@ -28,12 +30,12 @@ simple_added table own v k n =
     (record { kind = Neutral; size = 1 + k; named = slot_named table own v n; fits = true; closes = slot_closes table own v n })
 
 -- unless-false, by the classes of its arms
-unfoldable pub conditional_kind : ℕ → ℕ → Kind
-conditional_kind x y = cond (eqb x 1 && eqb y 1) Neutral (cond (eqb x 2 && eqb y 2) Ending Neither)
+unfoldable pub conditional_kind : Class → Class → Kind
+conditional_kind x y = cond (says_open x && says_open y) Neutral (cond (says_closed x && says_closed y) Ending Neither)
 
 -- by the class of the first arm and the sizes of both
-unfoldable pub conditional_size : ℕ → ℕ → ℕ → ℕ
-conditional_size class x y = cond (eqb class 2) 3 6 + x + y
+unfoldable pub conditional_size : Class → ℕ → ℕ → ℕ
+conditional_size class x y = cond (says_closed class) 3 6 + x + y
 
 unfoldable pub conditional_added : Facts → Facts → Added
 conditional_added x y =
@@ -41,13 +43,16 @@ conditional_added x y =
       kind = conditional_kind x.class y.class;
       size = conditional_size x.class x.size y.size;
       named = x.named && y.named;
-      fits = arms_fit (eqb x.class 2) x.size y.size && (x.fits && y.fits);
+      fits = arms_fit (says_closed x.class) x.size y.size && (x.fits && y.fits);
       closes = unite x.closes y.closes;
     }
 
 -- make-cont, by the class of its saved list
-unfoldable pub save_kind : ℕ → Kind
-save_kind x = cond (leb x 1) SavesOpen (cond (eqb x 2) SavesClosed SavesNeither)
+unfoldable pub save_kind : Class → Kind
+save_kind Empty = SavesOpen
+save_kind Open = SavesOpen
+save_kind Closed = SavesClosed
+save_kind NoClass = SavesNeither
 
 unfoldable pub save_added : Facts → Added
 save_added x = record { kind = save_kind x.class; size = 4 + x.size; named = x.named; fits = x.fits; closes = x.closes }
@@ -69,11 +74,11 @@ added_by table own (cont_i n x) = save_added (facts_of table own x)
 -- ---- what is known of a list after one more instruction
 unfoldable pub classes_after : Kind → Classes → Classes
 classes_after Neutral c = record { empty = c.opened; opened = c.opened; closed = c.closed }
-classes_after Ending c = record { empty = c.closed; opened = 3; closed = 3 }
-classes_after SavesOpen c = record { empty = 3; opened = 3; closed = c.opened }
-classes_after SavesClosed c = record { empty = 3; opened = 3; closed = c.closed }
-classes_after SavesNeither c = record { empty = 3; opened = 3; closed = 3 }
-classes_after Neither c = record { empty = 3; opened = 3; closed = 3 }
+classes_after Ending c = record { empty = c.closed; opened = NoClass; closed = NoClass }
+classes_after SavesOpen c = record { empty = NoClass; opened = NoClass; closed = c.opened }
+classes_after SavesClosed c = record { empty = NoClass; opened = NoClass; closed = c.closed }
+classes_after SavesNeither c = record { empty = NoClass; opened = NoClass; closed = NoClass }
+classes_after Neither c = record { empty = NoClass; opened = NoClass; closed = NoClass }
 
 unfoldable pub is_save : Kind → Bool
 is_save Neutral = false
@@ -98,7 +103,7 @@ state_after st o =
 unfoldable pub begun : State
 begun =
     record {
-      classes = record { empty = 0; opened = 1; closed = 2 };
+      classes = record { empty = Empty; opened = Open; closed = Closed };
       size = 0;
       seen = false;
       tail = 0;
@@ -121,14 +126,14 @@ run table own (make_cont n x r) st = run table own r (state_after st (added_by t
 
 -- ---- what is answered, without the code
 -- a list of which what is known up to here is st
-unfoldable pub listed_from : List ℕ → ℕ → State → Got Code → Listed
-listed_from table own st (got c q) = Done (record { 0 = q }) (finish (run table own c st))
-listed_from table own st (refused n p) = Refused n (record { 0 = p })
+unfoldable pub listed_from : List ℕ → ℕ → State → Got Code → Result (BitPlace × Facts) (Refusal BitPlace)
+listed_from table own st (got c q) = Ok (record { 0 = q }, finish (run table own c st))
+listed_from table own st (refused n p) = Err (refusal n (record { 0 = p }))
 
-unfoldable pub itemed : List ℕ → ℕ → Head → Item
-itemed table own (stop q) = End (record { 0 = q })
-itemed table own (item i q) = More (record { 0 = q }) (added_by table own i)
-itemed table own (bad n p) = Bad n (record { 0 = p })
+unfoldable pub itemed : List ℕ → ℕ → Head → Result Item (Refusal BitPlace)
+itemed table own (stop q) = Ok (End (record { 0 = q }))
+itemed table own (item i q) = Ok (More (record { 0 = q }) (added_by table own i))
+itemed table own (bad n p) = Err (refusal n (record { 0 = p }))
 
 -- An instruction whose code ends at q, by its shape: without lists (1 to 3), its code being v; with lists (4 and 5), with so many levels
 -- left below them. Nothing else matters of where it stands.
@@ -151,7 +156,8 @@ Plain o = (o.kind ≡ Neutral) × (o.fits ≡ true) × (o.closes ≡ 0) × (1 �
 pub data Neutrals (table : List ℕ) (own : ℕ) (s : List ℕ) (p : ℕ) : ℕ → ℕ → Bool → Type 0 where
   none : Neutrals table own s p p 0 true
   more : (q n : ℕ) (b : Bool) → Neutrals table own s p q n b → (v k : ℕ) → 1 ≤ k → k ≤ 3
-      → ((l : ℕ) → head_at s (deep_of s l) q ≡ simple_at s v (q + 5) k) → (u : BitPlace) (o : Added) → More u o ≡ itemed table own (simple_at s v (q + 5) k)
+      → ((l : ℕ) → head_at s (deep_of s l) q ≡ simple_at s v (q + 5) k) → (u : BitPlace) (o : Added)
+      → Ok (More u o) ≡ itemed table own (simple_at s v (q + 5) k)
       → Plain o → (q' n' : ℕ) (b' : Bool) → q' ≡ u.0 → n' ≡ n + o.size → b' ≡ (b && o.named) → Neutrals table own s p q' n' b'
 
 -- what is known of a list after such a run

@@ -9,3 +9,4 @@ pub mod RunLaws
 pub mod Known
 pub mod SlotLaws
 pub mod Rows
+pub mod ShapeLaws

@@ -1,36 +1,55 @@
 // Reading a code list of a tree file in one pass, with the facts that refusals 6, 7, 24 and 8 and the flattener need.
 #![tactic(auto)]
 
-ghost use Rattle.std.specs.Prelude.{◌≡◌, cond, ◌&&◌, ◌||◌, ◌+◌, ◌*◌, ◌-◌, ◌/◌, ◌%◌, ◌^◌, ◌≤◌, ◌<◌, length, eqb};
+ghost use Rattle.std.specs.Prelude.{ℕ, ◌≡◌, Some, cond, ◌&&◌, ◌||◌, ◌+◌, ◌*◌, ◌-◌, ◌/◌, ◌%◌, ◌^◌, ◌≤◌, ◌<◌, length};
 ghost use Rattle.fields.specs.Field.{field_at};
 ghost use Rattle.files.specs.Codes.{shape_of};
 ghost use Rattle.files.specs.Flat.{arms_fit};
 ghost use Rattle.files.specs.Reading.{head_at, deep_of, list_at};
 ghost use Rattle.lists.specs.Sets.{unite};
-ghost use Rattle.lists.specs.Facts.{slot_fits, slot_named, slot_closes, listed};
+ghost use Rattle.lists.specs.Shapes.{Numbered};
+ghost use Rattle.lists.specs.Facts.{says_open, says_closed, slot_fits, slot_named, slot_closes, listed};
 ghost use Rattle.lists.specs.Marks.{size_mark, mark_by, mark_at, mark, head_marked, list_marked};
 ghost use Rattle.lists.specs.Pass.{classes_after, is_save, state_after, begun, finish, simple_added, conditional_kind, conditional_size, conditional_added};
 ghost use Rattle.lists.specs.Pass.{save_kind, save_added, simple_at, deep_at, itemed, run_shape, run_after, Neutrals};
 
 use cells::BitPlace;
-use fields::Field;
+use files::{Reading, Refusal};
 
-// What is to be known of a list: its class (0 empty, 1 open, 2 closed, 3 neither), how many bytes its flat code has, whether codes 6 to 9
+// The class of a list.
+#[derive(Clone, Copy)]
+pub enum Class {
+    Empty,
+    Open,
+    Closed,
+    Neither,
+}
+
+impl Class {
+    #[tactic(auto, unfolding(crate::specs::Facts::says_open))]
+    pub fn is_open(self) -> bool
+        ensures { result ≡ says_open self }
+    {
+        matches!(self, Class::Open)
+    }
+
+    #[tactic(auto, unfolding(crate::specs::Facts::says_closed))]
+    pub fn is_closed(self) -> bool
+        ensures { result ≡ says_closed self }
+    {
+        matches!(self, Class::Closed)
+    }
+}
+
+// What is to be known of a list: its class, how many bytes its flat code has, whether codes 6 to 9
 // name entries that suit them, whether its offsets fit, and which templates its closures name: bit t, from the lowest, for template t.
 #[derive(Clone, Copy)]
 pub struct Facts {
-    pub class: u8,
+    pub class: Class,
     pub size: usize,
     pub named: bool,
     pub fits: bool,
     pub closes: u64,
-}
-
-// What reading a list finds: the place past it and its facts, or a refusal's number and place.
-#[derive(Clone, Copy)]
-pub enum Listed {
-    Done(BitPlace, Facts),
-    Refused(u8, BitPlace),
 }
 
 // What reading keeps of each list, by the place where it begins: twice the size of its flat code and 1 if it is closed, or the place past it.
@@ -42,7 +61,7 @@ pub enum Keep {
 
 // What an instruction does to the class of the list that it begins.
 #[derive(Clone, Copy)]
-enum Kind {
+pub enum Kind {
     Neutral,
     // return, call, unless-false with two closed arms
     Ending,
@@ -64,20 +83,19 @@ struct Added {
     pub closes: u64,
 }
 
-// What reading one instruction finds: the list's end, an instruction, or a refusal.
+// What begins a list, with the place past it: its end or an instruction.
 #[derive(Clone, Copy)]
 enum Item {
     End(BitPlace),
     More(BitPlace, Added),
-    Bad(u8, BitPlace),
 }
 
 // The class that a whole list has, by the class of what is left of it: empty, open, closed (else it is neither).
 #[derive(Clone, Copy)]
-struct Classes {
-    pub empty: u8,
-    pub opened: u8,
-    pub closed: u8,
+pub struct Classes {
+    pub empty: Class,
+    pub opened: Class,
+    pub closed: Class,
 }
 
 // What is known of a list up to a place in it. `tail` counts the flat bytes since its first make-cont, once that was `seen`: the rest
@@ -101,50 +119,66 @@ struct Run {
     pub named: bool,
 }
 
-// How a code is followed in a tree, by code (document 01, 'Codes'): 0 the end of the list; 1, 2, 3 no, one or two operand bytes; 4 two
-// lists; 5 an operand byte and a list; 6 no instruction. A match, since the compiler makes an array anew at each use.
-pub fn shape_of(code: u32) -> u8
+// How a code is followed in a tree (document 01, 'Codes').
+#[derive(Clone, Copy)]
+pub enum Shape {
+    // it ends the list
+    End,
+    // so many operand bytes, at most two
+    Plain(usize),
+    // two lists
+    Branch,
+    // an operand byte and a list
+    Save,
+    // it is no instruction of a tree
+    NoCode,
+}
+
+// The shape of each code. A match, since the compiler makes an array anew at each use.
+#[tactic(auto, unfolding(files::specs::Codes::shape_of, crate::specs::Shapes::Numbered))]
+pub fn shape_of(code: u32) -> Shape
     requires { code < 32 }
-    ensures { result ≡ shape_of code }
+    ensures { Numbered result (shape_of code) }
 {
     match code {
-        0 => 0, // end of list
-        1 => 1, // return
-        2 => 2, // call n
-        3 => 4, // unless-false
-        4 => 5, // make-cont n
-        5 => 6, // (jump)
-        6 => 2, // literal n
-        7 => 2, // closure n
-        8 => 2, // global n
-        9 => 2, // set-global! n
-        10 => 3, // local n1 n2
-        11 => 3, // set-local! n1 n2
-        12 => 1, // push
-        13 => 2, // make-env n
-        14 => 6,
-        15 => 1, // unspecified
-        16 => 2, // checkargs= n
-        17 => 6,
-        18 => 1, // %%cons
-        19 => 1, // %%car
-        20 => 1, // %%cdr
-        21 => 1, // %%eqv
-        22 => 1, // %%add
-        23 => 1, // %%sub
-        24 => 1, // %%less
-        25 => 1, // %%floor-div
-        26 => 6,
-        27 => 6,
-        28 => 6,
-        29 => 6,
-        30 => 6,
-        _ => 6, // 31
+        0 => Shape::End, // end of list
+        1 => Shape::Plain(0), // return
+        2 => Shape::Plain(1), // call n
+        3 => Shape::Branch, // unless-false
+        4 => Shape::Save, // make-cont n
+        5 => Shape::NoCode, // (jump)
+        6 => Shape::Plain(1), // literal n
+        7 => Shape::Plain(1), // closure n
+        8 => Shape::Plain(1), // global n
+        9 => Shape::Plain(1), // set-global! n
+        10 => Shape::Plain(2), // local n1 n2
+        11 => Shape::Plain(2), // set-local! n1 n2
+        12 => Shape::Plain(0), // push
+        13 => Shape::Plain(1), // make-env n
+        14 => Shape::NoCode,
+        15 => Shape::Plain(0), // unspecified
+        16 => Shape::Plain(1), // checkargs= n
+        17 => Shape::NoCode,
+        18 => Shape::Plain(0), // %%cons
+        19 => Shape::Plain(0), // %%car
+        20 => Shape::Plain(0), // %%cdr
+        21 => Shape::Plain(0), // %%eqv
+        22 => Shape::Plain(0), // %%add
+        23 => Shape::Plain(0), // %%sub
+        24 => Shape::Plain(0), // %%less
+        25 => Shape::Plain(0), // %%floor-div
+        26 => Shape::NoCode,
+        27 => Shape::NoCode,
+        28 => Shape::NoCode,
+        29 => Shape::NoCode,
+        30 => Shape::NoCode,
+        _ => Shape::NoCode, // 31
     }
 }
 
-// The same without a jump, four bits for each code, codes 0 and 16 lowest: reading meets codes in any order, and a jump would often be foreseen wrongly.
-fn shape_by_words(code: u32) -> u8
+// The shape's number in the table of codes, without a jump, four bits for each code, codes 0 and 16 lowest: reading meets codes in any order, and a jump
+// would often be foreseen wrongly.
+fn number_by_words(code: u32) -> u8
     requires { code < 32 }
     ensures { result ≡ shape_of code }
 {
@@ -154,6 +188,22 @@ fn shape_by_words(code: u32) -> u8
         0x6666661111111162
     };
     ((word >> (4 * (code % 16))) % 16) as u8
+}
+
+// As `shape_of`, by the words.
+#[tactic(auto, unfolding(crate::specs::Shapes::Numbered))]
+fn shape_by_words(code: u32) -> Shape
+    requires { code < 32 }
+    ensures { Numbered result (shape_of code) }
+{
+    let number = number_by_words(code);
+    match number {
+        0 => Shape::End,
+        1 | 2 | 3 => Shape::Plain(number as usize - 1),
+        4 => Shape::Branch,
+        5 => Shape::Save,
+        _ => Shape::NoCode,
+    }
 }
 
 fn both(x: bool, y: bool) -> bool
@@ -176,8 +226,8 @@ fn slot_fits(code: u32, slot: u64) -> bool
     (0x8300004444440u64 >> (4 * tag + (code % 4) as u64)) % 2 == 1
 }
 
-// The first operand of a neutral code suits it, if it is an index.
-fn slot_named(table: &[u64], own: usize, code: u32, n: u32) -> bool
+// The first operand of a neutral code suits it, if it is an index: the template's row has the entries.
+pub fn slot_named(table: &[u64], own: usize, code: u32, n: u32) -> bool
     requires { (256 * own + 256 ≤ length table.now) × (own < 64) × (n < 256) × (6 ≤ code) }
     ensures { result ≡ slot_named table.now own code n }
 {
@@ -230,35 +280,35 @@ fn simple_added(table: &[u64], own: usize, code: u32, operands: usize, n: u32) -
 }
 
 // The kind of an unless-false, by the classes of its arms.
-fn conditional_kind(x: u8, y: u8) -> Kind
+pub fn conditional_kind(x: Class, y: Class) -> Kind
     ensures { result ≡ conditional_kind x y }
 {
-    if both(x == 1, y == 1) {
+    if both(x.is_open(), y.is_open()) {
         return Kind::Neutral;
     }
-    if both(x == 2, y == 2) {
+    if both(x.is_closed(), y.is_closed()) {
         return Kind::Ending;
     }
     Kind::Neither
 }
 
 // How many flat bytes an unless-false has, by the class of its first arm and the sizes of both.
-fn conditional_size(class: u8, x: usize, y: usize) -> usize
+fn conditional_size(class: Class, x: usize, y: usize) -> usize
     requires { (x ≤ 1048576) × (y ≤ 1048576) }
     ensures { result ≡ conditional_size class x y }
 {
-    if class == 2 {
+    if class.is_closed() {
         return 3 + x + y;
     }
     6 + x + y
 }
 
 // The offsets of an unless-false fit, by the class of its first arm and the sizes of both.
-fn arms_fit(class: u8, x: usize, y: usize) -> bool
+fn arms_fit(class: Class, x: usize, y: usize) -> bool
     requires { x ≤ 1048576 }
-    ensures { result ≡ arms_fit (eqb class 2) x y }
+    ensures { result ≡ arms_fit (says_closed class) x y }
 {
-    if class == 2 {
+    if class.is_closed() {
         return x <= 65535;
     }
     both(3 + x <= 65535, y <= 65535)
@@ -279,16 +329,16 @@ fn conditional_added(x: Facts, y: Facts) -> Added
 }
 
 // The kind of a make-cont, by the class of its saved list.
-fn save_kind(class: u8) -> Kind
+#[tactic(auto, unfolding(crate::specs::Pass::save_kind))]
+pub fn save_kind(class: Class) -> Kind
     ensures { result ≡ save_kind class }
 {
-    if class <= 1 {
-        return Kind::SavesOpen;
+    match class {
+        Class::Empty => Kind::SavesOpen,
+        Class::Open => Kind::SavesOpen,
+        Class::Closed => Kind::SavesClosed,
+        Class::Neither => Kind::SavesNeither,
     }
-    if class == 2 {
-        return Kind::SavesClosed;
-    }
-    Kind::SavesNeither
 }
 
 // What a make-cont adds, by the facts of its saved list.
@@ -305,7 +355,7 @@ fn save_added(x: Facts) -> Added
     }
 }
 
-fn classes_after(kind: Kind, c: Classes) -> Classes
+pub fn classes_after(kind: Kind, c: Classes) -> Classes
     ensures { result ≡ classes_after kind c }
 {
     match kind {
@@ -316,28 +366,28 @@ fn classes_after(kind: Kind, c: Classes) -> Classes
         },
         Kind::Ending => Classes {
             empty: c.closed,
-            opened: 3,
-            closed: 3,
+            opened: Class::Neither,
+            closed: Class::Neither,
         },
         Kind::SavesOpen => Classes {
-            empty: 3,
-            opened: 3,
+            empty: Class::Neither,
+            opened: Class::Neither,
             closed: c.opened,
         },
         Kind::SavesClosed => Classes {
-            empty: 3,
-            opened: 3,
+            empty: Class::Neither,
+            opened: Class::Neither,
             closed: c.closed,
         },
         Kind::SavesNeither => Classes {
-            empty: 3,
-            opened: 3,
-            closed: 3,
+            empty: Class::Neither,
+            opened: Class::Neither,
+            closed: Class::Neither,
         },
         Kind::Neither => Classes {
-            empty: 3,
-            opened: 3,
-            closed: 3,
+            empty: Class::Neither,
+            opened: Class::Neither,
+            closed: Class::Neither,
         },
     }
 }
@@ -387,9 +437,9 @@ fn begin() -> State
     ensures { result ≡ begun }
 {
     let classes = Classes {
-        empty: 0,
-        opened: 1,
-        closed: 2,
+        empty: Class::Empty,
+        opened: Class::Open,
+        closed: Class::Closed,
     };
     State {
         classes,
@@ -418,13 +468,14 @@ fn finished(st: State) -> Facts
 
 // ---- a run of neutral instructions
 
-// One more than the operand bytes of the neutral code that begins a line of 21 bits, if it has no list and names no template; else 0. Two bits for each
-// code, code 0 lowest.
-fn run_shape(line: u32) -> usize
+// How many flat bytes the neutral code has that begins a line of 21 bits, if it has no list and names no template. Two bits for each code, code 0 lowest;
+// 0 for the others.
+fn run_size(line: u32) -> Option<usize>
     requires { line < 0x200000 }
-    ensures { run_shape (line / 0x10000) result }
+    ensures { (k : ℕ) → result ≡ Some k → (1 ≤ k) × run_shape (line / 0x10000) k }
 {
-    ((0x5555249fa2000u64 >> (line / 0x8000 / 2 * 2)) % 4) as usize
+    let bytes = ((0x5555249fa2000u64 >> (line / 0x8000 / 2 * 2)) % 4) as usize;
+    if bytes == 0 { None } else { Some(bytes) }
 }
 
 // The 21 bits that lie `skip` bits from the first of 64.
@@ -478,23 +529,22 @@ fn read_run(s: &[u8], table: &[u64], own: usize, at: BitPlace) -> Run
     let mut low = fields::four_at(s, at.byte() + 4);
     while here.byte() + 7 < s.len() {
         let line = line_in(high, low, skip);
-        let shape = run_shape(line);
-        if shape == 0 {
+        let Some(bytes) = run_size(line) else {
             return Run {
                 past: here,
                 size,
                 named,
             };
-        }
+        };
         high = fields::four_at(s, here.byte());
         low = fields::four_at(s, here.byte() + 4);
-        skip = here.bit() + (8 * shape - 3);
+        skip = here.bit() + (8 * bytes - 3);
         named = both(
             named,
             slot_named(table, own, line / 0x10000, line / 0x100 % 0x100),
         );
-        size = size + shape;
-        here = here.past(8 * shape - 3);
+        size = size + bytes;
+        here = here.past(8 * bytes - 3);
     }
     Run {
         past: here,
@@ -520,7 +570,7 @@ fn mark_of(keep: Keep, facts: Facts, past: BitPlace) -> u32
     ensures { result ≡ mark_by keep facts past.0 }
 {
     match keep {
-        Keep::Sizes => size_mark(facts.class == 2, facts.size),
+        Keep::Sizes => size_mark(facts.class.is_closed(), facts.size),
         Keep::Pasts => past.to_link(),
     }
 }
@@ -545,22 +595,28 @@ pub fn mark_at(marks: &[u32], at: BitPlace) -> u32
 
 // ---- reading
 
-// An instruction without lists at a place, by its line, the 21 bits there, and its code's shape.
-fn read_simple(s: &[u8], table: &[u64], own: usize, at: BitPlace, line: u32, shape: u8) -> Item
+// An instruction without lists at a place, by its line, the 21 bits there, and how many operand bytes it has.
+fn read_simple(
+    s: &[u8],
+    table: &[u64],
+    own: usize,
+    at: BitPlace,
+    line: u32,
+    operands: usize,
+) -> Reading<Item>
     requires { (length s.now ≤ 65536) × (256 * own + 256 ≤ length table.now) × (own < 64) × (line ≡ field_at s.now at.0 21)
-        × (at.0 + 5 ≤ 8 * length s.now) × (shape_of (line / 0x10000) ≡ shape) × (1 ≤ shape) × (shape ≤ 3) }
-    ensures { result ≡ itemed table.now own (simple_at s.now (line / 0x10000) (at.0 + 5) shape) }
+        × (at.0 + 5 ≤ 8 * length s.now) × (shape_of (line / 0x10000) ≡ 1 + operands) × (operands ≤ 2) }
+    ensures { result ≡ itemed table.now own (simple_at s.now (line / 0x10000) (at.0 + 5) (1 + operands)) }
 {
-    let operands = (shape - 1) as usize;
     let bits = 5 + 8 * operands;
     if at.within(bits, s.len()) {
         let added = simple_added(table, own, line / 0x10000, operands, line / 0x100 % 0x100);
-        return Item::More(at.past(bits), added);
+        return Ok(Item::More(at.past(bits), added));
     }
     if at.within(13, s.len()) {
-        return Item::Bad(2, at.past(13));
+        return Err(Refusal(2, at.past(13)));
     }
-    Item::Bad(2, at.past(5))
+    Err(Refusal(2, at.past(5)))
 }
 
 // An unless-false whose code ends at a place, with `levels` levels left below its arms.
@@ -573,18 +629,14 @@ fn read_conditional(
     levels: usize,
     keep: Keep,
     marks: &mut [u32],
-) -> Item
+) -> Reading<Item>
     requires { (length s.now ≤ 65536) × (256 * own + 256 ≤ length table.now) × (own < 64) }
     ensures value { result ≡ itemed table.now own (deep_at s.now levels at.0 4) }
     ensures head_marked { head_marked keep marks.old marks.new at.0 (deep_at s.now levels at.0 4) }
 {
-    match read_list(s, table, own, at, levels, keep, marks) {
-        Listed::Done(mid, x) => match read_list(s, table, own, mid, levels, keep, marks) {
-            Listed::Done(last, y) => Item::More(last, conditional_added(x, y)),
-            Listed::Refused(no, place) => Item::Bad(no, place),
-        },
-        Listed::Refused(no, place) => Item::Bad(no, place),
-    }
+    let (mid, x) = read_list(s, table, own, at, levels, keep, marks)?;
+    let (last, y) = read_list(s, table, own, mid, levels, keep, marks)?;
+    Ok(Item::More(last, conditional_added(x, y)))
 }
 
 // A make-cont whose code ends at a place, with `levels` levels left below its saved list.
@@ -597,18 +649,14 @@ fn read_make_cont(
     levels: usize,
     keep: Keep,
     marks: &mut [u32],
-) -> Item
+) -> Reading<Item>
     requires { (length s.now ≤ 65536) × (256 * own + 256 ≤ length table.now) × (own < 64) }
     ensures value { result ≡ itemed table.now own (deep_at s.now levels at.0 5) }
     ensures head_marked { head_marked keep marks.old marks.new at.0 (deep_at s.now levels at.0 5) }
 {
-    let Field::Read(_, saved) = fields::read_field(s, at, 8) else {
-        return Item::Bad(2, at);
-    };
-    match read_list(s, table, own, saved, levels, keep, marks) {
-        Listed::Done(last, x) => Item::More(last, save_added(x)),
-        Listed::Refused(no, place) => Item::Bad(no, place),
-    }
+    let (_, saved) = files::read_field(s, at, 8)?;
+    let (last, x) = read_list(s, table, own, saved, levels, keep, marks)?;
+    Ok(Item::More(last, save_added(x)))
 }
 
 // What begins the list at a place, with `levels` levels left below it.
@@ -621,36 +669,30 @@ fn read_instr(
     levels: usize,
     keep: Keep,
     marks: &mut [u32],
-) -> Item
+) -> Reading<Item>
     requires { (length s.now ≤ 65536) × (256 * own + 256 ≤ length table.now) × (own < 64) }
     ensures value { result ≡ itemed table.now own (head_at s.now (deep_of s.now levels) at.0) }
     ensures head_marked { head_marked keep marks.old marks.new (at.0 + 5) (head_at s.now (deep_of s.now levels) at.0) }
 {
     if !at.within(5, s.len()) {
-        return Item::Bad(2, at);
+        return Err(Refusal(2, at));
     }
     let line = fields::line_at(s, at);
     let next = at.past(5);
-    let shape = shape_by_words(line / 0x10000);
-    match shape {
-        0 => Item::End(next),
-        1 | 2 | 3 => read_simple(s, table, own, at, line, shape),
-        4 | 5 => {
-            if levels == 0 {
-                return Item::Bad(4, at);
-            }
-            if shape == 4 {
-                read_conditional(s, table, own, next, levels - 1, keep, marks)
-            } else {
-                read_make_cont(s, table, own, next, levels - 1, keep, marks)
-            }
+    match shape_by_words(line / 0x10000) {
+        Shape::End => Ok(Item::End(next)),
+        Shape::Plain(operands) => read_simple(s, table, own, at, line, operands),
+        Shape::Branch if 0 < levels => {
+            read_conditional(s, table, own, next, levels - 1, keep, marks)
         }
-        _ => Item::Bad(3, at),
+        Shape::Save if 0 < levels => read_make_cont(s, table, own, next, levels - 1, keep, marks),
+        Shape::Branch | Shape::Save => Err(Refusal(4, at)),
+        Shape::NoCode => Err(Refusal(3, at)),
     }
 }
 
-// The list at a place of template `own`, with `levels` levels left below it. `table` is the run's table, whose row `own` has the
-// template's entries. Of each list that is read it keeps a mark, where `marks` has room for it: at the list's first place (`link_index`).
+// The list at a place of template `own`, with `levels` levels left below it: the place past it and its facts. `table` is the run's table, whose row
+// `own` has the template's entries. Of each list that is read it keeps a mark, where `marks` has room for it: at the list's first place (`link_index`).
 #[cycle(read_conditional_read_instr_read_list_read_make_cont)]
 pub fn read_list(
     s: &[u8],
@@ -660,7 +702,7 @@ pub fn read_list(
     levels: usize,
     keep: Keep,
     marks: &mut [u32],
-) -> Listed
+) -> Reading<(BitPlace, Facts)>
     requires { (length s.now ≤ 65536) × (256 * own + 256 ≤ length table.now) × (own < 64) }
     ensures value { result ≡ listed table.now own (list_at s.now levels at.0) }
     ensures list_marked { list_marked keep marks.old marks.new at.0 (list_at s.now levels at.0) }
@@ -670,18 +712,15 @@ pub fn read_list(
     loop {
         let run = read_run(s, table, own, here);
         let so_far = run_after(st, run);
-        match read_instr(s, table, own, run.past, levels, keep, marks) {
+        match read_instr(s, table, own, run.past, levels, keep, marks)? {
             Item::End(next) => {
                 let facts = finished(so_far);
                 set_mark(marks, at, mark_of(keep, facts, next));
-                return Listed::Done(next, facts);
+                return Ok((next, facts));
             }
             Item::More(next, more) => {
                 here = next;
                 st = state_after(so_far, more);
-            }
-            Item::Bad(no, place) => {
-                return Listed::Refused(no, place);
             }
         }
     }

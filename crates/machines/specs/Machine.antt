@@ -3,7 +3,7 @@ use Rattle.std.specs.Prelude.{ℕ, zero, suc, ◌+◌, cond, List, get_or}
 use Rattle.cells.specs.Numbers.{bad_code}
 use Rattle.files.specs.Tree.{Template}
 use Rattle.files.specs.Linear.{Linear}
-use Rattle.rules.specs.State.{Held, Res, ok, wrong}
+use Rattle.rules.specs.State.{Res, ok, wrong}
 use Rattle.owners.specs.declared.Owner.{Owner}
 use Rattle.rules.specs.Owned.{owned_rule}
 use Rattle.rules.specs.Rules.{Data, applied, called, call_rule, make_cont_rule, Back, no_frame, back_to, return_rule, is_false}

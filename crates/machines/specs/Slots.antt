@@ -1,14 +1,9 @@
 -- An instruction with its entry resolved by the slot that the run's table has of it (files, Table).
-use Rattle.std.specs.Prelude.{ℕ, ◌+◌, ◌*◌, ◌%◌, cond, List, leb, eqb, get_or}
+use Rattle.std.specs.Prelude.{ℕ, ◌+◌, ◌*◌, ◌%◌, cond, List, leb, eqb, get_or, Option as OrNone, None, Some}
 use Rattle.std.proofs.Math.Option.{Option, none, some}
 use Rattle.cells.specs.Cells.{tag_of}
-use Rattle.files.specs.Entries.{template}
 use Rattle.rules.specs.declared.Plain.{Plain}
 use Rattle.machines.specs.Fetched.{Named, constant_named, global_named, template_named, none_named, rule_of}
-use Rattle.machines.specs.declared.Marked.{Marked}
-use Rattle.machines.specs.declared.Marked.TheVariants.{Number, Other}
-use Rattle.machines.specs.declared.Resolved.{Resolved}
-use Rattle.machines.specs.declared.Resolved.TheVariants.{Fit, Unfit}
 
 -- what a slot x says
 unfoldable pub slot_names : ℕ → Named
@@ -28,10 +23,10 @@ unfolding slot_names rule_of
 slot_resolve slot op a b = rule_of (λ n. slot_names (slot n)) op a b
 
 -- how resolving is told
-unfoldable pub resolved_as : Option Plain → Resolved
-resolved_as none = Unfit
-resolved_as (some i) = Fit i
+unfoldable pub resolved_as : Option Plain → OrNone Plain
+resolved_as none = None
+resolved_as (some i) = Some i
 
 -- what slot x holds under a tag
-unfoldable pub marked_as : ℕ → ℕ → Marked
-marked_as tag x = cond (eqb (tag_of x) tag) (Number (x % 256)) Other
+unfoldable pub marked_as : ℕ → ℕ → OrNone ℕ
+marked_as tag x = cond (eqb (tag_of x) tag) (Some (x % 256)) None

@@ -1,7 +1,7 @@
 -- A run told as it is reported, step by step.
 use Rattle.std.specs.Prelude.{ℕ}
 use Rattle.owners.specs.declared.Owner.{Owner}
-use Rattle.machines.specs.Machine.{Program, State, Counts, counted, run}
+use Rattle.machines.specs.Machine.{Program, State, Counts, run}
 use Rattle.machines.specs.Runs.{Ran, reported}
 
 -- n steps done, and nothing else counted

@@ -1,13 +1,17 @@
 // The two machines (document 01, 'Rules').
 #![tactic(auto)]
 
-ghost use Rattle.std.specs.Prelude.{◌≡◌, length};
+ghost use Rattle.std.specs.Prelude.{◌≡◌, length, not};
+ghost use Rattle.std.specs.List.{position};
+ghost use Rattle.cells.specs.Cells.{starting_global};
 ghost use Rattle.machines.specs.Runs.{memory, lowest_unfit};
 ghost use Rattle.machines.specs.Fetched.{as_literal};
 ghost use Rattle.machines.specs.Slots.{slot_names, slot_at, slot_resolve, resolved_as, marked_as};
 ghost use Rattle.machines.specs.Start.{zeros, refusal, globals_refusal, start_refusal};
 
 use cells::{BitPlace, BytePlace, Value};
+use files::Refusal;
+use owners::Owner;
 use rules::Plain;
 
 // How a run ends.
@@ -30,29 +34,28 @@ pub struct Run {
     pub frames: usize,
 }
 
-// What is refused before a run looks at its file: nothing, or a number and a place.
-#[derive(Clone, Copy)]
-pub enum Start {
-    Go,
-    Refused(u8, usize),
+// The lowest global that is not one to start with.
+fn first_unfit(globals: &[u64]) -> Option<usize>
+    ensures { result ≡ position (λ c. not (starting_global c)) globals.now }
+{
+    globals
+        .iter()
+        .position(|global| !cells::starting_global(*global))
 }
 
-// 22: the lowest global that is not one to start with.
-fn globals_refusal(globals: &[u64]) -> Start
+// 22: for the lowest global that is not one to start with.
+fn globals_refusal(globals: &[u64]) -> Result<(), Refusal<usize>>
     ensures { result ≡ globals_refusal (lowest_unfit 0 globals.now) }
 {
-    let mut i = 0;
-    while i < globals.len() {
-        if !cells::starting_global(globals[i]) {
-            return Start::Refused(22, i);
-        }
-        i = i + 1;
+    match first_unfit(globals) {
+        Some(place) => Err(Refusal(22, place)),
+        None => Ok(()),
     }
-    Start::Go
 }
 
-// 20, 21, 31 and 22, where a budget may be `most`; `owner` is the owner's number.
-#[tactic(auto, unfolding(crate::specs::Start::start_refusal, crate::specs::Runs::right_lengths))]
+// What is refused before a run looks at its file: 20, 21, 31 and 22, where a budget may be `most`; `owner` is the owner's number. Whose run
+// it is, where nothing is refused.
+#[tactic(auto, unfolding(crate::specs::Start::start_refusal, owners::specs::Owners::owner_told))]
 pub fn start_refusal(
     globals: &[u64],
     stack: &[u64],
@@ -61,28 +64,27 @@ pub fn start_refusal(
     budget: u64,
     most: u64,
     owner: u64,
-) -> Start
+) -> Result<Owner, Refusal<usize>>
     ensures { result ≡ start_refusal most budget owner (memory globals.now stack.now store.now frames.now) }
 {
     if globals.len() != 256 {
-        return Start::Refused(20, 0);
+        return Err(Refusal(20, 0));
     }
     if stack.len() != 256 {
-        return Start::Refused(20, 0);
+        return Err(Refusal(20, 0));
     }
     if store.len() != 2048 {
-        return Start::Refused(20, 0);
+        return Err(Refusal(20, 0));
     }
     if frames.len() != 2048 {
-        return Start::Refused(20, 0);
+        return Err(Refusal(20, 0));
     }
     if budget > most {
-        return Start::Refused(21, 0);
+        return Err(Refusal(21, 0));
     }
-    if !owners::is_owner(owner) {
-        return Start::Refused(31, 0);
-    }
-    globals_refusal(globals)
+    let whose = Owner::of(owner).ok_or(Refusal(31, 0))?;
+    globals_refusal(globals)?;
+    Ok(whose)
 }
 
 pub fn refused(number: u8, place: usize) -> Run
@@ -98,13 +100,12 @@ pub fn refused(number: u8, place: usize) -> Run
 }
 
 // An accepted start zeroes stack, store and frames.
-pub fn clear_all(stack: &mut [u64], store: &mut [u64], frames: &mut [u64])
-    requires { (length stack.old ≡ 256) × (length store.old ≡ 2048) × (length frames.old ≡ 2048) }
+pub fn clear_all(stack: &mut [u64; 256], store: &mut [u64; 2048], frames: &mut [u64; 2048])
     ensures { (stack.new ≡ zeros 256) × (store.new ≡ zeros 2048) × (frames.new ≡ zeros 2048) }
 {
-    runs::clear(stack, 0, 256);
-    runs::clear(store, 0, 2048);
-    runs::clear(frames, 0, 2048);
+    stack.fill(0);
+    store.fill(0);
+    frames.fill(0);
 }
 
 // A code place: a bit number in a tree file, or a byte number within its template's code in a linear file.
@@ -128,20 +129,6 @@ pub enum Instruction {
     Bad,
 }
 
-// A neutral code with its operands and its entry resolved; or an unfit entry, or no neutral code.
-#[derive(Clone, Copy)]
-pub enum Resolved {
-    Fit(Plain),
-    Unfit,
-}
-
-// What a slot holds under a tag.
-#[derive(Clone, Copy)]
-enum Marked {
-    Number(u8),
-    Other,
-}
-
 // Slot n of a template's row in a run's table, 0 past the table's end.
 pub fn slot_at(table: &[u64], template: u8, n: u8) -> u64
     ensures { result ≡ slot_at table.now template n }
@@ -150,71 +137,63 @@ pub fn slot_at(table: &[u64], template: u8, n: u8) -> u64
     if i < table.len() { table[i] } else { 0 }
 }
 
-fn under_tag(slot: u64, tag: u64) -> Marked
+// What a slot holds under a tag; none where its tag is another.
+fn under_tag(slot: u64, tag: u64) -> Option<u8>
     ensures { result ≡ marked_as tag slot }
 {
     if cells::tag_of(slot) == tag {
-        Marked::Number((slot % 256) as u8)
+        Some((slot % 256) as u8)
     } else {
-        Marked::Other
+        None
     }
 }
 
-fn literal(slot: u64) -> Resolved
+fn literal(slot: u64) -> Option<Plain>
     ensures { result ≡ resolved_as (as_literal (slot_names slot)) }
 {
     let tag = cells::tag_of(slot);
     if tag == 0 {
-        return Resolved::Unfit;
+        return None;
     }
     if tag <= 6 {
-        Resolved::Fit(Plain::Literal(slot))
+        Some(Plain::Literal(slot))
     } else {
-        Resolved::Unfit
+        None
     }
 }
 
-// A code that names no entry, with operands a and b, of which it may have fewer.
-pub fn unnamed(op: u8, a: u8, b: u8) -> Resolved
+// The rule of a code that names no entry, with operands a and b, of which it may have fewer; none where it is no such code.
+pub fn unnamed(op: u8, a: u8, b: u8) -> Option<Plain>
     ensures { result ≡ resolved_as (slot_resolve (λ _. 0) op a b) }
 {
     match op {
-        10 => Resolved::Fit(Plain::Local(a, b)),
-        11 => Resolved::Fit(Plain::SetLocal(a, b)),
-        12 => Resolved::Fit(Plain::Push),
-        13 => Resolved::Fit(Plain::MakeEnv(a)),
-        15 => Resolved::Fit(Plain::Unspecified),
-        16 => Resolved::Fit(Plain::CheckArgs(a)),
-        18 => Resolved::Fit(Plain::Cons),
-        19 => Resolved::Fit(Plain::Car),
-        20 => Resolved::Fit(Plain::Cdr),
-        21 => Resolved::Fit(Plain::Eqv),
-        22 => Resolved::Fit(Plain::Add),
-        23 => Resolved::Fit(Plain::Sub),
-        24 => Resolved::Fit(Plain::Less),
-        25 => Resolved::Fit(Plain::FloorDiv),
-        _ => Resolved::Unfit,
+        10 => Some(Plain::Local(a, b)),
+        11 => Some(Plain::SetLocal(a, b)),
+        12 => Some(Plain::Push),
+        13 => Some(Plain::MakeEnv(a)),
+        15 => Some(Plain::Unspecified),
+        16 => Some(Plain::CheckArgs(a)),
+        18 => Some(Plain::Cons),
+        19 => Some(Plain::Car),
+        20 => Some(Plain::Cdr),
+        21 => Some(Plain::Eqv),
+        22 => Some(Plain::Add),
+        23 => Some(Plain::Sub),
+        24 => Some(Plain::Less),
+        25 => Some(Plain::FloorDiv),
+        _ => None,
     }
 }
 
-// A code with operands a and b, of which it may have fewer, in a template.
-pub fn resolve(table: &[u64], template: u8, op: u8, a: u8, b: u8) -> Resolved
+// The rule of a code with operands a and b, of which it may have fewer, in a template; none where the entry is unfit, or it is no neutral code.
+pub fn resolve(table: &[u64], template: u8, op: u8, a: u8, b: u8) -> Option<Plain>
     ensures { result ≡ resolved_as (slot_resolve (slot_at table.now template) op a b) }
 {
     match op {
         6 => literal(slot_at(table, template, a)),
-        7 => match under_tag(slot_at(table, template, a), 12) {
-            Marked::Number(t) => Resolved::Fit(Plain::Closure(t)),
-            Marked::Other => Resolved::Unfit,
-        },
-        8 => match under_tag(slot_at(table, template, a), 11) {
-            Marked::Number(g) => Resolved::Fit(Plain::Global(g)),
-            Marked::Other => Resolved::Unfit,
-        },
-        9 => match under_tag(slot_at(table, template, a), 11) {
-            Marked::Number(g) => Resolved::Fit(Plain::SetGlobal(g)),
-            Marked::Other => Resolved::Unfit,
-        },
+        7 => Some(Plain::Closure(under_tag(slot_at(table, template, a), 12)?)),
+        8 => Some(Plain::Global(under_tag(slot_at(table, template, a), 11)?)),
+        9 => Some(Plain::SetGlobal(under_tag(slot_at(table, template, a), 11)?)),
         _ => unnamed(op, a, b),
     }
 }

@@ -1,6 +1,6 @@
 -- Owners (document 02, request 12): globals 0 to 63 belong to the house, 64 to 255 to a vendor. The house reads and sets its own alone; a vendor
 -- reads all and sets its own alone.
-use Rattle.std.specs.Prelude.{ℕ, Bool, true, false, cond, ltb, leb, eqb}
+use Rattle.std.specs.Prelude.{ℕ, Bool, true, cond, ltb, leb, eqb, Option, Some, None}
 use Rattle.owners.specs.declared.Owner.{Owner}
 use Rattle.owners.specs.declared.Owner.TheVariants.{House, Vendor}
 
@@ -18,3 +18,8 @@ is_owner n = leb n 1
 
 unfoldable pub owner_of : ℕ → Owner
 owner_of n = cond (eqb n 0) House Vendor
+
+-- the owner of that number, if it is an owner's
+unfoldable pub owner_told : ℕ → Option Owner
+unfolding is_owner owner_of
+owner_told n = cond (is_owner n) (Some (owner_of n)) None

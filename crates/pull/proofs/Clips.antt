@@ -1,14 +1,14 @@
 -- A clip's globals and its run, clip by clip. Assumes nothing.
-use Prim.Native.Nat.{ℕ, zero, suc, ◌+◌, ◌-◌, ◌*◌, ◌≤◌, ◌<◌}
+use Prim.Native.Nat.{ℕ, zero, suc, ◌+◌, ◌-◌, ◌*◌, ◌<◌}
 use native.Mathlib.Numerals.{add-one}
 use native.Mathlib.Omega.{arith}
 use mathlib.Core.Path.{◌≡◌, refl, sym, ap, ◌∙◌}
 use mathlib.Core.Bool.{true}
-use mathlib.Core.List.{List, [], ◌∷◌, append-nil}
+use mathlib.Core.List.{List, [], ◌∷◌}
 use borrow.Author.Tests.{eq-eqb}
 use lib.IntN.{ℤ, pos}
-use lib.ListN.{length, set, get_or, take, drop, replicate, length-replicate, drop_of_length-le}
-use lib.Seq.{sets, sets-eq, get_or-take, get_or-drop}
+use lib.ListN.{length, set, get_or, take, drop, replicate, length-replicate}
+use lib.Seq.{sets, get_or-take, get_or-drop}
 use Rattle.cells.specs.Cells.{full, undefined_cell, int_cell, tag_of, int_of, starting_global}
 use Rattle.machines.specs.Runs.{memory, Ran, ran, linear_run}
 use Rattle.linear_machine.specs.Again.{AllFit}
@@ -17,34 +17,38 @@ use Rattle.text.specs.Put.{Put}
 use Rattle.text.specs.laws.Laws.{put_then}
 use Rattle.pull.specs.Pull.{clip_count, clip_at, word, word_cell, clip_globals, clip_memory, found_of, clip_run, found_line, pull_line, pull_lines, pull_list}
 
--- ---- the loop that fills the first n places with x
-pub fill_on : (g : List ℕ) (i n x : ℕ) → i < n → sets (set g i x) (i + 1) (replicate (n - (i + 1)) x) ≡ sets g i (replicate (n - i) x)
-fill_on g i n x h = let e : n - i ≡ suc (n - (i + 1)) = omega arith in rw (e, add-one i)
-
-pub fill_done : (g : List ℕ) (i n x : ℕ) → n ≤ i → sets g i (replicate (n - i) x) ≡ g
-fill_done g i n x h = let e : n - i ≡ 0 = omega arith in rw e
-
-pub fill_all : (g : List ℕ) (n x : ℕ) → length g ≡ n → sets g 0 (replicate n x) ≡ replicate n x
-fill_all g n x h =
-    let l : 0 + length (replicate n x) ≡ n = rw (length-replicate n x) (omega arith) in
-    sets-eq (replicate n x) g 0 (omega arith) ∙ rw (l, drop_of_length-le g {i = n} (omega arith)) (append-nil (replicate n x))
-
 -- ---- six stores into the globals
-pub six_set : (clip : List ℤ) (g : List ℕ) (a b c d e f : ℕ) → g ≡ replicate 256 undefined_cell
-    → a ≡ word_cell (word clip 0) → b ≡ word_cell (word clip 1) → c ≡ word_cell (word clip 2) → d ≡ word_cell (word clip 3)
-    → e ≡ word_cell (word clip 4) → f ≡ word_cell (word clip 5)
-    → sets g 0 (a ∷ b ∷ c ∷ d ∷ e ∷ f ∷ []) ≡ clip_globals clip
+abbrev pub six_words : List ℤ → List ℕ
+six_words clip =
+    word_cell (word clip 0) ∷ word_cell (word clip 1) ∷ word_cell (word clip 2)
+    ∷ word_cell (word clip 3) ∷ word_cell (word clip 4) ∷ word_cell (word clip 5) ∷ []
+
+-- the first n are stored
+abbrev pub Stored : List ℤ → ℕ → List ℕ → Type 0
+Stored clip n g = g ≡ sets (replicate 256 undefined_cell) 0 (take n (six_words clip))
+
+pub store_next : (clip : List ℤ) (n : ℕ) (g : List ℕ) (x : ℕ) → n < 6 → Stored clip n g → x ≡ word_cell (word clip n) → Stored clip (n + 1) (set g n x)
+store_next clip zero g x h s e = rw (s, e)
+store_next clip (suc zero) g x h s e = rw (s, e)
+store_next clip (suc (suc zero)) g x h s e = rw (s, e)
+store_next clip (suc (suc (suc zero))) g x h s e = rw (s, e)
+store_next clip (suc (suc (suc (suc zero)))) g x h s e = rw (s, e)
+store_next clip (suc (suc (suc (suc (suc zero))))) g x h s e = rw (s, e)
+store_next clip (suc (suc (suc (suc (suc (suc n)))))) g x h s e = absurd (omega arith)
+
+pub all_stored : (clip : List ℤ) (g : List ℕ) → Stored clip 6 g → g ≡ clip_globals clip
 unfolding clip_globals
-six_set clip g a b c d e f hg ha hb hc hd he hf = rw (hg, ha, hb, hc, hd, he, hf)
+all_stored clip g s = s
 
-fit_rest : (n : ℕ) → AllFit (replicate n undefined_cell)
+pub undefined_fit : (n : ℕ) → AllFit (replicate n undefined_cell)
 unfolding starting_global
-fit_rest zero = tt
-fit_rest (suc n) = (refl, fit_rest n)
+undefined_fit zero = tt
+undefined_fit (suc n) = (refl, undefined_fit n)
 
-pub six_fit : (g : List ℕ) (a b c d e f : ℕ) → g ≡ replicate 256 undefined_cell → starting_global a ≡ true → starting_global b ≡ true → starting_global c ≡ true
-    → starting_global d ≡ true → starting_global e ≡ true → starting_global f ≡ true → AllFit (sets g 0 (a ∷ b ∷ c ∷ d ∷ e ∷ f ∷ []))
-six_fit g a b c d e f hg ha hb hc hd he hf = rw hg (ha, (hb, (hc, (hd, (he, (hf, fit_rest 250))))))
+pub fit_set : (g : List ℕ) (n x : ℕ) → AllFit g → starting_global x ≡ true → AllFit (set g n x)
+fit_set [] n x a e = a
+fit_set (y ∷ g) zero x a e = (e, a.1)
+fit_set (y ∷ g) (suc n) x a e = (a.0, fit_set g n x a.1 e)
 
 -- an integer of the width is fit for a start
 pub integer_fits : (x : ℕ) → x < full → starting_global (int_cell x) ≡ true

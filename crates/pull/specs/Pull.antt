@@ -1,6 +1,6 @@
 -- The pull list (document 02, Ask 9): a rule is run for each clip, and each clip has a line.
-use Rattle.std.specs.Prelude.{ℕ, zero, suc, ◌+◌, ◌*◌, ◌/◌, ◌%◌, Bool, cond, ◌&&◌, List, [], ◌∷◌, ◌++◌, leb, eqb, ℤ, pos, length, get_or, take, drop, replicate}
-use Rattle.std.proofs.Math.Option.{Option, none, some}
+use Rattle.std.specs.Prelude.{ℕ, zero, suc, ◌*◌, ◌/◌, ◌%◌, Bool, cond, ◌&&◌, List, [], ◌∷◌, ◌++◌, leb, eqb, ℤ, pos, length, get_or, take, drop, replicate}
+use Rattle.std.specs.Prelude.{Option, Some, None, Result, Ok, Err}
 use Rattle.std.proofs.lemmas.List.Edits.{sets}
 use Rattle.std.specs.Int.Signed.{lt_z}
 use Rattle.cells.specs.Cells.{full, undefined_cell, int_cell, tag_of, int_of}
@@ -9,17 +9,13 @@ use Rattle.text.specs.Text.{decimal, integer, line}
 use Rattle.integers.specs.Integers.{signed, int_bits}
 use Rattle.files.specs.Linear.{linear_read}
 use Rattle.linear.specs.Filled.{linear_told}
-use Rattle.linear.specs.declared.LinearFile.{LinearFile}
-use Rattle.linear.specs.declared.LinearFile.TheVariants.{Read, Refused as RefusedFile}
-use Rattle.linear.specs.declared.Checked.{Checked}
-use Rattle.linear.specs.declared.Checked.TheVariants.{Accepted, Refused}
 use Rattle.machines.specs.Runs.{Memory, memory, Ran, ran, linear_run}
 use Rattle.machines.specs.declared.End.{End}
 use Rattle.machines.specs.declared.End.TheVariants.{Halted, Wrong, OutOfBudget, Refused as RefusedRun}
-use Rattle.machines.specs.declared.Run.{Run}
 use Rattle.pull.specs.declared.Found.{Found}
-use Rattle.files.specs.declared.Outcome.{Outcome}
-use Rattle.files.specs.declared.Outcome.TheVariants.{Written, Refused as RefusedList}
+use Rattle.files.specs.declared.Refusal.{Refusal}
+use Rattle.files.specs.Refusal.{refusal}
+use Rattle.cells.specs.declared.BitPlace.{BitPlace}
 
 -- ---- clips
 -- A clip is eight words: record in, record out, speed numerator, speed denominator, head handle, tail handle, first and last frame of its media.
@@ -126,46 +122,46 @@ whole_clips cs = leb (clip_count cs) 256 && eqb (length cs % 8) 0
 -- the lowest of n clips, from clip k on, whose denominator is not positive
 unfoldable pub lowest_still : List ℤ → ℕ → ℕ → Option ℕ
 unfolding word
-lowest_still cs k zero = none
-lowest_still cs k (suc n) = cond (lt_z (word (clip_at cs k) 3) (pos 1)) (some k) (lowest_still cs (suc k) n)
+lowest_still cs k zero = None
+lowest_still cs k (suc n) = cond (lt_z (word (clip_at cs k) 3) (pos 1)) (Some k) (lowest_still cs (suc k) n)
 
-unfoldable pub speeds_checked : Option ℕ → Checked → Checked
-speeds_checked none rest = rest
-speeds_checked (some k) rest = Refused no_speed k
+unfoldable pub speeds_checked : Option ℕ → Result Unit (Refusal ℕ) → Result Unit (Refusal ℕ)
+speeds_checked None rest = rest
+speeds_checked (Some k) rest = Err (refusal no_speed k)
 
-unfoldable pub file_checked : LinearFile → Checked
-file_checked (Read n) = Accepted
-file_checked (RefusedFile n p) = Refused n p.0
+unfoldable pub file_checked : Result ℕ (Refusal BitPlace) → Result Unit (Refusal ℕ)
+file_checked (Ok n) = Ok tt
+file_checked (Err e) = Err (refusal e.0 e.1.0)
 
 -- 29, 21
-unfoldable pub room_checked : ℕ → ℕ → ℕ → Checked
-room_checked clips b room = cond (leb (48 * clips) room) (cond (leb b 2000000) Accepted (Refused large_budget 0)) (Refused short_list 0)
+unfoldable pub room_checked : ℕ → ℕ → ℕ → Result Unit (Refusal ℕ)
+room_checked clips b room = cond (leb (48 * clips) room) (cond (leb b 2000000) (Ok tt) (Err (refusal large_budget 0))) (Err (refusal short_list 0))
 
 -- 27, 28, then these
-unfoldable pub clips_checked : List ℤ → ℕ → ℕ → Checked
+unfoldable pub clips_checked : List ℤ → ℕ → ℕ → Result Unit (Refusal ℕ)
 unfolding speeds_checked room_checked
 clips_checked cs b room =
-    cond (whole_clips cs) (speeds_checked (lowest_still cs 0 (clip_count cs)) (room_checked (clip_count cs) b room)) (Refused cut_clips 0)
+    cond (whole_clips cs) (speeds_checked (lowest_still cs 0 (clip_count cs)) (room_checked (clip_count cs) b room)) (Err (refusal cut_clips 0))
 
 -- then the linear file's
-unfoldable pub and_then : Checked → Checked → Checked
-and_then Accepted rest = rest
-and_then (Refused n p) rest = Refused n p
+unfoldable pub and_then : Result Unit (Refusal ℕ) → Result Unit (Refusal ℕ) → Result Unit (Refusal ℕ)
+and_then (Ok x) rest = rest
+and_then (Err e) rest = Err e
 
-unfoldable pub pull_checked : List ℤ → List ℕ → ℕ → ℕ → Checked
+unfoldable pub pull_checked : List ℤ → List ℕ → ℕ → ℕ → Result Unit (Refusal ℕ)
 unfolding and_then clips_checked file_checked
 pull_checked cs file b room = and_then (clips_checked cs b room) (file_checked (linear_told (linear_read file)))
 
 -- ---- the answer, and what a list that held old holds: the lines in its first bytes; where something is refused it is unchanged
-unfoldable pub answered : Checked → List ℕ → Outcome
-answered Accepted ls = Written (length ls)
-answered (Refused n p) ls = RefusedList n p
+unfoldable pub answered : Result Unit (Refusal ℕ) → List ℕ → Result ℕ (Refusal ℕ)
+answered (Ok x) ls = Ok (length ls)
+answered (Err e) ls = Err e
 
-unfoldable pub listed : Checked → List ℕ → List ℕ → List ℕ
-listed Accepted ls old = ls ++ drop (length ls) old
-listed (Refused n p) ls old = old
+unfoldable pub listed : Result Unit (Refusal ℕ) → List ℕ → List ℕ → List ℕ
+listed (Ok x) ls old = ls ++ drop (length ls) old
+listed (Err e) ls old = old
 
-unfoldable pub pulled : List ℤ → List ℕ → ℕ → ℕ → Outcome
+unfoldable pub pulled : List ℤ → List ℕ → ℕ → ℕ → Result ℕ (Refusal ℕ)
 unfolding answered pull_checked
 pulled cs file b room = answered (pull_checked cs file b room) (pull_list cs file b)
 
@@ -174,6 +170,6 @@ unfolding listed pull_checked
 pulled_list cs file b old = listed (pull_checked cs file b (length old)) (pull_list cs file b) old
 
 -- the bytes of an answer
-unfoldable pub bytes_of : Outcome → ℕ
-bytes_of (Written n) = n
-bytes_of (RefusedList n p) = 0
+unfoldable pub bytes_of : Result ℕ (Refusal ℕ) → ℕ
+bytes_of (Ok n) = n
+bytes_of (Err e) = 0

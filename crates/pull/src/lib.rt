@@ -1,7 +1,7 @@
 // The pull list (document 02, Ask 9). Of the machines it knows what `linear_machine` promises, and nothing below it.
 #![tactic(auto)]
 
-ghost use Rattle.std.specs.Prelude.{◌≡◌, [], ◌∷◌, ◌++◌, ◌+◌, ◌*◌, ◌/◌, ◌≤◌, ◌<◌, length, replicate, true};
+ghost use Rattle.std.specs.Prelude.{◌≡◌, Ok, [], ◌∷◌, ◌++◌, ◌+◌, ◌*◌, ◌/◌, ◌≤◌, ◌<◌, length, replicate, true};
 ghost use Rattle.cells.specs.Cells.{full, undefined_cell, starting_global};
 ghost use Rattle.text.specs.Put.{Put};
 ghost use Rattle.text.specs.Text.{integer, line};
@@ -12,8 +12,7 @@ ghost use Rattle.pull.specs.Pull.{end_words, found_line, pull_line, pull_list, l
 ghost use Rattle.pull.specs.Pull.{pulled, pulled_list, bytes_of};
 
 use cells::BitPlace;
-use files::Outcome;
-use linear::{Checked, LinearFile};
+use files::{Outcome, Refusal};
 use machines::{End, Run};
 
 // What a clip's line tells of its run: the end, and the cells of globals 6 and 7.
@@ -148,30 +147,16 @@ fn put_line(list: &mut [u8], at: usize, k: usize, clip: &[i32], found: Found) ->
 
 // ---- a clip's run
 
-// All globals undefined, whatever an earlier clip's rule left in them.
-fn undefine(globals: &mut [u64])
-    requires { length globals.old ≡ 256 }
-    ensures { globals.new ≡ replicate 256 undefined_cell }
-{
-    let mut i: usize = 0;
-    while i < globals.len() {
-        globals[i] = cells::UNDEFINED;
-        i = i + 1;
-    }
-}
-
+// The clip's first six words, and no word that an earlier clip's rule left.
 fn set_globals(clip: &[i32], globals: &mut [u64])
     requires { (8 ≤ length clip.now) × (length globals.old ≡ 256) }
     ensures globals_after { globals.new ≡ clip_globals clip.now }
     ensures all_fit { AllFit globals.new }
 {
-    undefine(globals);
-    globals[0] = word_cell(clip, 0);
-    globals[1] = word_cell(clip, 1);
-    globals[2] = word_cell(clip, 2);
-    globals[3] = word_cell(clip, 3);
-    globals[4] = word_cell(clip, 4);
-    globals[5] = word_cell(clip, 5);
+    globals.fill(cells::UNDEFINED);
+    for n in 0..6 {
+        globals[n] = word_cell(clip, n);
+    }
 }
 
 // The rule is run here, as the house, and nowhere else. The file was read: `table` is its table. What the four slices held is not seen by the run.
@@ -243,14 +228,11 @@ fn pull_clips(
     ensures put { Put list.old 0 list.new result (pull_list clips.now file.now budget) }
     ensures upper_bound { result ≤ 44 * (length clips.now / 8) }
 {
-    let count = clips.len() / 8;
-    let mut k: usize = 0;
     let mut at: usize = 0;
-    while k < count {
+    for k in 0..clips.len() / 8 {
         at = pull_clip(
             clips, k, file, table, budget, globals, stack, store, frames, list, at,
         );
-        k = k + 1;
     }
     at
 }
@@ -279,64 +261,59 @@ fn pull_read(clips: &[i32], file: &[u8], table: &[u64], budget: u64, list: &mut 
 
 // ---- what is refused before any run
 
-// 28: the lowest clip whose denominator is not positive.
-fn check_speeds(clips: &[i32]) -> Checked
-    ensures { result ≡ speeds_checked (lowest_still clips.now 0 (clip_count clips.now)) Checked.Accepted }
+// The lowest clip whose denominator is not positive.
+fn lowest_still(clips: &[i32]) -> Option<usize>
+    ensures { result ≡ lowest_still clips.now 0 (clip_count clips.now) }
 {
-    let count = clips.len() / 8;
-    let mut k: usize = 0;
-    while k < count {
+    for k in 0..clips.len() / 8 {
         if clips[8 * k + 3] < 1 {
-            return Checked::Refused(28, k);
+            return Some(k);
         }
-        k = k + 1;
     }
-    Checked::Accepted
+    None
 }
 
 // 29 and 21.
-fn check_room(count: usize, budget: u64, room: usize) -> Checked
+fn check_room(count: usize, budget: u64, room: usize) -> Result<(), Refusal<usize>>
     requires { count ≤ 256 }
     ensures { result ≡ room_checked count budget room }
 {
     if room < 48 * count {
-        return Checked::Refused(29, 0);
+        return Err(Refusal(29, 0));
     }
     if 2_000_000 < budget {
-        return Checked::Refused(21, 0);
+        return Err(Refusal(21, 0));
     }
-    Checked::Accepted
+    Ok(())
 }
 
 // 27, 28, 29 and 21.
-fn check_clips(clips: &[i32], budget: u64, room: usize) -> Checked
+fn check_clips(clips: &[i32], budget: u64, room: usize) -> Result<(), Refusal<usize>>
     ensures { result ≡ clips_checked clips.now budget room }
 {
     let count = clips.len() / 8;
     if 256 < count {
-        return Checked::Refused(27, 0);
+        return Err(Refusal(27, 0));
     }
     if clips.len() % 8 != 0 {
-        return Checked::Refused(27, 0);
+        return Err(Refusal(27, 0));
     }
-    match check_speeds(clips) {
-        Checked::Accepted => check_room(count, budget, room),
-        Checked::Refused(number, place) => Checked::Refused(number, place),
+    if let Some(k) = lowest_still(clips) {
+        return Err(Refusal(28, k));
     }
+    check_room(count, budget, room)
 }
 
 // Where clips, list and budget are accepted. The file is read once, for all clips.
 fn pull_file(clips: &[i32], file: &[u8], budget: u64, list: &mut [u8]) -> Outcome
-    requires { clips_checked clips.now budget (length list.old) ≡ Checked.Accepted }
+    requires { clips_checked clips.now budget (length list.old) ≡ Ok tt }
     ensures value { result ≡ pulled clips.now file.now budget (length list.old) }
     ensures list_after { list.new ≡ pulled_list clips.now file.now budget list.old }
     ensures result_bound { bytes_of result ≤ 44 * (length clips.now / 8) }
 {
     let mut table = [0u64; 16384];
-    match linear::read_linear(file, &mut table) {
-        LinearFile::Read(_) => Outcome::Written(pull_read(clips, file, &table, budget, list)),
-        LinearFile::Refused(number, place) => Outcome::Refused(number, place.number()),
-    }
+    linear::read_linear(file, &mut table)?;
+    Ok(pull_read(clips, file, &table, budget, list))
 }
 
 // The lines of the clips, in the first bytes of the list. Clips are i32 words, eight for each clip.
@@ -345,8 +322,6 @@ pub fn pull_list(clips: &[i32], file: &[u8], budget: u64, list: &mut [u8]) -> Ou
     ensures list_after { list.new ≡ pulled_list clips.now file.now budget list.old }
     ensures longest { bytes_of result ≤ 44 * (length clips.now / 8) }
 {
-    match check_clips(clips, budget, list.len()) {
-        Checked::Accepted => pull_file(clips, file, budget, list),
-        Checked::Refused(number, place) => Outcome::Refused(number, place),
-    }
+    check_clips(clips, budget, list.len())?;
+    pull_file(clips, file, budget, list)
 }

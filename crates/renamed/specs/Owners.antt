@@ -10,7 +10,7 @@
 -- the linear machine is bytes, as the function's is. Assumes nothing.
 use Rattle.std.specs.Prelude.{◌≡◌, Bool, true, false, cond, List, ℕ, ◌<◌, ◌≤◌, leb, eqb, length, get_or}
 use Rattle.std.proofs.Math.Path.{refl}
-use Rattle.std.proofs.Common.{ap, eqb-true}
+use Rattle.std.proofs.Common.{eqb-true}
 use Rattle.std.proofs.Math.Bool.{and-eq-true_iff}
 use Rattle.std.proofs.Math.Option.{Option, none, some}
 use Rattle.files.specs.Reading.{Got, got, refused}
@@ -23,7 +23,7 @@ use Rattle.owners.specs.Owners.{is_owner, owner_of}
 use Rattle.owners.specs.declared.Owner.{Owner}
 use Rattle.owners.specs.declared.Owner.TheVariants.{House, Vendor}
 use Rattle.machines.specs.Machine.{Program, tree_program, linear_program, Ended}
-use Rattle.machines.specs.Runs.{Memory, Ran, ran, run_of, left_of, refused_run, right_lengths, lowest_unfit, fit_globals, by_owner, started, end_of}
+use Rattle.machines.specs.Runs.{Memory, Ran, ran, run_of, left_of, refused_run, right_lengths, lowest_unfit, fit_globals, by_owner, started}
 use Rattle.machines.specs.Runs.{memory_of, reported}
 use Rattle.machines.specs.Runs.{program_run, on_tree, on_linear, tree_run, linear_run}
 use Rattle.machines.specs.declared.End.TheVariants.{Refused}

@@ -1,5 +1,5 @@
 -- Code of a tree file as codes and operand bytes one after the other, whatever lists they stand in; and with new indices.
-use Rattle.std.specs.Prelude.{ℕ, ◌+◌, ◌<◌, ◌≡◌, cond, ◌||◌, List, [], ◌∷◌, ◌++◌, length, get_or, eqb, ltb}
+use Rattle.std.specs.Prelude.{ℕ, ◌<◌, ◌≡◌, cond, ◌||◌, List, [], ◌∷◌, ◌++◌, length, get_or, eqb, ltb}
 use Rattle.files.specs.Codes.{shape_of}
 use Rattle.files.specs.Code.{Code, done, neutral, return, call, unless_false, make_cont}
 use Rattle.files.specs.Valid.{Bytes}

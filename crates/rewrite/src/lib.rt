@@ -2,30 +2,32 @@
 // lists they stand in, so that no list is opened and no length changes.
 #![tactic(auto)]
 
-ghost use Rattle.std.specs.Prelude.{◌≡◌, ◌+◌, ◌*◌, ◌≤◌, ◌<◌, ◌++◌, length};
+ghost use Rattle.std.specs.Prelude.{ℕ, ◌≡◌, ◌+◌, ◌*◌, ◌≤◌, ◌<◌, ◌++◌, length};
 ghost use Rattle.files.specs.Linear.{bits_of};
 ghost use Rattle.bit_writer.specs.Put.{put_bits};
 ghost use Rattle.tree_file.specs.File.{operands_bits};
+ghost use Rattle.lists.specs.Shapes.{Numbered};
 ghost use Rattle.lists.specs.Pass.{operands_at};
 ghost use Rattle.rewrite.specs.Tokens.{operand_count, index_in, new_operand, new_operands, tokens_bits, renewed, TokensAt};
 
 use cells::BitPlace;
+use lists::Shape;
 
 // How many operand bytes follow a code of this shape.
-pub fn operand_count(shape: u8) -> usize
-    ensures { result ≡ operand_count shape }
+#[tactic(auto, unfolding(crate::specs::Tokens::operand_count, lists::specs::Shapes::Numbered))]
+pub fn operand_count(shape: Shape) -> usize
+    ensures { (k : ℕ) → Numbered shape k → result ≡ operand_count k }
 {
     match shape {
-        2 => 1,
-        3 => 2,
-        5 => 1,
-        _ => 0,
+        Shape::Plain(operands) => operands,
+        Shape::Save => 1,
+        Shape::End | Shape::Branch | Shape::NoCode => 0,
     }
 }
 
 // The first operand byte of a code: of codes 6 to 9 it is an index, and the table has the new one.
-fn new_operand(table: &[u8], code: u32, n: u32) -> u32
-    requires { (length table.now ≡ 256) × (n < 256) }
+fn new_operand(table: &[u8; 256], code: u32, n: u32) -> u32
+    requires { n < 256 }
     ensures { (result ≡ new_operand (index_in table.now) code n) × (result < 256) }
 {
     if code < 6 {
@@ -43,11 +45,11 @@ fn put_code(
     here: BitPlace,
     code: u32,
     count: usize,
-    table: &[u8],
+    table: &[u8; 256],
     out: &mut [u8],
     at: BitPlace,
 ) -> BitPlace
-    requires s_len_bound { (length s.now ≤ 262144) × (length out.old ≤ 262144) × (length table.now ≡ 256) × (code < 32) × (count ≤ 2) }
+    requires s_len_bound { (length s.now ≤ 262144) × (length out.old ≤ 262144) × (code < 32) × (count ≤ 2) }
     requires count_bound { (here.0 + (5 + 8 * count) ≤ 8 * length s.now) × (at.0 + (5 + 8 * count) ≤ 8 * length out.old) }
     ensures result_value { result.0 ≡ at.0 + (5 + 8 * count) }
     ensures out_after { out.new ≡ put_bits out.old at.0
@@ -70,11 +72,11 @@ pub fn rewrite(
     s: &[u8],
     from: BitPlace,
     n: usize,
-    table: &[u8],
+    table: &[u8; 256],
     out: &mut [u8],
     at: BitPlace,
 ) -> BitPlace
-    requires s_len_bound { (length s.now ≤ 262144) × (length out.old ≤ 262144) × (length table.now ≡ 256) × (at.0 + n ≤ 8 * length out.old) }
+    requires s_len_bound { (length s.now ≤ 262144) × (length out.old ≤ 262144) × (at.0 + n ≤ 8 * length out.old) }
     requires tokens_at { TokensAt s.now from.0 n }
     ensures result_value { result.0 ≡ at.0 + n }
     ensures out_after { (w : TokensAt s.now from.0 n) →

@@ -1,4 +1,5 @@
 -- The specs of the crate rules.
+pub mod WrongNumber
 pub mod State
 pub mod Rules
 pub mod Fit

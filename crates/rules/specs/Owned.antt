@@ -1,6 +1,6 @@
 -- The plain rules by an owner's right (document 02, request 12): 25 where a global is read or set outside it, right after 16 and so before all
 -- that the rule itself checks.
-use Rattle.std.specs.Prelude.{◌≡◌, refl, Bool, true, false, ℕ}
+use Rattle.std.specs.Prelude.{◌≡◌, refl, Bool, true, false}
 use Rattle.std.proofs.Common.{arith}
 use Rattle.cells.specs.laws.Laws.{clash}
 use Rattle.cells.specs.Numbers.{not_owned}

@@ -1,8 +1,8 @@
 -- Registers and memory, and how a rule ends.
-use Rattle.std.specs.Prelude.{Bool, true, false, List, ℕ}
+use Rattle.std.specs.Prelude.{Bool, true, false, List, ℕ, Result, Ok, Err}
+use Rattle.rules.specs.WrongNumber.{wrong_number}
 use Rattle.rules.specs.declared.Regs.{Regs}
-use Rattle.rules.specs.declared.Stepped.{Stepped}
-use Rattle.rules.specs.declared.Stepped.TheVariants.{Next, Wrong}
+use Rattle.rules.specs.declared.Wrong.{Wrong}
 
 -- the cells that a plain rule sees
 pub record Mem : Type 0 where
@@ -33,11 +33,20 @@ abbrev pub need : {A : Type 0} → Bool → ℕ → Res A → Res A
 need true n r = r
 need false n r = wrong n
 
--- what a rule's function answers, and the cells that it leaves
+-- what a function answers, as a rule ends
+abbrev pub answered : {A : Type 0} → Result A Wrong → Res A
+answered (Ok x) = ok x
+answered (Err w) = wrong (wrong_number w)
+
+-- registers or a number, and the cells that are left
 pub data Out : Type 0 where
-  out : Stepped → Mem → Out
+  leaves : Res Regs → Mem → Out
+
+-- what a rule's function answers, and the cells that it leaves
+abbrev pub out : Result Regs Wrong → Mem → Out
+out x m = leaves (answered x) m
 
 -- how a rule ends that began with the cells m
 unfoldable pub told : Mem → Res Held → Out
-told m (ok h) = out (Next h.regs) h.mem
-told m (wrong n) = out (Wrong n) m
+told m (ok h) = leaves (ok h.regs) h.mem
+told m (wrong n) = leaves (wrong n) m

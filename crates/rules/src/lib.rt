@@ -1,11 +1,13 @@
 // The data rules (document 01, 'Rules'): what an instruction does to registers and lent cells. They see no code place.
 #![tactic(auto)]
 
-ghost use Rattle.std.specs.Prelude.{◌≡◌, List, ℕ, ◌+◌, ◌-◌, ◌<◌, ◌≤◌, length, get_or, set, take};
+ghost use Rattle.std.specs.Prelude.{◌≡◌, List, ℕ, ◌+◌, ◌-◌, ◌<◌, ◌≤◌, get_or, set, take};
 ghost use Rattle.runs.specs.Runs.{zeroed};
-ghost use Rattle.rules.specs.State.{Mem, mem, regs, out};
+ghost use Rattle.rules.specs.WrongNumber.{wrong_number};
+ghost use Rattle.rules.specs.declared.Wrong.TheVariants.{Kind};
+ghost use Rattle.rules.specs.State.{Mem, mem, regs, answered, out};
 ghost use Rattle.rules.specs.Fit.{Fit, EndFit, CallFit};
-ghost use Rattle.rules.specs.Answers.{ends, found_at, integer_by, RangedFits, operands_of, OperandsFit, called_to};
+ghost use Rattle.rules.specs.Answers.{ends, found_at, layer_of, integer_by, RangedFits, operands_of, OperandsFit};
 ghost use Rattle.rules.specs.Rules.{literal_rule, closure_rule, held_rule, walk, local_rule, set_local_rule};
 ghost use Rattle.rules.specs.Rules.{push_rule, make_env_rule, check_args_rule, cons_rule, top, part_rule, car_rule, cdr_rule, eqv_rule, add_rule, sub_rule};
 ghost use Rattle.rules.specs.Rules.{less_rule};
@@ -14,7 +16,7 @@ ghost use Rattle.rules.specs.Rules.{call_rule};
 ghost use Rattle.rules.specs.Owned.{owned_rule};
 
 use cells::{pair_first, pair_second};
-use integers::{Ranged, Total};
+use integers::NotIntegers;
 use owners::Owner;
 use runs::copy_down;
 
@@ -27,11 +29,49 @@ pub struct Regs {
     pub st: usize,
 }
 
-// How a rule ends: on with these registers, or wrong with its number and nothing changed.
-#[derive(Clone, Copy)]
-pub enum Stepped {
-    Next(Regs),
-    Wrong(u8),
+// What is wrong in a step, which then changes nothing.
+#[derive(Clone, Copy, PartialEq, Eq)]
+pub enum Wrong {
+    Count,
+    NoClosure,
+    Undefined,
+    BeyondLayers,
+    Kind,
+    OutOfRange,
+    BadCode,
+    StackFull,
+    NoRoom,
+    ZeroDivisor,
+    NotOwned,
+}
+
+impl Wrong {
+    // The number of document 01's table.
+    pub fn number(self) -> u8
+        ensures { result ≡ wrong_number self }
+    {
+        match self {
+            Wrong::Count => 10,
+            Wrong::NoClosure => 11,
+            Wrong::Undefined => 12,
+            Wrong::BeyondLayers => 13,
+            Wrong::Kind => 14,
+            Wrong::OutOfRange => 15,
+            Wrong::BadCode => 16,
+            Wrong::StackFull => 17,
+            Wrong::NoRoom => 18,
+            Wrong::ZeroDivisor => 23,
+            Wrong::NotOwned => 25,
+        }
+    }
+}
+
+impl From<NotIntegers> for Wrong {
+    ghost from_gives = { λ _ wrong. wrong ≡ Kind };
+
+    fn from(_other: NotIntegers) -> Wrong {
+        Wrong::Kind
+    }
 }
 
 // The instructions that neither look at the frames nor go elsewhere, their entries resolved.
@@ -57,27 +97,6 @@ pub enum Plain {
     FloorDiv,
 }
 
-// How a call ends: on with a template's code and these registers, or wrong with its number and nothing changed.
-#[derive(Clone, Copy)]
-pub enum Called {
-    To(u8, Regs),
-    Wrong(u8),
-}
-
-// The location of a local, or wrong with its number.
-#[derive(Clone, Copy)]
-enum Found {
-    Cell(usize),
-    Beyond(u8),
-}
-
-// The bits of two integers, the left one below the top; or wrong with its number.
-#[derive(Clone, Copy)]
-enum Operands {
-    Two(u64, u64),
-    Wrong(u8),
-}
-
 // The cell at a place, 0 past the end.
 fn fetch(s: &[u64], at: usize) -> u64
     ensures { result ≡ get_or s.now at 0 }
@@ -94,254 +113,226 @@ fn put(s: &mut [u64], at: usize, c: u64)
     }
 }
 
-fn valued(c: u64, r: Regs) -> Regs
-    ensures { result ≡ regs c r.env r.sp r.st }
-{
-    Regs {
-        v: c,
-        env: r.env,
-        sp: r.sp,
-        st: r.st,
-    }
-}
-
 // ---- literal, closure
 
-fn literal(c: u64, r: Regs) -> Stepped
+fn literal(c: u64, r: Regs) -> Result<Regs, Wrong>
     ensures { (m : Mem) → out result m ≡ ends (literal_rule c) m r }
 {
-    Stepped::Next(valued(c, r))
+    Ok(Regs { v: c, ..r })
 }
 
-fn closure(store: &mut [u64], t: u8, r: Regs) -> Stepped
-    requires { (length store.old ≡ 2048) × Fit r }
+fn closure(store: &mut [u64; 2048], t: u8, r: Regs) -> Result<Regs, Wrong>
+    requires { Fit r }
     ensures { (g s : List ℕ) → out result (mem g s store.new) ≡ ends (closure_rule t) (mem g s store.old) r }
 {
     let st = r.st;
     if st + 1 <= 2048 {
         store[st] = cells::UNSPECIFIED;
-        Stepped::Next(Regs {
-            v: cells::closure_cell(t, r.env, st as u16),
-            env: r.env,
-            sp: r.sp,
-            st: st + 1,
-        })
+        let v = cells::closure_cell(t, r.env, st as u16);
+        Ok(Regs { v, st: st + 1, ..r })
     } else {
-        Stepped::Wrong(18)
+        Err(Wrong::NoRoom)
     }
 }
 
 // ---- global, set-global!
 
-// v is what is held; undefined is wrong 12.
-fn held(c: u64, r: Regs) -> Stepped
+// v is what is held, unless that is undefined.
+fn held(c: u64, r: Regs) -> Result<Regs, Wrong>
     ensures { (m : Mem) → out result m ≡ ends (held_rule c) m r }
 {
     if c == cells::UNDEFINED {
-        Stepped::Wrong(12)
+        Err(Wrong::Undefined)
     } else {
-        Stepped::Next(valued(c, r))
+        Ok(Regs { v: c, ..r })
     }
 }
 
-fn global(owner: Owner, globals: &[u64], g: u8, r: Regs) -> Stepped
-    requires { length globals.now ≡ 256 }
+fn global(owner: Owner, globals: &[u64; 256], g: u8, r: Regs) -> Result<Regs, Wrong>
     ensures { (s t : List ℕ) → out result (mem globals.now s t) ≡ ends (owned_rule owner (Plain.Global g)) (mem globals.now s t) r }
 {
     if !owners::may_read(owner, g) {
-        return Stepped::Wrong(25);
+        return Err(Wrong::NotOwned);
     }
     let at = g as usize;
     held(globals[at], r)
 }
 
-fn set_global(owner: Owner, globals: &mut [u64], g: u8, r: Regs) -> Stepped
-    requires { length globals.old ≡ 256 }
+fn set_global(owner: Owner, globals: &mut [u64; 256], g: u8, r: Regs) -> Result<Regs, Wrong>
     ensures { (s t : List ℕ)
         → out result (mem globals.new s t) ≡ ends (owned_rule owner (Plain.SetGlobal g)) (mem globals.old s t) r }
 {
     if !owners::may_set(owner, g) {
-        return Stepped::Wrong(25);
+        return Err(Wrong::NotOwned);
     }
     let at = g as usize;
     globals[at] = r.v;
-    Stepped::Next(valued(cells::UNSPECIFIED, r))
+    Ok(Regs {
+        v: cells::UNSPECIFIED,
+        ..r
+    })
 }
 
 // ---- local, set-local!
 
-fn find_local(store: &[u64], env: u16, layers: u8, place: u8) -> Found
+// The cell of the layer that environment e names.
+fn layer(store: &[u64; 2048], e: u16) -> Result<u64, Wrong>
+    ensures { result ≡ layer_of store.now e }
+{
+    if e == 0 {
+        Err(Wrong::BeyondLayers)
+    } else {
+        Ok(fetch(store, e as usize - 1))
+    }
+}
+
+// Where a local is held.
+fn find_local(store: &[u64; 2048], env: u16, layers: u8, place: u8) -> Result<usize, Wrong>
     ensures { result ≡ found_at (walk store.now env layers place) }
 {
     let mut e = env;
-    let mut left = layers;
-    let found = loop {
-        if e == 0 {
-            break Found::Beyond(13);
-        }
-        let layer = fetch(store, e as usize - 1);
-        if left == 0 {
-            if place < cells::layer_count(layer) {
-                break Found::Cell(e as usize + place as usize);
-            }
-            break Found::Beyond(13);
-        }
-        e = cells::layer_parent(layer);
-        left = left - 1;
-    };
-    found
+    for _ in 0..layers {
+        e = cells::layer_parent(layer(store, e)?);
+    }
+    if place < cells::layer_count(layer(store, e)?) {
+        Ok(e as usize + place as usize)
+    } else {
+        Err(Wrong::BeyondLayers)
+    }
 }
 
-fn local(store: &[u64], a: u8, b: u8, r: Regs) -> Stepped
+fn local(store: &[u64; 2048], a: u8, b: u8, r: Regs) -> Result<Regs, Wrong>
     ensures { (g s : List ℕ) → out result (mem g s store.now) ≡ ends (local_rule a b) (mem g s store.now) r }
 {
-    match find_local(store, r.env, a, b) {
-        Found::Beyond(n) => Stepped::Wrong(n),
-        Found::Cell(l) => held(fetch(store, l), r),
-    }
+    let l = find_local(store, r.env, a, b)?;
+    held(fetch(store, l), r)
 }
 
-fn set_local(store: &mut [u64], a: u8, b: u8, r: Regs) -> Stepped
+fn set_local(store: &mut [u64; 2048], a: u8, b: u8, r: Regs) -> Result<Regs, Wrong>
     ensures { (g s : List ℕ) → out result (mem g s store.new) ≡ ends (set_local_rule a b) (mem g s store.old) r }
 {
-    match find_local(store, r.env, a, b) {
-        Found::Beyond(n) => Stepped::Wrong(n),
-        Found::Cell(l) => {
-            put(store, l, r.v);
-            Stepped::Next(valued(cells::UNSPECIFIED, r))
-        }
-    }
+    let l = find_local(store, r.env, a, b)?;
+    put(store, l, r.v);
+    Ok(Regs {
+        v: cells::UNSPECIFIED,
+        ..r
+    })
 }
 
 // ---- push
 
-fn push(stack: &mut [u64], r: Regs) -> Stepped
-    requires { length stack.old ≡ 256 }
+fn push(stack: &mut [u64; 256], r: Regs) -> Result<Regs, Wrong>
     ensures { (g t : List ℕ) → out result (mem g stack.new t) ≡ ends push_rule (mem g stack.old t) r }
 {
     let sp = r.sp;
     if sp < 256 {
         stack[sp] = r.v;
-        Stepped::Next(Regs {
-            v: r.v,
-            env: r.env,
-            sp: sp + 1,
-            st: r.st,
-        })
+        Ok(Regs { sp: sp + 1, ..r })
     } else {
-        Stepped::Wrong(17)
+        Err(Wrong::StackFull)
     }
 }
 
 // ---- make-env, checkargs=
 
-fn make_env(stack: &mut [u64], store: &mut [u64], n: u8, r: Regs) -> Stepped
-    requires { (length stack.old ≡ 256) × (length store.old ≡ 2048) × Fit r }
+fn make_env(stack: &mut [u64; 256], store: &mut [u64; 2048], n: u8, r: Regs) -> Result<Regs, Wrong>
+    requires { Fit r }
     ensures { (g : List ℕ)
         → out result (mem g stack.new store.new) ≡ ends (make_env_rule n) (mem g stack.old store.old) r }
 {
     let sp = r.sp;
     let st = r.st;
     if sp != n as usize {
-        return Stepped::Wrong(10);
+        return Err(Wrong::Count);
     }
     if st + 1 + sp <= 2048 {
         store[st] = cells::layer_cell(r.env, n);
         copy_down(stack, sp, store, st + 1);
         runs::clear(stack, 0, sp);
-        Stepped::Next(Regs {
-            v: r.v,
-            env: (st + 1) as u16,
+        let env = (st + 1) as u16;
+        Ok(Regs {
+            env,
             sp: 0,
             st: st + 1 + sp,
+            ..r
         })
     } else {
-        Stepped::Wrong(18)
+        Err(Wrong::NoRoom)
     }
 }
 
-fn check_args(n: u8, r: Regs) -> Stepped
+fn check_args(n: u8, r: Regs) -> Result<Regs, Wrong>
     ensures { (m : Mem) → out result m ≡ ends (check_args_rule n) m r }
 {
     if r.sp == n as usize {
-        Stepped::Next(r)
+        Ok(r)
     } else {
-        Stepped::Wrong(10)
+        Err(Wrong::Count)
     }
 }
 
 // ---- primitives
 
 // v is c and the stack is empty.
-fn emptied(stack: &mut [u64], c: u64, r: Regs) -> Regs
-    requires { r.sp ≤ length stack.old }
+fn emptied(stack: &mut [u64; 256], c: u64, r: Regs) -> Regs
+    requires { r.sp ≤ 256 }
     ensures value { result ≡ regs c r.env 0 r.st }
     ensures stack { stack.new ≡ zeroed stack.old 0 r.sp }
 {
     runs::clear(stack, 0, r.sp);
-    Regs {
-        v: c,
-        env: r.env,
-        sp: 0,
-        st: r.st,
-    }
+    Regs { v: c, sp: 0, ..r }
 }
 
-fn cons(stack: &mut [u64], store: &mut [u64], r: Regs) -> Stepped
-    requires { (length stack.old ≡ 256) × (length store.old ≡ 2048) × Fit r }
+fn cons(stack: &mut [u64; 256], store: &mut [u64; 2048], r: Regs) -> Result<Regs, Wrong>
+    requires { Fit r }
     ensures { (g : List ℕ)
         → out result (mem g stack.new store.new) ≡ ends cons_rule (mem g stack.old store.old) r }
 {
     let sp = r.sp;
     let st = r.st;
     if sp < 2 {
-        return Stepped::Wrong(10);
+        return Err(Wrong::Count);
     }
     if st + 2 <= 2048 {
         store[st] = stack[sp - 2];
         store[st + 1] = stack[sp - 1];
         let pair = cells::pair_cell(st as u16, (st + 1) as u16);
         let e = emptied(stack, pair, r);
-        Stepped::Next(Regs {
-            v: e.v,
-            env: e.env,
-            sp: e.sp,
-            st: st + 2,
-        })
+        Ok(Regs { st: st + 2, ..e })
     } else {
-        Stepped::Wrong(18)
+        Err(Wrong::NoRoom)
     }
 }
 
 // What stands at a location of the pair on top.
-fn part(stack: &mut [u64], store: &[u64], l: u16, r: Regs) -> Stepped
-    requires { (length stack.old ≡ 256) × Fit r }
+fn part(stack: &mut [u64; 256], store: &[u64; 2048], l: u16, r: Regs) -> Result<Regs, Wrong>
+    requires { Fit r }
     ensures { (location : ℕ → ℕ) (g : List ℕ) → location (top (mem g stack.old store.now) r) ≡ l
         → out result (mem g stack.new store.now) ≡ ends (part_rule location) (mem g stack.old store.now) r }
 {
     let sp = r.sp;
     if sp < 1 {
-        return Stepped::Wrong(10);
+        return Err(Wrong::Count);
     }
     if cells::tag_of(stack[sp - 1]) == 8 {
         let c = fetch(store, l as usize);
-        Stepped::Next(emptied(stack, c, r))
+        Ok(emptied(stack, c, r))
     } else {
-        Stepped::Wrong(14)
+        Err(Wrong::Kind)
     }
 }
 
 // The cell on top of the stack, its bottom where it is empty.
-fn top_of(stack: &[u64], r: Regs) -> u64
-    requires { (length stack.now ≡ 256) × Fit r }
+fn top_of(stack: &[u64; 256], r: Regs) -> u64
+    requires { Fit r }
     ensures { (g t : List ℕ) → result ≡ top (mem g stack.now t) r }
 {
     let sp = r.sp;
     if sp < 1 { stack[0] } else { stack[sp - 1] }
 }
 
-fn car(stack: &mut [u64], store: &[u64], r: Regs) -> Stepped
-    requires { (length stack.old ≡ 256) × Fit r }
+fn car(stack: &mut [u64; 256], store: &[u64; 2048], r: Regs) -> Result<Regs, Wrong>
+    requires { Fit r }
     ensures { (g : List ℕ)
         → out result (mem g stack.new store.now) ≡ ends car_rule (mem g stack.old store.now) r }
 {
@@ -349,8 +340,8 @@ fn car(stack: &mut [u64], store: &[u64], r: Regs) -> Stepped
     part(stack, store, l, r)
 }
 
-fn cdr(stack: &mut [u64], store: &[u64], r: Regs) -> Stepped
-    requires { (length stack.old ≡ 256) × Fit r }
+fn cdr(stack: &mut [u64; 256], store: &[u64; 2048], r: Regs) -> Result<Regs, Wrong>
+    requires { Fit r }
     ensures { (g : List ℕ)
         → out result (mem g stack.new store.now) ≡ ends cdr_rule (mem g stack.old store.now) r }
 {
@@ -358,153 +349,105 @@ fn cdr(stack: &mut [u64], store: &[u64], r: Regs) -> Stepped
     part(stack, store, l, r)
 }
 
-fn eqv(stack: &mut [u64], r: Regs) -> Stepped
-    requires { (length stack.old ≡ 256) × Fit r }
+fn eqv(stack: &mut [u64; 256], r: Regs) -> Result<Regs, Wrong>
+    requires { Fit r }
     ensures { (g t : List ℕ) → out result (mem g stack.new t) ≡ ends eqv_rule (mem g stack.old t) r }
 {
     let sp = r.sp;
     if sp < 2 {
-        return Stepped::Wrong(10);
+        return Err(Wrong::Count);
     }
     if stack[sp - 1] == stack[sp - 2] {
-        Stepped::Next(emptied(stack, cells::TRUE, r))
+        Ok(emptied(stack, cells::TRUE, r))
     } else {
-        Stepped::Next(emptied(stack, cells::FALSE, r))
+        Ok(emptied(stack, cells::FALSE, r))
     }
 }
 
-// v is an integer; 15 where it is out of range.
-fn integer(stack: &mut [u64], x: Ranged, r: Regs) -> Stepped
-    requires { (length stack.old ≡ 256) × Fit r × RangedFits x }
+// v is an integer, or it is out of range.
+fn integer(stack: &mut [u64; 256], x: Option<u64>, r: Regs) -> Result<Regs, Wrong>
+    requires { Fit r × RangedFits x }
     ensures { (g t : List ℕ) → out result (mem g stack.new t) ≡ ends (integer_by x) (mem g stack.old t) r }
 {
     match x {
-        Ranged::Within(bits) => Stepped::Next(emptied(stack, cells::int_cell(bits), r)),
-        Ranged::Over => Stepped::Wrong(15),
+        Some(bits) => Ok(emptied(stack, cells::int_cell(bits), r)),
+        None => Err(Wrong::OutOfRange),
     }
 }
 
-fn add(stack: &mut [u64], r: Regs) -> Stepped
-    requires { (length stack.old ≡ 256) × Fit r }
+fn add(stack: &mut [u64; 256], r: Regs) -> Result<Regs, Wrong>
+    requires { Fit r }
     ensures { (g t : List ℕ) → out result (mem g stack.new t) ≡ ends add_rule (mem g stack.old t) r }
 {
-    match integers::sum_up(stack, r.sp) {
-        Total::NotIntegers => Stepped::Wrong(14),
-        Total::Exactly(x) => integer(stack, x, r),
-    }
+    let total = integers::sum_up(stack, r.sp)?;
+    integer(stack, total, r)
 }
 
 // The bits of exactly two integers.
-fn two_integers(stack: &[u64], r: Regs) -> Operands
-    requires { (length stack.now ≡ 256) × Fit r }
+fn two_integers(stack: &[u64; 256], r: Regs) -> Result<(u64, u64), Wrong>
+    requires { Fit r }
     ensures by_index { (g t : List ℕ) → result ≡ operands_of (mem g stack.now t) r }
     ensures fits { OperandsFit result }
 {
     let sp = r.sp;
     if sp != 2 {
-        return Operands::Wrong(10);
+        return Err(Wrong::Count);
     }
     let left = stack[sp - 2];
     let right = stack[sp - 1];
     if cells::tag_of(left) != 6 {
-        return Operands::Wrong(14);
+        return Err(Wrong::Kind);
     }
     if cells::tag_of(right) != 6 {
-        return Operands::Wrong(14);
+        return Err(Wrong::Kind);
     }
-    Operands::Two(cells::int_of(left), cells::int_of(right))
+    Ok((cells::int_of(left), cells::int_of(right)))
 }
 
-fn sub(stack: &mut [u64], r: Regs) -> Stepped
-    requires { (length stack.old ≡ 256) × Fit r }
+fn sub(stack: &mut [u64; 256], r: Regs) -> Result<Regs, Wrong>
+    requires { Fit r }
     ensures { (g t : List ℕ) → out result (mem g stack.new t) ≡ ends sub_rule (mem g stack.old t) r }
 {
-    match two_integers(stack, r) {
-        Operands::Two(a, b) => integer(stack, integers::difference(a, b), r),
-        Operands::Wrong(n) => Stepped::Wrong(n),
-    }
+    let (a, b) = two_integers(stack, r)?;
+    integer(stack, integers::difference(a, b), r)
 }
 
-fn less(stack: &mut [u64], r: Regs) -> Stepped
-    requires { (length stack.old ≡ 256) × Fit r }
+fn less(stack: &mut [u64; 256], r: Regs) -> Result<Regs, Wrong>
+    requires { Fit r }
     ensures { (g t : List ℕ) → out result (mem g stack.new t) ≡ ends less_rule (mem g stack.old t) r }
 {
-    match two_integers(stack, r) {
-        Operands::Two(a, b) => {
-            if integers::less(a, b) {
-                Stepped::Next(emptied(stack, cells::TRUE, r))
-            } else {
-                Stepped::Next(emptied(stack, cells::FALSE, r))
-            }
-        }
-        Operands::Wrong(n) => Stepped::Wrong(n),
+    let (a, b) = two_integers(stack, r)?;
+    if integers::less(a, b) {
+        Ok(emptied(stack, cells::TRUE, r))
+    } else {
+        Ok(emptied(stack, cells::FALSE, r))
     }
 }
 
-fn floor_div(stack: &mut [u64], r: Regs) -> Stepped
-    requires { (length stack.old ≡ 256) × Fit r }
+fn floor_div(stack: &mut [u64; 256], r: Regs) -> Result<Regs, Wrong>
+    requires { Fit r }
     ensures { (g t : List ℕ) → out result (mem g stack.new t) ≡ ends floor_div_rule (mem g stack.old t) r }
 {
-    match two_integers(stack, r) {
-        Operands::Two(a, b) => {
-            if b == 0 {
-                return Stepped::Wrong(23);
-            }
-            integer(stack, integers::floor_div(a, b), r)
-        }
-        Operands::Wrong(n) => Stepped::Wrong(n),
+    let (a, b) = two_integers(stack, r)?;
+    if b == 0 {
+        return Err(Wrong::ZeroDivisor);
     }
+    integer(stack, integers::floor_div(a, b), r)
 }
 
 // ---- the plain instructions together
 
-// By the owner's right.
+// By the owner's right. In line in each machine's loop: behind a call a step takes more than twice as many instructions.
+#[inline(always)]
 pub fn plain_rule(
     owner: Owner,
     i: Plain,
-    globals: &mut [u64],
-    stack: &mut [u64],
-    store: &mut [u64],
+    globals: &mut [u64; 256],
+    stack: &mut [u64; 256],
+    store: &mut [u64; 2048],
     r: Regs,
-) -> Stepped
-    requires { (length globals.old ≡ 256) × (length stack.old ≡ 256) × (length store.old ≡ 2048) × Fit r }
-    ensures store_after { out result (mem globals.new stack.new store.new)
-        ≡ ends (owned_rule owner i) (mem globals.old stack.old store.old) r }
-    ensures fits { EndFit result }
-{
-    match i {
-        Plain::Literal(c) => literal(c, r),
-        Plain::Closure(t) => closure(store, t, r),
-        Plain::Global(g) => global(owner, globals, g, r),
-        Plain::SetGlobal(g) => set_global(owner, globals, g, r),
-        Plain::Local(a, b) => local(store, a, b, r),
-        Plain::SetLocal(a, b) => set_local(store, a, b, r),
-        Plain::Push => push(stack, r),
-        Plain::Unspecified => literal(cells::UNSPECIFIED, r),
-        Plain::MakeEnv(n) => make_env(stack, store, n, r),
-        Plain::CheckArgs(n) => check_args(n, r),
-        Plain::Cons => cons(stack, store, r),
-        Plain::Car => car(stack, store, r),
-        Plain::Cdr => cdr(stack, store, r),
-        Plain::Eqv => eqv(stack, r),
-        Plain::Add => add(stack, r),
-        Plain::Sub => sub(stack, r),
-        Plain::Less => less(stack, r),
-        Plain::FloorDiv => floor_div(stack, r),
-    }
-}
-
-// The same, for the basic machine's loop. The compiler puts a function in line that is called from one place; with its rules behind a call a step takes more
-// than twice as many instructions.
-pub fn basic_rule(
-    owner: Owner,
-    i: Plain,
-    globals: &mut [u64],
-    stack: &mut [u64],
-    store: &mut [u64],
-    r: Regs,
-) -> Stepped
-    requires { (length globals.old ≡ 256) × (length stack.old ≡ 256) × (length store.old ≡ 2048) × Fit r }
+) -> Result<Regs, Wrong>
+    requires { Fit r }
     ensures store_after { out result (mem globals.new stack.new store.new)
         ≡ ends (owned_rule owner i) (mem globals.old stack.old store.old) r }
     ensures fits { EndFit result }
@@ -534,24 +477,17 @@ pub fn basic_rule(
 // ---- call
 
 // The closure's template, and its environment.
-pub fn call(n: u8, r: Regs) -> Called
-    ensures value { result ≡ called_to (call_rule n r) }
+pub fn call(n: u8, r: Regs) -> Result<(u8, Regs), Wrong>
+    ensures value { answered result ≡ call_rule n r }
     ensures fits { Fit r → CallFit result }
 {
     if r.sp != n as usize {
-        return Called::Wrong(10);
+        return Err(Wrong::Count);
     }
     if cells::tag_of(r.v) == 7 {
-        Called::To(
-            cells::closure_template(r.v),
-            Regs {
-                v: r.v,
-                env: cells::closure_env(r.v),
-                sp: r.sp,
-                st: r.st,
-            },
-        )
+        let env = cells::closure_env(r.v);
+        Ok((cells::closure_template(r.v), Regs { env, ..r }))
     } else {
-        Called::Wrong(11)
+        Err(Wrong::NoClosure)
     }
 }

@@ -1,19 +1,19 @@
 -- A run, one law for each way that a turn of the loop goes. Assumes nothing.
 use Prim.Native.Nat.{ℕ, ◌+◌, ◌-◌, ◌<◌, ◌≤◌}
-use mathlib.Core.Path.{◌≡◌, ap, ◌∙◌}
+use mathlib.Core.Path.{◌≡◌}
 use mathlib.Core.List.{List}
 use native.Mathlib.Nat.{sub_self}
 use native.Mathlib.Omega.{arith}
-use lib.ListN.{length}
 use Rattle.cells.specs.Cells.{value_of}
 use Rattle.cells.specs.declared.Value.{Value}
 use Rattle.owners.specs.declared.Owner.{Owner}
 use Rattle.rules.specs.State.{regs}
 use Rattle.rules.specs.declared.Regs.{Regs}
+use Rattle.rules.specs.WrongNumber.{wrong_number}
+use Rattle.rules.specs.declared.Wrong.{Wrong as What}
 use Rattle.machines.specs.Machine.{Program, State, step}
 use Rattle.machines.specs.Runs.{Memory, Ran, ran, memory_of, start_state}
 use Rattle.machines.specs.Start.{zeros}
-use Rattle.machines.proofs.theorems.Start.{zeros_length}
 use Rattle.machines.specs.Steps.{ran_from}
 use Rattle.machines.specs.laws.Steps.{ends_in, turn_goes, turn_halts, turn_stops, budget_spent_lem}
 use Rattle.machines.specs.Instruction.{number, Form, form_of, Of}
@@ -40,12 +40,11 @@ module _ {goal : Ran} (own : Owner) (form : Form) (P : Program) (left b : ℕ) (
   unfolding GoesOn
   next_place q k e = let g = rw e at t.goes_on in g.2
 
-  pub next_ready : (s table : List ℕ) (q : Regs) (k : Control) → x ≡ Next q k → Of form c.place → StepReady s table m r c → length m'.globals ≡ 256 → length m'.stack ≡ 256
-      → length m'.store ≡ 2048 → length m'.frames ≡ 2048 → StepReady s table m' q k
+  pub next_ready : (s table : List ℕ) (q : Regs) (k : Control) → x ≡ Next q k → Of form c.place → StepReady s table r c → StepReady s table q k
   unfolding GoesOn
-  next_ready s table q k e o w lg ls lt lf =
+  next_ready s table q k e o w =
       let g = rw e at t.goes_on in
-      record { code_ready = rw (g.2, ← o) w.code_ready; fit = g.0; frames_fit = g.1; globals_long = lg; stack_long = ls; store_long = lt; frames_long = lf }
+      record { code_ready = rw (g.2, ← o) w.code_ready; fit = g.0; frames_fit = g.1 }
 
   pub halted_turn : (v : Value) (y : Run) → x ≡ Halted → v ≡ value_of r.v → y ≡ ends_with (end.Halted v) (b - (left - 1)) r c → ran y m' ≡ goal
   unfolding meant Unchanged ends_in memory_of
@@ -54,11 +53,11 @@ module _ {goal : Ran} (own : Owner) (form : Form) (P : Program) (left b : ℕ) (
       let n : b - (left - 1) ≡ b - left + 1 = omega arith in
       rw (i, k, u, n) (turn_halts own P left b (state_of r c m) (meant x m') some most t.meant_is h (rw e))
 
-  pub wrong_turn : (n : ℕ) (y : Run) → x ≡ Wrong n → y ≡ ends_with (end.Wrong n) (b - left) r c → ran y m' ≡ goal
+  pub wrong_turn : (w : What) (n : ℕ) (y : Run) → x ≡ Wrong w → n ≡ wrong_number w → y ≡ ends_with (end.Wrong n) (b - left) r c → ran y m' ≡ goal
   unfolding meant Unchanged ends_in memory_of
-  wrong_turn n y e i =
+  wrong_turn w n y e k i =
       let u : m' ≡ m = rw e at t.unchanged in
-      rw (i, u) (turn_stops own P left b (state_of r c m) (meant x m') some most t.meant_is h n (rw e))
+      rw (i, u) (turn_stops own P left b (state_of r c m) (meant x m') some most t.meant_is h n (rw (e, k)))
 
 pub spent_turn : {goal : Ran} (own : Owner) (P : Program) (left b : ℕ) (m : Memory) (r : Regs) (c : Control) (y : Run) → left ≤ 0 → ran_from own P left (b - left) (state_of r c m) ≡ goal
     → y ≡ ends_with end.OutOfBudget (b - left) r c → ran y m ≡ goal
@@ -69,19 +68,11 @@ spent_turn own P left b m r c y l h i = let n : b - left ≡ b = omega arith in 
 abbrev first_regs : Regs
 first_regs = regs 0x4000000000000000 0 0 0
 
-module _ (m : Memory) (p : CodePlace) (ls : m.stack ≡ zeros 256) (lt : m.store ≡ zeros 2048) (lf : m.frames ≡ zeros 2048) where
-  pub first_ready : (s table : List ℕ) → CodeReady (form_of p) s table → length m.globals ≡ 256 → StepReady s table m first_regs (control 0 p 0)
-  first_ready s table w lg =
-      record {
-        code_ready = w;
-        fit = record { fit_sp = omega arith; fit_st = omega arith };
-        frames_fit = omega arith;
-        globals_long = lg;
-        stack_long = ap length ls ∙ zeros_length 256;
-        store_long = ap length lt ∙ zeros_length 2048;
-        frames_long = ap length lf ∙ zeros_length 2048;
-      }
+pub first_ready : (p : CodePlace) (s table : List ℕ) → CodeReady (form_of p) s table → StepReady s table first_regs (control 0 p 0)
+first_ready p s table w =
+    record { code_ready = w; fit = record { fit_sp = omega arith; fit_st = omega arith }; frames_fit = omega arith }
 
+module _ (m : Memory) (p : CodePlace) (ls : m.stack ≡ zeros 256) (lt : m.store ≡ zeros 2048) (lf : m.frames ≡ zeros 2048) where
   pub first_is : state_of first_regs (control 0 p 0) m ≡ start_state m.globals (number p)
   unfolding start_state zeros
   first_is = rw (ls, lt, lf)

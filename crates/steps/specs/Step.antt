@@ -2,6 +2,7 @@
 use Rattle.std.specs.Prelude.{ℕ, ◌≤◌, ◌≡◌, List, length}
 use Rattle.rules.specs.State.{mem}
 use Rattle.rules.specs.Fit.{Fit}
+use Rattle.rules.specs.WrongNumber.{wrong_number}
 use Rattle.rules.specs.declared.Regs.{Regs}
 use Rattle.machines.specs.Machine.{State, at, Step, go, halt, stop}
 use Rattle.machines.specs.Runs.{Memory}
@@ -43,18 +44,18 @@ ends_with e n r c = record { end = e; steps = n; stack = r.sp; store = r.st; fra
 unfoldable pub meant : OneStep → Memory → Step
 meant (Next r c) m = go (state_of r c m)
 meant Halted m = halt
-meant (Wrong n) m = stop n
+meant (Wrong w) m = stop (wrong_number w)
 
 -- at an end nothing is changed
 unfoldable pub Unchanged : OneStep → Memory → Memory → Type 0
 Unchanged (Next r c) m m' = Unit
 Unchanged Halted m m' = m' ≡ m
-Unchanged (Wrong n) m m' = m' ≡ m
+Unchanged (Wrong w) m m' = m' ≡ m
 
 unfoldable pub GoesOn : Form → OneStep → Type 0
 GoesOn form (Next r c) = Fit r × (c.fr ≤ 2048) × Of form c.place
 GoesOn form Halted = Unit
-GoesOn form (Wrong n) = Unit
+GoesOn form (Wrong w) = Unit
 
 -- x, which leaves the cells m' where m were, is the step y, and stays in its form of code
 pub record Taken (form : Form) (x : OneStep) (m m' : Memory) (y : Step) : Type 0 where
@@ -63,11 +64,7 @@ pub record Taken (form : Form) (x : OneStep) (m m' : Memory) (y : Step) : Type 0
   pub goes_on : GoesOn form x
 
 -- what a step asks
-pub record StepReady (s table : List ℕ) (m : Memory) (r : Regs) (c : Control) : Type 0 where
+pub record StepReady (s table : List ℕ) (r : Regs) (c : Control) : Type 0 where
   pub code_ready : CodeReady (form_of c.place) s table
   pub fit : Fit r
   pub frames_fit : c.fr ≤ 2048
-  pub globals_long : length m.globals ≡ 256
-  pub stack_long : length m.stack ≡ 256
-  pub store_long : length m.store ≡ 2048
-  pub frames_long : length m.frames ≡ 2048

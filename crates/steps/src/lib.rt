@@ -14,10 +14,9 @@ ghost use Rattle.machines.specs.Instruction.{number, form_of, fetched_as, Of, Pl
 ghost use Rattle.steps.specs.Step.{start_at, control, state_of, ends_with, Taken};
 
 use cells::{BitPlace, BytePlace};
-use frames::{Kept, Returned};
-use machines::{CodePlace, End, Instruction, Resolved, Run};
+use machines::{CodePlace, End, Instruction, Run};
 use owners::Owner;
-use rules::{Called, Plain, Regs, Stepped};
+use rules::{Plain, Regs, Wrong};
 
 // Where a run is: the template, the place in its code; and how many frame cells are in use.
 #[derive(Clone, Copy)]
@@ -32,7 +31,7 @@ pub struct Control {
 pub enum OneStep {
     Next(Regs, Control),
     Halted,
-    Wrong(u8),
+    Wrong(Wrong),
 }
 
 // ---- places, each of the form of code that another is of
@@ -69,34 +68,27 @@ fn start_place(table: &[u64], template: u8, like: CodePlace) -> CodePlace
 
 // ---- each kind of instruction
 
-fn act_plain(
+// In line in each machine's loop, as its rule is.
+#[inline(always)]
+pub fn act_plain(
     owner: Owner,
     i: Plain,
     next: CodePlace,
-    globals: &mut [u64],
-    stack: &mut [u64],
-    store: &mut [u64],
+    globals: &mut [u64; 256],
+    stack: &mut [u64; 256],
+    store: &mut [u64; 2048],
     r: Regs,
     c: Control,
 ) -> OneStep
-    requires { (length globals.old ≡ 256) × (length stack.old ≡ 256) × (length store.old ≡ 2048) × Fit r × (c.fr ≤ 2048) }
+    requires { Fit r × (c.fr ≤ 2048) }
     ensures { (P : Program) (f : List ℕ)
         → Taken (form_of next) result (memory globals.old stack.old store.old f)
         (memory globals.new stack.new store.new f)
         (act owner P (plain i (number next)) (state_of r c (memory globals.old stack.old store.old f))) }
 {
     match rules::plain_rule(owner, i, globals, stack, store, r) {
-        Stepped::Next(q) => {
-            OneStep::Next(
-                q,
-                Control {
-                    template: c.template,
-                    place: next,
-                    fr: c.fr,
-                },
-            )
-        }
-        Stepped::Wrong(n) => OneStep::Wrong(n),
+        Ok(q) => OneStep::Next(q, Control { place: next, ..c }),
+        Err(wrong) => OneStep::Wrong(wrong),
     }
 }
 
@@ -108,13 +100,13 @@ pub fn act_neutral(
     a: u8,
     b: u8,
     next: CodePlace,
-    globals: &mut [u64],
-    stack: &mut [u64],
-    store: &mut [u64],
+    globals: &mut [u64; 256],
+    stack: &mut [u64; 256],
+    store: &mut [u64; 2048],
     r: Regs,
     c: Control,
 ) -> OneStep
-    requires { (length globals.old ≡ 256) × (length stack.old ≡ 256) × (length store.old ≡ 2048) × Fit r × (c.fr ≤ 2048) }
+    requires { Fit r × (c.fr ≤ 2048) }
     ensures { (P : Program) (f : List ℕ)
         → Taken (form_of next) result (memory globals.old stack.old store.old f)
         (memory globals.new stack.new store.new f)
@@ -122,8 +114,8 @@ pub fn act_neutral(
         (state_of r c (memory globals.old stack.old store.old f))) }
 {
     match machines::resolve(table, c.template, op, a, b) {
-        Resolved::Fit(i) => act_plain(owner, i, next, globals, stack, store, r, c),
-        Resolved::Unfit => OneStep::Wrong(16),
+        Some(i) => act_plain(owner, i, next, globals, stack, store, r, c),
+        None => OneStep::Wrong(Wrong::BadCode),
     }
 }
 
@@ -133,7 +125,7 @@ pub fn act_call(table: &[u64], n: u8, r: Regs, c: Control) -> OneStep
         → Taken (form_of c.place) result m m (act o P (calls n) (state_of r c m)) }
 {
     match rules::call(n, r) {
-        Called::To(template, q) => {
+        Ok((template, q)) => {
             let here = c.place;
             let place = start_place(table, template, here);
             OneStep::Next(
@@ -141,11 +133,11 @@ pub fn act_call(table: &[u64], n: u8, r: Regs, c: Control) -> OneStep
                 Control {
                     template,
                     place,
-                    fr: c.fr,
+                    ..c
                 },
             )
         }
-        Called::Wrong(no) => OneStep::Wrong(no),
+        Err(wrong) => OneStep::Wrong(wrong),
     }
 }
 
@@ -165,54 +157,45 @@ pub fn act_branch(first: CodePlace, second: CodePlace, r: Regs, c: Control) -> O
 pub fn act_jump(to: CodePlace, r: Regs, c: Control) -> OneStep
     ensures { result ≡ OneStep.Next r (control c.template to c.fr) }
 {
-    OneStep::Next(
-        r,
-        Control {
-            template: c.template,
-            place: to,
-            fr: c.fr,
-        },
-    )
+    OneStep::Next(r, Control { place: to, ..c })
 }
 
 pub fn act_save(
     n: u8,
     saved: CodePlace,
     rest: CodePlace,
-    stack: &mut [u64],
-    frames: &mut [u64],
+    stack: &mut [u64; 256],
+    frames: &mut [u64; 2048],
     r: Regs,
     c: Control,
 ) -> OneStep
-    requires { (length stack.old ≡ 256) × (length frames.old ≡ 2048) × Fit r × (c.fr ≤ 2048) × (number saved < 2 ^ 24) }
+    requires { Fit r × (c.fr ≤ 2048) × (number saved < 2 ^ 24) }
     ensures { (o : Owner) (P : Program) (g t : List ℕ)
         → Taken (form_of rest) result (memory g stack.old t frames.old) (memory g stack.new t frames.new)
         (act o P (saves n (number saved) (number rest)) (state_of r c (memory g stack.old t frames.old))) }
 {
     let cell = frame_of(n, c.template, r.env, saved);
     match frames::make_cont(stack, frames, c.fr, r, n, cell) {
-        Kept::On(q, fr) => {
-            OneStep::Next(
-                q,
-                Control {
-                    template: c.template,
-                    place: rest,
-                    fr,
-                },
-            )
-        }
-        Kept::Wrong(no) => OneStep::Wrong(no),
+        Ok((q, fr)) => OneStep::Next(
+            q,
+            Control {
+                place: rest,
+                fr,
+                ..c
+            },
+        ),
+        Err(wrong) => OneStep::Wrong(wrong),
     }
 }
 
-pub fn act_return(stack: &mut [u64], frames: &mut [u64], r: Regs, c: Control) -> OneStep
-    requires { (length stack.old ≡ 256) × (length frames.old ≡ 2048) × Fit r × (c.fr ≤ 2048) }
+pub fn act_return(stack: &mut [u64; 256], frames: &mut [u64; 2048], r: Regs, c: Control) -> OneStep
+    requires { Fit r × (c.fr ≤ 2048) }
     ensures { (o : Owner) (P : Program) (g t : List ℕ)
         → Taken (form_of c.place) result (memory g stack.old t frames.old) (memory g stack.new t frames.new)
         (act o P returns (state_of r c (memory g stack.old t frames.old))) }
 {
     match frames::give_back(stack, frames, c.fr, r) {
-        Returned::To(q, fr, cell) => {
+        Some((q, fr, cell)) => {
             let template = cells::frame_template(cell);
             let here = c.place;
             let place = saved_place(cell, here);
@@ -225,7 +208,7 @@ pub fn act_return(stack: &mut [u64], frames: &mut [u64], r: Regs, c: Control) ->
                 },
             )
         }
-        Returned::Halt => OneStep::Halted,
+        None => OneStep::Halted,
     }
 }
 

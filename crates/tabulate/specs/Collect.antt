@@ -1,13 +1,11 @@
 -- Collecting the entries of one template.
-use Rattle.std.specs.Prelude.{ℕ, ◌+◌, ◌/◌, ◌≤◌, ◌<◌, ◌≡◌, cond, List, [], ◌∷◌, length, take, eqb}
+use Rattle.std.specs.Prelude.{ℕ, ◌+◌, ◌/◌, ◌≤◌, ◌<◌, ◌≡◌, cond, List, [], ◌∷◌, length, take, eqb, Option, Some, None}
 use Rattle.files.specs.Reading.{got}
 use Rattle.files.specs.Entries.{Entry}
 use Rattle.basic.specs.Basic.{Basic}
 use Rattle.basic.specs.Reading.{list_at}
 use Rattle.basic.specs.Tabulated.{inside, with_all, entries_of}
 use Rattle.basic.specs.Forest.{Lists, inside_all, uses_all, own_bits, own_all}
-use Rattle.tabulate.specs.declared.Collected.{Collected}
-use Rattle.tabulate.specs.declared.Collected.TheVariants.{Many, Entries}
 use Rattle.tabulate.specs.Slots.{slot_of, Fits, AllFit, slots_of}
 
 -- a list that stands from p to e; n is the next template's number
@@ -16,10 +14,10 @@ pub record OwnList (s : List ℕ) (p e n : ℕ) : Type 0 where
   pub read : list_at s 15 p ≡ got list e
   pub few : n + inside list ≤ 256
 
-pub data CollectedIs (es : List Entry) (b : ℕ) (table : List ℕ) : Collected → Type 0 where
-  many_entries : 255 < length es → CollectedIs es b table Many
+pub data CollectedIs (es : List Entry) (b : ℕ) (table : List ℕ) : Option (ℕ × ℕ) → Type 0 where
+  many_entries : 255 < length es → CollectedIs es b table None
   few_entries : (count size : ℕ) → length es ≤ 255 → count ≡ length es → size ≡ b → take count table ≡ slots_of es → AllFit es
-      → CollectedIs es b table (Entries count size)
+      → CollectedIs es b table (Some (count, size))
 
 -- what the loop keeps for the list c, where it is at p
 pub record Collecting (s : List ℕ) (e : ℕ) (c : Basic) (n p next count size : ℕ) (table : List ℕ) : Type 0 where

@@ -2,7 +2,7 @@
 // by code, once to count its entries and bits and once to write them. An entry is found by a scan over those that the template has so far, at most 255.
 #![tactic(auto)]
 
-ghost use Rattle.std.specs.Prelude.{◌≡◌, List, [], ◌++◌, ℕ, suc, ◌+◌, ◌*◌, ◌-◌, ◌^◌, ◌≤◌, ◌<◌, length, take, eqb};
+ghost use Rattle.std.specs.Prelude.{◌≡◌, List, [], ◌++◌, ℕ, suc, ◌+◌, ◌*◌, ◌-◌, ◌^◌, ◌≤◌, ◌<◌, length, take, Ok, IsSomeAnd};
 ghost use Rattle.files.specs.Entries.{Entry};
 ghost use Rattle.basic.specs.Basic.{Basic};
 ghost use Rattle.basic.specs.Forest.{Lists};
@@ -10,6 +10,7 @@ ghost use Rattle.tabulate.specs.Walk.{StepIs, Walk, NextIs};
 ghost use Rattle.files.specs.Reading.{got};
 ghost use Rattle.basic.specs.Reading.{list_at};
 ghost use Rattle.basic.specs.Told.{class_of};
+ghost use Rattle.lists.specs.Facts.{says_closed};
 ghost use Rattle.basic.specs.Tabulated.{entries_of, indexed, template_of, tabulated};
 ghost use Rattle.basic.specs.Forest.{own_bits};
 ghost use Rattle.tabulate.specs.Slots.{position, Added};
@@ -17,14 +18,13 @@ ghost use Rattle.files.specs.Linear.{bits_of, entry_bits, entries_bits};
 ghost use Rattle.tree_file.specs.File.{list_bits, template_bits, templates_bits, tree_file};
 ghost use Rattle.basic.specs.Checked.{tabulated_file};
 ghost use Rattle.files.specs.Outcome.{answered, written};
-ghost use Rattle.tabulate.specs.declared.CheckedFile.TheVariants.{Accepted};
 ghost use Rattle.tabulate.specs.Put.{PutAt, EntriesIn, CodeIn, TemplateIn, TemplatesIn, WholeIn};
 ghost use Rattle.tabulate.specs.Judge.{ListIn, ClosedIs, FewIn, MeasuredIs, JudgedIn, CheckedIs};
 ghost use Rattle.tabulate.specs.Collect.{OwnList, CollectedIs, slot_bits, slots_bits, SlotAt};
 
-use basic::{BasicFile, Listed, Token};
+use basic::Token;
 use cells::BitPlace;
-use files::Outcome;
+use files::{Outcome, Refusal};
 
 // What stands at a place of a template's own list: a code that is written as it is, up to a place; a code that carries an entry, as a slot; closure, whose
 // list begins at a place.
@@ -33,42 +33,38 @@ enum Step {
     Copy(BitPlace),
     Entry(u32, u64, BitPlace),
     Closure(BitPlace),
-    Nothing,
-}
-
-// Where the list of the next closure begins.
-#[derive(Clone, Copy)]
-enum Next {
-    Nothing,
-    List(BitPlace),
 }
 
 // The code at a place. A slot has the tag of a constant and its number below it, 6 and the number of a global, 7 and the number of a template.
-fn step_at(s: &[u8], at: BitPlace) -> Step
+fn step_at(s: &[u8], at: BitPlace) -> Option<Step>
     requires { length s.now ≤ 262144 }
-    ensures { (e : ℕ) (cs : List Basic) → at.0 < e → Lists s.now e at.0 cs → StepIs s.now e at.0 cs result }
+    ensures { (e : ℕ) (cs : List Basic) → at.0 < e → Lists s.now e at.0 cs → IsSomeAnd result (λ step. StepIs s.now e at.0 cs step) }
 {
-    match basic::read_token(s, at, 15) {
-        Token::End(next) => Step::Copy(next),
-        Token::Ending(next) => Step::Copy(next),
-        Token::Plain(next) => Step::Copy(next),
-        Token::Literal(t, x, next) => Step::Entry(6, t as u64 * 0x1_0000_0000_0000 + x, next),
-        Token::Global(code, g, next) => Step::Entry(code, 0x6_0000_0000_0000 + g as u64, next),
-        Token::Closure(next) => Step::Closure(next),
-        Token::Branch(next) => Step::Copy(next),
-        Token::Save(next) => Step::Copy(next),
-        Token::Refused(_, _) => Step::Nothing,
+    match basic::read_token(s, at, 15).ok()? {
+        Token::End(next)
+        | Token::Ending(next)
+        | Token::Plain(next)
+        | Token::Branch(next)
+        | Token::Save(next) => Some(Step::Copy(next)),
+        Token::Literal(t, x, next) => Some(Step::Entry(6, t as u64 * 0x1_0000_0000_0000 + x, next)),
+        Token::Global(code, g, next) => Some(Step::Entry(
+            code,
+            0x6_0000_0000_0000 + g as u64,
+            next,
+        )),
+        Token::Closure(next) => Some(Step::Closure(next)),
     }
 }
 
-// The next closure from a place on, in lists that end at a place.
-fn next_closure(s: &[u8], at: BitPlace, end: BitPlace) -> Next
+// Where the list of the next closure begins, from a place on, in lists that end at a place.
+fn next_closure(s: &[u8], at: BitPlace, end: BitPlace) -> Option<BitPlace>
     requires { (length s.now ≤ 262144) × Walk s.now at.0 end.0 }
     ensures { (w : Walk s.now at.0 end.0) (n : ℕ) → NextIs s.now end.0 n w.lists result }
 {
     let mut here = at;
     while here.before(end) {
-        match step_at(s, here) {
+        let step = step_at(s, here)?;
+        match step {
             Step::Copy(past) => {
                 here = past;
             }
@@ -76,37 +72,31 @@ fn next_closure(s: &[u8], at: BitPlace, end: BitPlace) -> Next
                 here = past;
             }
             Step::Closure(list) => {
-                return Next::List(list);
-            }
-            Step::Nothing => {
-                return Next::Nothing;
+                return Some(list);
             }
         }
     }
-    Next::Nothing
+    None
 }
 
-// Where a slot stands among the first of a table: their number, where it does not.
-fn find(table: &[u64], count: usize, slot: u64) -> usize
-    requires { count ≤ length table.now }
-    ensures { result ≡ position slot (take count table.now) }
+// Where a slot stands among others: their number, where it does not.
+fn find(slots: &[u64], slot: u64) -> usize
+    ensures { result ≡ position slot slots.now }
 {
-    let mut i: usize = 0;
-    while i < count {
-        if table[i] == slot {
+    for i in 0..slots.len() {
+        if slots[i] == slot {
             return i;
         }
-        i += 1;
     }
-    count
+    slots.len()
 }
 
 // A slot put behind the first of a table, unless it is there; how many there are then.
-fn add(table: &mut [u64], count: usize, slot: u64) -> usize
-    requires { count < length table.old }
+fn add(table: &mut [u64; 256], count: usize, slot: u64) -> usize
+    requires { count < 256 }
     ensures { Added table.old table.new count slot result }
 {
-    if find(table, count, slot) < count {
+    if find(&table[..count], slot) < count {
         return count;
     }
     table[count] = slot;
@@ -115,25 +105,25 @@ fn add(table: &mut [u64], count: usize, slot: u64) -> usize
 
 // ---- one template: its number is below n, which is the next one's
 
-// What collecting a template's entries finds: more than 255, or how many there are and how many bits its own list has with indices.
-#[derive(Clone, Copy)]
-enum Collected {
-    Many,
-    Entries(usize, usize),
-}
-
-// The entries of the list from a place to its end, into a table's first slots.
-fn collect(s: &[u8], at: BitPlace, end: BitPlace, n: usize, table: &mut [u64]) -> Collected
-    requires { (length s.now ≤ 65536) × (length table.old ≡ 256) × OwnList s.now at.0 end.0 n }
-    ensures collected_is { (w : OwnList s.now at.0 end.0 n) → CollectedIs (entries_of n w.list) (own_bits w.list) table.new result }
-    ensures table_len { length table.new ≡ 256 }
+// The entries of the list from a place to its end, into a table's first slots. How many there are, and how many bits the list has with indices; nothing
+// where there are more than 255.
+fn collect(
+    s: &[u8],
+    at: BitPlace,
+    end: BitPlace,
+    n: usize,
+    table: &mut [u64; 256],
+) -> Option<(usize, usize)>
+    requires { (length s.now ≤ 65536) × OwnList s.now at.0 end.0 n }
+    ensures { (w : OwnList s.now at.0 end.0 n) → CollectedIs (entries_of n w.list) (own_bits w.list) table.new result }
 {
     let mut here = at;
     let mut next = n;
     let mut count: usize = 0;
     let mut bits: usize = 0;
     while here.before(end) {
-        match step_at(s, here) {
+        let step = step_at(s, here)?;
+        match step {
             Step::Copy(past) => {
                 bits += past.since(here);
                 here = past;
@@ -141,29 +131,24 @@ fn collect(s: &[u8], at: BitPlace, end: BitPlace, n: usize, table: &mut [u64]) -
             Step::Entry(_, slot, past) => {
                 count = add(table, count, slot);
                 if 255 < count {
-                    return Collected::Many;
+                    return None;
                 }
                 bits += 13;
                 here = past;
             }
             Step::Closure(list) => {
-                let Listed::Done(past, x) = basic::read_list(s, list, 15) else {
-                    return Collected::Many;
-                };
+                let (past, x) = basic::read_list(s, list, 15).ok()?;
                 count = add(table, count, 0x7_0000_0000_0000 + next as u64);
                 if 255 < count {
-                    return Collected::Many;
+                    return None;
                 }
                 bits += 13;
                 next = next + 1 + x.inside;
                 here = past;
             }
-            Step::Nothing => {
-                return Collected::Many;
-            }
         }
     }
-    Collected::Entries(count, bits)
+    Some((count, bits))
 }
 
 // How many bits a slot's entry has.
@@ -179,143 +164,101 @@ fn slot_bits(slot: u64) -> usize
     }
 }
 
-// How many bits the entries of a table's first slots have.
-fn entries_bits(table: &[u64], count: usize) -> usize
-    requires { (count ≤ length table.now) × (length table.now ≡ 256) }
-    ensures { (result ≡ slots_bits (take count table.now)) × (result ≤ 53 * count) }
+// How many bits the entries of slots have.
+fn entries_bits(slots: &[u64]) -> usize
+    requires { length slots.now ≤ 256 }
+    ensures value { result ≡ slots_bits slots.now }
+    ensures upper_bound { result ≤ 53 * length slots.now }
 {
-    let mut i: usize = 0;
     let mut bits: usize = 0;
-    while i < count {
-        bits += slot_bits(table[i]);
-        i += 1;
+    for &slot in slots {
+        bits += slot_bits(slot);
     }
     bits
 }
 
 // ---- all templates, in the order of their numbers
 
-// What judging all lists finds: how many templates there are, or the lowest whose list is not closed.
-#[derive(Clone, Copy)]
-enum Closed {
-    All(usize),
-    But(usize),
-}
-
-// What measuring all templates finds: that one has too many entries, or how many bits they have.
-#[derive(Clone, Copy)]
-enum Measured {
-    Large,
-    Bits(usize),
-}
-
 // The list at a place: whether it is closed, and the place past it.
 fn is_closed(s: &[u8], at: BitPlace) -> bool
     requires { length s.now ≤ 65536 }
-    ensures { (c : Basic) (q : ℕ) → list_at s.now 15 at.0 ≡ got c q → result ≡ eqb (class_of c) 2 }
+    ensures { (c : Basic) (q : ℕ) → list_at s.now 15 at.0 ≡ got c q → result ≡ says_closed (class_of c) }
 {
     match basic::read_list(s, at, 15) {
-        Listed::Done(_, x) => x.class == 2,
-        Listed::Refused(_, _) => false,
+        Ok((_, x)) => x.class.is_closed(),
+        Err(_) => false,
     }
 }
 
-// 6, over all templates of a file whose list ends at a place.
-fn judge_lists(s: &[u8], end: BitPlace) -> Closed
+// 6, over all templates of a file whose list ends at a place: how many there are, or the lowest whose list is not closed.
+fn judge_lists(s: &[u8], end: BitPlace) -> Result<usize, usize>
     requires { (length s.now ≤ 65536) × ListIn s.now end.0 }
     ensures { (w : ListIn s.now end.0) → ClosedIs w.list result }
 {
     let mut here = BitPlace(0);
     let mut own: usize = 0;
     loop {
-        if is_closed(s, here) {
-            match next_closure(s, here, end) {
-                Next::Nothing => {
-                    return Closed::All(own + 1);
-                }
-                Next::List(list) => {
-                    here = list;
-                    own += 1;
-                }
-            }
-        } else {
-            return Closed::But(own);
+        if !is_closed(s, here) {
+            return Err(own);
         }
+        let Some(list) = next_closure(s, here, end) else {
+            return Ok(own + 1);
+        };
+        here = list;
+        own += 1;
     }
 }
 
-// How many bits all templates have, where each has at most 255 entries. The table is for the entries of one.
-fn measure(s: &[u8], end: BitPlace, table: &mut [u64]) -> Measured
-    requires { (length s.now ≤ 65536) × (length table.old ≡ 256) × FewIn s.now end.0 }
-    ensures measured_is { (w : FewIn s.now end.0) → MeasuredIs (tabulated w.whole.list) result }
-    ensures table_len { length table.new ≡ 256 }
+// How many bits all templates have; nothing where one has more than 255 entries. The table is for the entries of one.
+fn measure(s: &[u8], end: BitPlace, table: &mut [u64; 256]) -> Option<usize>
+    requires { (length s.now ≤ 65536) × FewIn s.now end.0 }
+    ensures { (w : FewIn s.now end.0) → MeasuredIs (tabulated w.whole.list) result }
 {
     let mut here = BitPlace(0);
     let mut own: usize = 0;
     let mut bits: usize = 0;
     loop {
-        let Listed::Done(past, _) = basic::read_list(s, here, 15) else {
-            return Measured::Large;
+        let (past, _) = basic::read_list(s, here, 15).ok()?;
+        let (count, size) = collect(s, here, past, own + 1, table)?;
+        bits += 8 + entries_bits(&table[..count]) + size;
+        let Some(list) = next_closure(s, here, end) else {
+            return Some(bits);
         };
-        match collect(s, here, past, own + 1, table) {
-            Collected::Many => {
-                return Measured::Large;
-            }
-            Collected::Entries(count, size) => {
-                bits += 8 + entries_bits(table, count) + size;
-            }
-        }
-        match next_closure(s, here, end) {
-            Next::Nothing => {
-                return Measured::Bits(bits);
-            }
-            Next::List(list) => {
-                here = list;
-                own += 1;
-            }
-        }
+        here = list;
+        own += 1;
     }
 }
 
-// What checking a basic file finds: the place past its list, how many templates it has and how many bits their file, or a refusal's number and place.
-#[derive(Clone, Copy)]
-pub enum CheckedFile {
-    Accepted(BitPlace, usize, usize),
-    Refused(u8, usize),
-}
+// What checking a basic file finds: the place past its list, how many templates it has, and how many bits their file.
+pub type CheckedFile = Result<(BitPlace, usize, usize), Refusal<usize>>;
 
 // 26, over the templates of a file whose list ends at a place and whose lists are closed.
-fn within_limits(s: &[u8], end: BitPlace, count: usize, table: &mut [u64]) -> CheckedFile
-    requires { (length s.now ≤ 65536) × (length table.old ≡ 256) × JudgedIn s.now end.0 count }
-    ensures checked_is { CheckedIs s.now result }
-    ensures table_len { length table.new ≡ 256 }
+fn within_limits(s: &[u8], end: BitPlace, count: usize, table: &mut [u64; 256]) -> CheckedFile
+    requires { (length s.now ≤ 65536) × JudgedIn s.now end.0 count }
+    ensures { CheckedIs s.now result }
 {
     if 64 < count {
-        return CheckedFile::Refused(26, 0);
+        return Err(Refusal(26, 0));
     }
     match measure(s, end, table) {
-        Measured::Large => CheckedFile::Refused(26, 0),
-        Measured::Bits(bits) => {
+        Some(bits) => {
             if 524288 < 8 + bits {
-                return CheckedFile::Refused(26, 0);
+                return Err(Refusal(26, 0));
             }
-            CheckedFile::Accepted(end, count, 8 + bits)
+            Ok((end, count, 8 + bits))
         }
+        None => Err(Refusal(26, 0)),
     }
 }
 
 // Reads and judges a basic file: 1 to 6, 26. The table is for the entries of one template.
-pub fn check_basic(s: &[u8], table: &mut [u64]) -> CheckedFile
-    requires { length table.old ≡ 256 }
-    ensures checked_is { CheckedIs s.now result }
-    ensures table_len { length table.new ≡ 256 }
+pub fn check_basic(s: &[u8], table: &mut [u64; 256]) -> CheckedFile
+    ensures { CheckedIs s.now result }
 {
-    match basic::read_basic(s) {
-        BasicFile::Read(end) => match judge_lists(s, end) {
-            Closed::All(count) => within_limits(s, end, count, table),
-            Closed::But(t) => CheckedFile::Refused(6, t),
-        },
-        BasicFile::Refused(no, place) => CheckedFile::Refused(no, place.number()),
+    let end = basic::read_basic(s)?;
+    match judge_lists(s, end) {
+        Ok(count) => within_limits(s, end, count, table),
+        Err(t) => Err(Refusal(6, t)),
     }
 }
 
@@ -335,36 +278,26 @@ fn put_entry(out: &mut [u8], at: BitPlace, slot: u64) -> BitPlace
     }
 }
 
-// The entries of a table's first slots.
-fn put_entries(table: &[u64], count: usize, out: &mut [u8], at: BitPlace) -> BitPlace
-    requires { (length table.now ≡ 256) × (count ≤ 255) × (length out.old ≤ 65536) × EntriesIn table.now count out.old at.0 }
-    ensures { (w : EntriesIn table.now count out.old at.0)
+// The entries that slots tell.
+fn put_entries(slots: &[u64], out: &mut [u8], at: BitPlace) -> BitPlace
+    requires { (length slots.now ≤ 255) × (length out.old ≤ 65536) × EntriesIn slots.now (length slots.now) out.old at.0 }
+    ensures { (w : EntriesIn slots.now (length slots.now) out.old at.0)
         → PutAt out.old at.0 (entries_bits w.entries) result.0 out.new }
 {
     let mut here = at;
-    let mut i: usize = 0;
-    while i < count {
-        here = put_entry(out, here, table[i]);
-        i += 1;
+    for &slot in slots {
+        here = put_entry(out, here, slot);
     }
     here
 }
 
 // A code and the index of a slot's entry.
-fn put_index(
-    table: &[u64],
-    count: usize,
-    slot: u64,
-    code: u32,
-    out: &mut [u8],
-    at: BitPlace,
-) -> BitPlace
-    requires { (count ≤ length table.now) × (count ≤ 255) × (length out.old ≤ 65536) × (position slot (take count table.now) < count) × (code < 32)
+fn put_index(slots: &[u64], slot: u64, code: u32, out: &mut [u8], at: BitPlace) -> BitPlace
+    requires { (length slots.now ≤ 255) × (length out.old ≤ 65536) × (position slot slots.now < length slots.now) × (code < 32)
         × (at.0 + 13 ≤ 8 * length out.old) }
-    ensures { PutAt out.old at.0 (bits_of 5 code ++ bits_of 8 (suc (position slot (take count table.now)))) result.0
-        out.new }
+    ensures { PutAt out.old at.0 (bits_of 5 code ++ bits_of 8 (suc (position slot slots.now))) result.0 out.new }
 {
-    let i = find(table, count, slot);
+    let i = find(slots, slot);
     let next = bit_writer::put_field(out, at, 5, code);
     bit_writer::put_field(out, next, 8, (i + 1) as u32)
 }
@@ -375,12 +308,12 @@ fn put_code(
     at: BitPlace,
     end: BitPlace,
     n: usize,
-    table: &[u64],
+    table: &[u64; 256],
     count: usize,
     out: &mut [u8],
     place: BitPlace,
 ) -> BitPlace
-    requires { (length s.now ≤ 65536) × (length table.now ≡ 256) × (count ≤ 255) × (length out.old ≤ 65536)
+    requires { (length s.now ≤ 65536) × (count ≤ 255) × (length out.old ≤ 65536)
         × CodeIn s.now table.now at.0 end.0 n count out.old place.0 }
     ensures { (w : CodeIn s.now table.now at.0 end.0 n count out.old place.0)
         → PutAt out.old place.0 (list_bits (indexed w.entries n w.own.list)) result.0 out.new }
@@ -389,25 +322,31 @@ fn put_code(
     let mut next = n;
     let mut past = place;
     while here.before(end) {
-        match step_at(s, here) {
+        let Some(step) = step_at(s, here) else {
+            return past;
+        };
+        match step {
             Step::Copy(after) => {
                 past = bit_writer::copy_bits(s, here, after.since(here), out, past);
                 here = after;
             }
             Step::Entry(code, slot, after) => {
-                past = put_index(table, count, slot, code, out, past);
+                past = put_index(&table[..count], slot, code, out, past);
                 here = after;
             }
             Step::Closure(list) => {
-                let Listed::Done(after, x) = basic::read_list(s, list, 15) else {
+                let Ok((after, x)) = basic::read_list(s, list, 15) else {
                     return past;
                 };
-                past = put_index(table, count, 0x7_0000_0000_0000 + next as u64, 7, out, past);
+                past = put_index(
+                    &table[..count],
+                    0x7_0000_0000_0000 + next as u64,
+                    7,
+                    out,
+                    past,
+                );
                 next = next + 1 + x.inside;
                 here = after;
-            }
-            Step::Nothing => {
-                return past;
             }
         }
     }
@@ -420,23 +359,22 @@ fn put_template(
     at: BitPlace,
     end: BitPlace,
     n: usize,
-    table: &mut [u64],
+    table: &mut [u64; 256],
     out: &mut [u8],
     place: BitPlace,
 ) -> BitPlace
-    requires { (length s.now ≤ 65536) × (length table.old ≡ 256) × (length out.old ≤ 65536)
+    requires { (length s.now ≤ 65536) × (length out.old ≤ 65536)
         × TemplateIn s.now at.0 end.0 n out.old place.0 }
-    ensures put_at { (w : TemplateIn s.now at.0 end.0 n out.old place.0)
+    ensures { (w : TemplateIn s.now at.0 end.0 n out.old place.0)
         → PutAt out.old place.0 (template_bits (template_of n w.own.list)) result.0 out.new }
-    ensures table_len { length table.new ≡ 256 }
 {
     match collect(s, at, end, n, table) {
-        Collected::Many => place,
-        Collected::Entries(count, _) => {
+        Some((count, _)) => {
             let entries = bit_writer::put_field(out, place, 8, count as u32);
-            let code = put_entries(table, count, out, entries);
+            let code = put_entries(&table[..count], out, entries);
             put_code(s, at, end, n, table, count, out, code)
         }
+        None => place,
     }
 }
 
@@ -444,11 +382,11 @@ fn put_template(
 fn put_templates(
     s: &[u8],
     end: BitPlace,
-    table: &mut [u64],
+    table: &mut [u64; 256],
     out: &mut [u8],
     at: BitPlace,
 ) -> BitPlace
-    requires { (length s.now ≤ 65536) × (length table.old ≡ 256) × (length out.old ≤ 65536) × TemplatesIn s.now end.0 out.old at.0 }
+    requires { (length s.now ≤ 65536) × (length out.old ≤ 65536) × TemplatesIn s.now end.0 out.old at.0 }
     ensures { (w : TemplatesIn s.now end.0 out.old at.0)
         → PutAt out.old at.0 (templates_bits (tabulated w.few.whole.list)) result.0 out.new }
 {
@@ -456,25 +394,21 @@ fn put_templates(
     let mut own: usize = 0;
     let mut place = at;
     loop {
-        let Listed::Done(past, _) = basic::read_list(s, here, 15) else {
+        let Ok((past, _)) = basic::read_list(s, here, 15) else {
             return place;
         };
         place = put_template(s, here, past, own + 1, table, out, place);
-        match next_closure(s, here, end) {
-            Next::Nothing => {
-                return place;
-            }
-            Next::List(list) => {
-                here = list;
-                own += 1;
-            }
-        }
+        let Some(list) = next_closure(s, here, end) else {
+            return place;
+        };
+        here = list;
+        own += 1;
     }
 }
 
 // The file of all templates, in an output of its length.
-fn write_tabulated(s: &[u8], end: BitPlace, count: usize, table: &mut [u64], out: &mut [u8])
-    requires { (length s.now ≤ 65536) × (length table.old ≡ 256) × (length out.old ≤ 65536) × WholeIn s.now end.0 count out.old }
+fn write_tabulated(s: &[u8], end: BitPlace, count: usize, table: &mut [u64; 256], out: &mut [u8])
+    requires { (length s.now ≤ 65536) × (length out.old ≤ 65536) × WholeIn s.now end.0 count out.old }
     ensures { (w : WholeIn s.now end.0 count out.old) → out.new ≡ tree_file (tabulated w.few.whole.list) }
 {
     let at = bit_writer::put_field(out, BitPlace(0), 8, count as u32);
@@ -487,19 +421,19 @@ fn tabulate_checked(
     end: BitPlace,
     count: usize,
     bits: usize,
-    table: &mut [u64],
+    table: &mut [u64; 256],
     out: &mut [u8],
 ) -> Outcome
-    requires { (length table.old ≡ 256) × CheckedIs s.now (Accepted end count bits) }
+    requires { CheckedIs s.now (Ok (end, count, bits)) }
     ensures value { result ≡ answered (tabulated_file s.now (length out.old)) }
     ensures out_after { out.new ≡ written out.old (tabulated_file s.now (length out.old)) }
 {
     let size = (bits + 7) / 8;
     if out.len() < size {
-        return Outcome::Refused(9, size);
+        return Err(Refusal(9, size));
     }
     write_tabulated(s, end, count, table, &mut out[..size]);
-    Outcome::Written(size)
+    Ok(size)
 }
 
 // Tabulates a basic file into an output.
@@ -508,10 +442,6 @@ pub fn tabulate(basic: &[u8], out: &mut [u8]) -> Outcome
     ensures out_after { out.new ≡ written out.old (tabulated_file basic.now (length out.old)) }
 {
     let mut table = [0u64; 256];
-    match check_basic(basic, &mut table) {
-        CheckedFile::Accepted(end, count, bits) => {
-            tabulate_checked(basic, end, count, bits, &mut table, out)
-        }
-        CheckedFile::Refused(no, place) => Outcome::Refused(no, place),
-    }
+    let (end, count, bits) = check_basic(basic, &mut table)?;
+    tabulate_checked(basic, end, count, bits, &mut table, out)
 }

@@ -1,16 +1,13 @@
--- The loop of `put_bytes`. Assumes nothing.
-use Prim.Native.Nat.{ℕ, suc, ◌+◌, ◌≤◌, ◌<◌}
-use native.Mathlib.Numerals.{add-one}
-use native.Mathlib.Omega.{arith}
-use mathlib.Core.Path.{◌≡◌}
-use mathlib.Core.List.{List}
-use lib.ListN.{length, set, get_or, drop, drop_of_length-le}
-use lib.Seq.{sets, drop-cons}
+-- A part of a buffer that was written. Assumes nothing.
+use Rattle.std.proofs.Common.{ℕ, ◌+◌, ◌-◌, ◌≤◌, ◌≡◌, List, length, take, drop, sym, ap, ◌∙◌, arith, append_assoc}
+use Rattle.std.proofs.lemmas.List.Edits.{sets-eq}
+use borrow.Rule.Slice.PartMut.{put_mid}
+use lib.Seq.{drop-drop}
+use Rattle.text.specs.Put.{Put}
 
--- one byte of bs more is put
-pub put_on : (s bs : List ℕ) (at i : ℕ) → i < length bs → sets (set s (at + i) (get_or bs i 0)) (at + (i + 1)) (drop (i + 1) bs) ≡ sets s (at + i) (drop i bs)
-put_on s bs at i h = let e : at + (i + 1) ≡ suc (at + i) = omega arith in rw (e, add-one, drop-cons bs i 0 h)
-
--- all of bs are put
-pub put_done : (s bs : List ℕ) (at i : ℕ) → length bs ≤ i → sets s (at + i) (drop i bs) ≡ s
-put_done s bs at i h = rw (drop_of_length-le bs h)
+-- the part from place at on, up to next, holds bs
+pub part_put : (s bs ys : List ℕ) (at next : ℕ) → ys ≡ bs → next ≡ at + length bs → next ≤ length s → Put s at (put_mid at (next - at) s ys) next bs
+part_put s bs ys at next same e h =
+    let k : at + (next - at) ≡ at + length bs = omega arith in
+    let tail : drop (next - at) (drop at s) ≡ drop (at + length bs) s = drop-drop (next - at) at s ∙ ap (λ n. drop n s) k in
+    record { next = e; holds = rw (sets-eq bs s at (omega arith), same, tail) (sym (append_assoc (take at s) bs (drop (at + length bs) s))) }

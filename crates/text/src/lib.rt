@@ -9,12 +9,9 @@ pub fn put_bytes(out: &mut [u8], at: usize, bytes: &[u8]) -> usize
     requires { at + length bytes.now ≤ length out.old }
     ensures { Put out.old at out.new result bytes.now }
 {
-    let mut i: usize = 0;
-    while i < bytes.len() {
-        out[at + i] = bytes[i];
-        i = i + 1;
-    }
-    at + i
+    let next = at + bytes.len();
+    out[at..next].copy_from_slice(bytes);
+    next
 }
 
 pub fn put_byte(out: &mut [u8], at: usize, byte: u8) -> usize

@@ -1,26 +1,19 @@
 -- What the readers of a tree file tell of what is read.
-use Rattle.std.specs.Prelude.{ℕ, zero, suc, ◌+◌, ◌/◌, ◌%◌, Bool, cond, List, [], ◌∷◌, length, ltb, eqb}
+use Rattle.std.specs.Prelude.{ℕ, zero, suc, ◌+◌, ◌/◌, ◌%◌, Bool, cond, List, [], ◌∷◌, length, ltb, eqb, Result, Ok, Err}
 use Rattle.std.proofs.Math.Option.{Option, none, some}
 use Rattle.lists.specs.declared.Facts.{Facts}
 use Rattle.lists.specs.Sets.{unite}
-use Rattle.lists.specs.Facts.{indices_close}
+use Rattle.lists.specs.Facts.{says_closed, indices_close}
 use Rattle.files.specs.Reading.{Got, got, refused}
 use Rattle.files.specs.Tree.{Template}
 use Rattle.files.specs.Grammar.{lowest, closed_template, indexed_template}
 use Rattle.files.specs.Flat.{offset_template}
 use Rattle.files.specs.Linear.{template_bytes, linear_file}
 use Rattle.tree.specs.declared.Report.{Report}
-use Rattle.tree.specs.declared.TemplateRead.{TemplateRead}
-use Rattle.tree.specs.declared.TemplateRead.TheVariants.{Done as DoneTemplate, Refused as RefusedTemplate}
 use Rattle.tree.specs.declared.Summary.{Summary}
-use Rattle.tree.specs.declared.TemplatesRead.{TemplatesRead}
-use Rattle.tree.specs.declared.TemplatesRead.TheVariants.{Done as DoneTemplates, Refused as RefusedTemplates}
-use Rattle.tree.specs.declared.TreeFile.{TreeFile}
-use Rattle.tree.specs.declared.TreeFile.TheVariants.{Read, Refused}
-use Rattle.tree.specs.declared.Judged.{Judged}
-use Rattle.tree.specs.declared.Judged.TheVariants.{Accepted as AcceptedJudged, Refused as RefusedJudged}
-use Rattle.tree.specs.declared.Checked.{Checked}
-use Rattle.tree.specs.declared.Checked.TheVariants.{Accepted, Refused as RefusedChecked}
+use Rattle.files.specs.declared.Refusal.{Refusal}
+use Rattle.files.specs.Refusal.{refusal}
+use Rattle.cells.specs.declared.BitPlace.{BitPlace}
 
 -- ---- a template
 unfoldable pub report_of : Template → Report
@@ -36,11 +29,11 @@ report_of t =
 -- by the facts of its list and the bits of its entries
 unfoldable pub report_by : Facts → ℕ → Report
 report_by f bits =
-    record { closed = eqb f.class 2; named = f.named; fits = f.fits; size = 1 + (bits + 7) / 8 + (3 + f.size); closes = f.closes }
+    record { closed = says_closed f.class; named = f.named; fits = f.fits; size = 1 + (bits + 7) / 8 + (3 + f.size); closes = f.closes }
 
-unfoldable pub template_told : Got Template → TemplateRead
-template_told (got t q) = DoneTemplate (record { 0 = q }) (report_of t)
-template_told (refused n p) = RefusedTemplate n (record { 0 = p })
+unfoldable pub template_told : Got Template → Result (BitPlace × Report) (Refusal BitPlace)
+template_told (got t q) = Ok (record { 0 = q }, report_of t)
+template_told (refused n p) = Err (refusal n (record { 0 = p }))
 
 -- ---- the templates
 -- a template's number, or 64 for none
@@ -64,9 +57,9 @@ summary_of ts =
       closes = closes_of ts;
     }
 
-unfoldable pub templates_told : Got (List Template) → TemplatesRead
-templates_told (got ts q) = DoneTemplates (record { 0 = q }) (summary_of ts)
-templates_told (refused n p) = RefusedTemplates n (record { 0 = p })
+unfoldable pub templates_told : Got (List Template) → Result (BitPlace × Summary) (Refusal BitPlace)
+templates_told (got ts q) = Ok (record { 0 = q }, summary_of ts)
+templates_told (refused n p) = Err (refusal n (record { 0 = p }))
 
 -- ---- one template after the other
 -- the lowest that a test refuses, where it is low up to template own
@@ -93,24 +86,24 @@ unfoldable pub summary_from : ℕ → Summary → List Template → Summary
 summary_from own m [] = m
 summary_from own m (t ∷ ts) = summary_from (own + 1) (summary_after own (report_of t) m) ts
 
-unfoldable pub told_from : ℕ → Summary → Got (List Template) → TemplatesRead
-told_from own m (got ts q) = DoneTemplates (record { 0 = q }) (summary_from own m ts)
-told_from own m (refused n p) = RefusedTemplates n (record { 0 = p })
+unfoldable pub told_from : ℕ → Summary → Got (List Template) → Result (BitPlace × Summary) (Refusal BitPlace)
+told_from own m (got ts q) = Ok (record { 0 = q }, summary_from own m ts)
+told_from own m (refused n p) = Err (refusal n (record { 0 = p }))
 
 -- ---- the file
-unfoldable pub tree_told : Got (List Template) → TreeFile
-tree_told (got ts q) = Read (summary_of ts)
-tree_told (refused n p) = Refused n (record { 0 = p })
+unfoldable pub tree_told : Got (List Template) → Result Summary (Refusal BitPlace)
+tree_told (got ts q) = Ok (summary_of ts)
+tree_told (refused n p) = Err (refusal n (record { 0 = p }))
 
 -- the lowest of n numbers from u on that is not in a set, whose lowest digit is for u (64: none)
 unfoldable pub lowest_missing : ℕ → ℕ → ℕ → ℕ
 lowest_missing set u zero = 64
 lowest_missing set u (suc n) = cond (eqb (set % 2) 1) (lowest_missing (set / 2) (u + 1) n) u
 
-unfoldable pub judged_told : Got (List Template) → Judged
-judged_told (got ts q) = AcceptedJudged (summary_of ts)
-judged_told (refused n p) = RefusedJudged n p
+unfoldable pub judged_told : Got (List Template) → Result Summary (Refusal ℕ)
+judged_told (got ts q) = Ok (summary_of ts)
+judged_told (refused n p) = Err (refusal n p)
 
-unfoldable pub checked_told : Got (List Template) → Checked
-checked_told (got ts q) = Accepted
-checked_told (refused n p) = RefusedChecked n p
+unfoldable pub checked_told : Got (List Template) → Result (Unit {0}) (Refusal ℕ)
+checked_told (got ts q) = Ok (tt {0})
+checked_told (refused n p) = Err (refusal n p)

@@ -1,20 +1,19 @@
 -- What stands at a place of a tree file, found by the file's bits, a run's links and its table.
 use Prim.Native.Nat.{ℕ, zero, suc}
-use Rattle.std.specs.Prelude.{Bool, false, List, map, eqb, get_or}
+use Rattle.std.specs.Prelude.{Bool, false, List, map, eqb, get_or, Option, Some, None}
 use Rattle.std.proofs.Math.Bool.{cond}
-use Rattle.fields.specs.declared.Field.{Field}
-use Rattle.fields.specs.declared.Field.TheVariants.{Read, Cut}
 use Rattle.fields.specs.Field.{field_read}
 use Rattle.files.specs.Codes.{codes, shape_of}
 use Rattle.links.specs.Links.{link_at}
 use Rattle.machines.specs.Fetched.{Fetched, returns, calls, branches, saves, bad, plainly}
 use Rattle.machines.specs.Machine.{Program}
 use Rattle.machines.specs.Slots.{slot_at, slot_resolve}
+use Rattle.cells.specs.declared.BitPlace.{BitPlace}
 
 -- ---- lists' ends
-unfoldable pub is_end : Field → Bool
-is_end (Read v q) = eqb v 0
-is_end Cut = false
+unfoldable pub is_end : Option (ℕ × BitPlace) → Bool
+is_end (Some (v, q)) = eqb v 0
+is_end None = false
 
 -- where execution is at p: at a list's end where its link leads, and so on outwards, n times at most
 unfoldable pub settled : List ℕ → List ℕ → ℕ → ℕ → ℕ
@@ -36,9 +35,9 @@ transfer_as l v n q =
     (cond (eqb v 4) (saves n q l) bad)))
 
 -- on with a field's value and the place past it
-unfoldable pub with_read : (ℕ → ℕ → Fetched) → Field → Fetched
-with_read k (Read v q) = k v q.0
-with_read k Cut = bad
+unfoldable pub with_read : (ℕ → ℕ → Fetched) → Option (ℕ × BitPlace) → Fetched
+with_read k (Some (v, q)) = k v q.0
+with_read k None = bad
 
 module _ (s L table : List ℕ) (t : ℕ) where
   -- the instruction at p whose code v ends at q, by the code's shape; a conditional's kind is not known here

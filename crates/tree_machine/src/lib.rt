@@ -4,17 +4,15 @@
 ghost use Rattle.std.specs.Prelude.{◌≡◌, ◌*◌, ◌≤◌, length};
 ghost use Rattle.files.specs.Tree.{tree_read};
 ghost use Rattle.files.specs.Accepted.{tree_accepted};
-ghost use Rattle.files.specs.Room.{ZerosFor};
-ghost use Rattle.tree.specs.Tiers.{Fits, InTier};
+ghost use Rattle.files.specs.Room.{RoomFor, ZerosFor};
 ghost use Rattle.links.specs.TreeSteps.{FileReady, FileMarked};
 ghost use Rattle.machines.specs.Runs.{lent, ran, on_tree, tree_run};
-ghost use Rattle.machines.specs.Start.{MayStart};
 
 use cells::BitPlace;
+use files::Refusal;
 use lists::Keep;
-use machines::{Run, Start};
+use machines::Run;
 use owners::Owner;
-use tree::Judged;
 
 // The run of a file that is accepted, where the table is its table and has `count` templates, and the links are what reading kept of its lists.
 fn run_linked(
@@ -24,12 +22,12 @@ fn run_linked(
     links: &mut [u32],
     budget: u64,
     owner: Owner,
-    globals: &mut [u64],
-    stack: &mut [u64],
-    store: &mut [u64],
-    frames: &mut [u64],
+    globals: &mut [u64; 256],
+    stack: &mut [u64; 256],
+    store: &mut [u64; 2048],
+    frames: &mut [u64; 2048],
 ) -> Run
-    requires { MayStart 1000000 budget (lent globals stack store frames) × FileReady file.now table.now count × (256 * count ≤ length table.now)
+    requires { FileReady file.now table.now count × (256 * count ≤ length table.now)
         × (tree_accepted file.now ≡ tree_read file.now) × (8 * length file.now ≤ 5 * length links.old) × FileMarked file.now links.old }
     ensures { ran result (lent globals.exit stack.exit store.exit frames.exit)
         ≡ on_tree owner budget (lent globals.entry stack.entry store.entry frames.entry) (tree_accepted file.now) }
@@ -41,25 +39,25 @@ fn run_linked(
     )
 }
 
-// The run of a file where 20, 21, 31 and 22 are not given. The table is zeros; the links are for it to fill.
+// The run of a file. The table is zeros; the links are for it to fill.
 fn run_marked(
     file: &[u8],
     table: &mut [u64],
     links: &mut [u32],
     budget: u64,
     owner: Owner,
-    globals: &mut [u64],
-    stack: &mut [u64],
-    store: &mut [u64],
-    frames: &mut [u64],
+    globals: &mut [u64; 256],
+    stack: &mut [u64; 256],
+    store: &mut [u64; 2048],
+    frames: &mut [u64; 2048],
 ) -> Run
-    requires { MayStart 1000000 budget (lent globals stack store frames) × ZerosFor file.now table.old
+    requires { ZerosFor file.now table.old
         × (length file.now ≤ 65536 → 8 * length file.now ≤ 5 * length links.old) }
     ensures { ran result (lent globals.exit stack.exit store.exit frames.exit)
         ≡ on_tree owner budget (lent globals.entry stack.entry store.entry frames.entry) (tree_accepted file.now) }
 {
     match tree::read_accepted(file, table, Keep::Pasts, links) {
-        Judged::Accepted(sum) => run_linked(
+        Ok(sum) => run_linked(
             file,
             table,
             sum.count as usize,
@@ -71,124 +69,52 @@ fn run_marked(
             store,
             frames,
         ),
-        Judged::Refused(number, place) => machines::refused(number, place),
+        Err(Refusal(number, place)) => machines::refused(number, place),
     }
 }
 
-// The same with a table and links of its own, one link for each 5 bits, for a file of at most 4 templates and 512 bytes, ..
-fn run_small(
+// The same with a table of CELLS numbers and LINKS links of its own, one for each 5 bits, where they are enough. It is not inlined: tables of several
+// sizes would share one frame.
+#[inline(never)]
+fn run_sized<const CELLS: usize, const LINKS: usize>(
     file: &[u8],
     budget: u64,
     owner: Owner,
-    globals: &mut [u64],
-    stack: &mut [u64],
-    store: &mut [u64],
-    frames: &mut [u64],
+    globals: &mut [u64; 256],
+    stack: &mut [u64; 256],
+    store: &mut [u64; 2048],
+    frames: &mut [u64; 2048],
 ) -> Run
-    requires { MayStart 1000000 budget (lent globals stack store frames) × Fits file.now 1024 512 }
+    requires { (CELLS ≤ 16384) × (LINKS ≤ 104858)
+        × RoomFor file.now CELLS × (length file.now ≤ 65536 → 8 * length file.now ≤ 5 * LINKS) }
     ensures { ran result (lent globals.exit stack.exit store.exit frames.exit)
         ≡ on_tree owner budget (lent globals.entry stack.entry store.entry frames.entry) (tree_accepted file.now) }
 {
-    let mut table = [0u64; 1024];
-    let mut links = [0u32; 820];
+    let mut table = [0u64; CELLS];
+    let mut links = [0u32; LINKS];
     run_marked(
         file, &mut table, &mut links, budget, owner, globals, stack, store, frames,
     )
 }
 
-// .. of at most 16 templates and 4,096 bytes, ..
-fn run_middle(
-    file: &[u8],
-    budget: u64,
-    owner: Owner,
-    globals: &mut [u64],
-    stack: &mut [u64],
-    store: &mut [u64],
-    frames: &mut [u64],
-) -> Run
-    requires { MayStart 1000000 budget (lent globals stack store frames) × Fits file.now 4096 4096 }
-    ensures { ran result (lent globals.exit stack.exit store.exit frames.exit)
-        ≡ on_tree owner budget (lent globals.entry stack.entry store.entry frames.entry) (tree_accepted file.now) }
-{
-    let mut table = [0u64; 4096];
-    let mut links = [0u32; 6554];
-    run_marked(
-        file, &mut table, &mut links, budget, owner, globals, stack, store, frames,
-    )
-}
-
-// .. of as many templates as there may be and at most 4,096 bytes, ..
-fn run_many(
-    file: &[u8],
-    budget: u64,
-    owner: Owner,
-    globals: &mut [u64],
-    stack: &mut [u64],
-    store: &mut [u64],
-    frames: &mut [u64],
-) -> Run
-    requires { MayStart 1000000 budget (lent globals stack store frames) × (length file.now ≤ 4096) }
-    ensures { ran result (lent globals.exit stack.exit store.exit frames.exit)
-        ≡ on_tree owner budget (lent globals.entry stack.entry store.entry frames.entry) (tree_accepted file.now) }
-{
-    let mut table = [0u64; 16384];
-    let mut links = [0u32; 6554];
-    run_marked(
-        file, &mut table, &mut links, budget, owner, globals, stack, store, frames,
-    )
-}
-
-// .. for any file.
-fn run_large(
-    file: &[u8],
-    budget: u64,
-    owner: Owner,
-    globals: &mut [u64],
-    stack: &mut [u64],
-    store: &mut [u64],
-    frames: &mut [u64],
-) -> Run
-    requires { MayStart 1000000 budget (lent globals stack store frames) }
-    ensures { ran result (lent globals.exit stack.exit store.exit frames.exit)
-        ≡ on_tree owner budget (lent globals.entry stack.entry store.entry frames.entry) (tree_accepted file.now) }
-{
-    let mut table = [0u64; 16384];
-    let mut links = [0u32; 104858];
-    run_marked(
-        file, &mut table, &mut links, budget, owner, globals, stack, store, frames,
-    )
-}
-
-// The run for a file of a size, where 0 is the one it has. That it calls itself keeps the four tables out of one frame.
+// The run of a file, with tables for its size.
 fn run_tier(
     file: &[u8],
-    tier: usize,
     budget: u64,
     owner: Owner,
-    globals: &mut [u64],
-    stack: &mut [u64],
-    store: &mut [u64],
-    frames: &mut [u64],
+    globals: &mut [u64; 256],
+    stack: &mut [u64; 256],
+    store: &mut [u64; 2048],
+    frames: &mut [u64; 2048],
 ) -> Run
-    requires { MayStart 1000000 budget (lent globals stack store frames) × InTier file.now tier }
     ensures { ran result (lent globals.exit stack.exit store.exit frames.exit)
         ≡ on_tree owner budget (lent globals.entry stack.entry store.entry frames.entry) (tree_accepted file.now) }
 {
-    match tier {
-        0 => run_tier(
-            file,
-            tree::tier_of(file),
-            budget,
-            owner,
-            globals,
-            stack,
-            store,
-            frames,
-        ),
-        1 => run_small(file, budget, owner, globals, stack, store, frames),
-        2 => run_middle(file, budget, owner, globals, stack, store, frames),
-        3 => run_many(file, budget, owner, globals, stack, store, frames),
-        _ => run_large(file, budget, owner, globals, stack, store, frames),
+    match tree::tier_of(file) {
+        1 => run_sized::<1024, 820>(file, budget, owner, globals, stack, store, frames),
+        2 => run_sized::<4096, 6554>(file, budget, owner, globals, stack, store, frames),
+        3 => run_sized::<16384, 6554>(file, budget, owner, globals, stack, store, frames),
+        _ => run_sized::<16384, 104858>(file, budget, owner, globals, stack, store, frames),
     }
 }
 
@@ -205,10 +131,15 @@ pub fn run_tree(
         ≡ tree_run file.now budget owner (lent globals.entry stack.entry store.entry frames.entry) }
 {
     match machines::start_refusal(globals, stack, store, frames, budget, 1_000_000, owner) {
-        Start::Go => {
-            let whose = owners::owner_of(owner);
-            run_tier(file, 0, budget, whose, globals, stack, store, frames)
-        }
-        Start::Refused(number, place) => machines::refused(number, place),
+        Ok(whose) => run_tier(
+            file,
+            budget,
+            whose,
+            globals.as_mut_array().unwrap(),
+            stack.as_mut_array().unwrap(),
+            store.as_mut_array().unwrap(),
+            frames.as_mut_array().unwrap(),
+        ),
+        Err(Refusal(number, place)) => machines::refused(number, place),
     }
 }

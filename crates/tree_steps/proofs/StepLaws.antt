@@ -18,9 +18,9 @@ use Rattle.steps.specs.declared.Control.{Control}
 use Rattle.steps.specs.declared.OneStep.{OneStep}
 
 -- ---- of a tree
-pub short : (s table : List ℕ) (m : Memory) (r : Regs) (c : Control) → Of tree_form c.place → StepReady s table m r c → length s ≤ 65536
+pub short : (s table : List ℕ) (r : Regs) (c : Control) → Of tree_form c.place → StepReady s table r c → length s ≤ 65536
 unfolding CodeReady
-short s table m r c o w = rw o at w.code_ready
+short s table r c o w = rw o at w.code_ready
 
 pub starts : (form : Form) (table : List ℕ) → form ≡ tree_form → (t : ℕ) → start_at form table t ≡ slot_at table t 0
 unfolding start_at
@@ -37,16 +37,13 @@ steps_as own P r c F p m n i e same t =
 pub same_memory : {g s t f g₀ s₀ t₀ f₀ : List ℕ} → g ≡ g₀ → s ≡ s₀ → t ≡ t₀ → f ≡ f₀ → memory g s t f ≡ memory g₀ s₀ t₀ f₀
 same_memory a b c d = rw (a, b, c, d)
 
-pub ready_still : {s table : List ℕ} {m n : Memory} {r : Regs} {c : Control} → n ≡ m → StepReady s table m r c → StepReady s table n r c
-ready_still e w = rw e w
-
 -- k's place is p, which is kept by itself
 module _ (k : Control) (p : CodePlace) (e : k.place ≡ p) where
   apart : k ≡ control k.template p k.fr
   apart = ap (λ (q : CodePlace). control k.template q k.fr) e
 
-  pub ready_apart : (s table : List ℕ) (m : Memory) (q : Regs) → StepReady s table m q k → StepReady s table m q (control k.template p k.fr)
-  ready_apart s table m q w = subst (λ (c : Control). StepReady s table m q c) apart w
+  pub ready_apart : (s table : List ℕ) (q : Regs) → StepReady s table q k → StepReady s table q (control k.template p k.fr)
+  ready_apart s table q w = subst (λ (c : Control). StepReady s table q c) apart w
 
   pub turn_apart : {goal : Ran} (own : Owner) (P : Program) (left b : ℕ) (m : Memory) (q : Regs) → ran_from own P left b (state_of q k m) ≡ goal
       → ran_from own P left b (state_of q (control k.template p k.fr) m) ≡ goal

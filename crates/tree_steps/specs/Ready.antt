@@ -5,16 +5,15 @@ use Rattle.cells.specs.declared.BitPlace.{BitPlace}
 use Rattle.fields.specs.Field.{field_at}
 use Rattle.rules.specs.State.{regs}
 use Rattle.rules.specs.declared.Regs.{Regs}
-use Rattle.machines.specs.Runs.{Memory}
 use Rattle.machines.specs.Instruction.{tree_form, Of}
 use Rattle.machines.specs.declared.CodePlace.TheVariants.{Tree}
 use Rattle.steps.specs.Step.{control, StepReady}
 use Rattle.steps.specs.declared.Control.{Control}
 
 -- at p stands a code, and the 21 bits there are the line
-pub record LineReady (s table : List ℕ) (m : Memory) (r : Regs) (c : Control) (p line : ℕ) : Type 0 where
+pub record LineReady (s table : List ℕ) (r : Regs) (c : Control) (p line : ℕ) : Type 0 where
   pub in_tree : Of tree_form c.place
-  pub ready : StepReady s table m r c
+  pub ready : StepReady s table r c
   pub code_whole : p + 5 ≤ 8 * length s
   pub line_is : line ≡ field_at s p 21
   pub line_low : line < 0x200000

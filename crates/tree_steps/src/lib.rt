@@ -14,7 +14,7 @@ ghost use Rattle.tree_steps.specs.Ready.{LineReady, first_regs, beginning};
 use cells::BitPlace;
 use machines::{CodePlace, End, Instruction, Run};
 use owners::Owner;
-use rules::Regs;
+use rules::{Regs, Wrong};
 use steps::{Control, OneStep};
 
 // The bit number that a place of this machine is.
@@ -37,14 +37,14 @@ fn take_coded(
     at: BitPlace,
     line: u32,
     code: u32,
-    globals: &mut [u64],
-    stack: &mut [u64],
-    store: &mut [u64],
-    frames: &mut [u64],
+    globals: &mut [u64; 256],
+    stack: &mut [u64; 256],
+    store: &mut [u64; 2048],
+    frames: &mut [u64; 2048],
     r: Regs,
     c: Control,
 ) -> OneStep
-    requires { LineReady file.now table.now (lent globals stack store frames) r c at.0 line × (code ≡ line / 0x10000) }
+    requires { LineReady file.now table.now r c at.0 line × (code ≡ line / 0x10000) }
     ensures { Taken tree_form result (lent globals.entry stack.entry store.entry frames.entry)
         (lent globals.exit stack.exit store.exit frames.exit)
         (act owner (linked_program file.now links.now table.now)
@@ -60,7 +60,7 @@ fn take_coded(
         Instruction::Branch(first, second) => steps::act_branch(first, second, r, c),
         Instruction::Save(n, saved, rest) => steps::act_save(n, saved, rest, stack, frames, r, c),
         Instruction::Jump(to) => steps::act_jump(to, r, c),
-        Instruction::Bad => OneStep::Wrong(16),
+        Instruction::Bad => OneStep::Wrong(Wrong::BadCode),
     }
 }
 
@@ -72,14 +72,14 @@ fn take_above_20(
     table: &[u64],
     at: BitPlace,
     line: u32,
-    g: &mut [u64],
-    s: &mut [u64],
-    t: &mut [u64],
-    f: &mut [u64],
+    g: &mut [u64; 256],
+    s: &mut [u64; 256],
+    t: &mut [u64; 2048],
+    f: &mut [u64; 2048],
     r: Regs,
     c: Control,
 ) -> OneStep
-    requires { LineReady file.now table.now (lent g s t f) r c at.0 line × (21 ≤ line / 0x10000) }
+    requires { LineReady file.now table.now r c at.0 line × (21 ≤ line / 0x10000) }
     ensures { Taken tree_form result (lent g.entry s.entry t.entry f.entry)
         (lent g.exit s.exit t.exit f.exit)
         (act owner (linked_program file.now links.now table.now)
@@ -109,14 +109,14 @@ fn take_above_10(
     table: &[u64],
     at: BitPlace,
     line: u32,
-    g: &mut [u64],
-    s: &mut [u64],
-    t: &mut [u64],
-    f: &mut [u64],
+    g: &mut [u64; 256],
+    s: &mut [u64; 256],
+    t: &mut [u64; 2048],
+    f: &mut [u64; 2048],
     r: Regs,
     c: Control,
 ) -> OneStep
-    requires { LineReady file.now table.now (lent g s t f) r c at.0 line × (11 ≤ line / 0x10000) }
+    requires { LineReady file.now table.now r c at.0 line × (11 ≤ line / 0x10000) }
     ensures { Taken tree_form result (lent g.entry s.entry t.entry f.entry)
         (lent g.exit s.exit t.exit f.exit)
         (act owner (linked_program file.now links.now table.now)
@@ -146,14 +146,14 @@ fn take_line(
     table: &[u64],
     at: BitPlace,
     line: u32,
-    g: &mut [u64],
-    s: &mut [u64],
-    t: &mut [u64],
-    f: &mut [u64],
+    g: &mut [u64; 256],
+    s: &mut [u64; 256],
+    t: &mut [u64; 2048],
+    f: &mut [u64; 2048],
     r: Regs,
     c: Control,
 ) -> OneStep
-    requires { LineReady file.now table.now (lent g s t f) r c at.0 line }
+    requires { LineReady file.now table.now r c at.0 line }
     ensures { Taken tree_form result (lent g.entry s.entry t.entry f.entry)
         (lent g.exit s.exit t.exit f.exit)
         (act owner (linked_program file.now links.now table.now)
@@ -183,14 +183,14 @@ fn take_step(
     file: &[u8],
     links: &[u32],
     table: &[u64],
-    globals: &mut [u64],
-    stack: &mut [u64],
-    store: &mut [u64],
-    frames: &mut [u64],
+    globals: &mut [u64; 256],
+    stack: &mut [u64; 256],
+    store: &mut [u64; 2048],
+    frames: &mut [u64; 2048],
     r: Regs,
     c: Control,
 ) -> OneStep
-    requires { Of tree_form c.place × StepReady file.now table.now (lent globals stack store frames) r c }
+    requires { Of tree_form c.place × StepReady file.now table.now r c }
     ensures { Taken tree_form result (lent globals.entry stack.entry store.entry frames.entry)
         (lent globals.exit stack.exit store.exit frames.exit)
         (step owner (linked_program file.now links.now table.now)
@@ -211,12 +211,12 @@ fn take_step(
             );
         }
         if left == 0 {
-            return OneStep::Wrong(16);
+            return OneStep::Wrong(Wrong::BadCode);
         }
         here = links::link_at(links, here);
         left = left - 1;
     }
-    OneStep::Wrong(16)
+    OneStep::Wrong(Wrong::BadCode)
 }
 
 // At most `budget` steps from the beginning of template 0's code, `first`. Registers and place are kept one by one: as structs their padding would be copied at
@@ -228,12 +228,12 @@ fn run_from(
     first: BitPlace,
     budget: u64,
     owner: Owner,
-    globals: &mut [u64],
-    stack: &mut [u64],
-    store: &mut [u64],
-    frames: &mut [u64],
+    globals: &mut [u64; 256],
+    stack: &mut [u64; 256],
+    store: &mut [u64; 2048],
+    frames: &mut [u64; 2048],
 ) -> Run
-    requires { StepReady file.now table.now (lent globals stack store frames) first_regs (beginning first) }
+    requires { StepReady file.now table.now first_regs (beginning first) }
     ensures { ran result (lent globals.exit stack.exit store.exit frames.exit)
         ≡ ran_from owner (linked_program file.now links.now table.now) budget 0
         (state_of first_regs (beginning first) (lent globals.entry stack.entry store.entry frames.entry)) }
@@ -270,8 +270,8 @@ fn run_from(
             OneStep::Halted => {
                 return steps::ended(End::Halted(cells::value_of(r.v)), budget, rest, r, c);
             }
-            OneStep::Wrong(n) => {
-                return steps::ended(End::Wrong(n), budget, left, r, c);
+            OneStep::Wrong(wrong) => {
+                return steps::ended(End::Wrong(wrong.number()), budget, left, r, c);
             }
         }
         left = rest;
@@ -293,13 +293,12 @@ pub fn run_code(
     first: BitPlace,
     budget: u64,
     owner: Owner,
-    globals: &mut [u64],
-    stack: &mut [u64],
-    store: &mut [u64],
-    frames: &mut [u64],
+    globals: &mut [u64; 256],
+    stack: &mut [u64; 256],
+    store: &mut [u64; 2048],
+    frames: &mut [u64; 2048],
 ) -> Run
-    requires { (length file.now ≤ 65536) × (length globals.old ≡ 256) × (length stack.old ≡ 256) × (length store.old ≡ 2048)
-        × (length frames.old ≡ 2048) }
+    requires { length file.now ≤ 65536 }
     ensures { ran result (lent globals.exit stack.exit store.exit frames.exit)
         ≡ ran_from owner (linked_program file.now links.now table.now) budget 0
         (start_state globals.old first.0) }

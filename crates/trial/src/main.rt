@@ -5,7 +5,6 @@
 ghost use Rattle.std.specs.Prelude.{◌≤◌, length};
 ghost use Rattle.trial.specs.Input.{Within};
 
-use files::Outcome;
 use std::io;
 use std::io::{Read, Write};
 
@@ -38,7 +37,7 @@ fn main(rt: HostRuntime) -> io::Result<()> {
     let length = read_sheet(&mut input, &mut sheet)?;
     let mut out = [0u8; 256];
     let printed = lines::program(&sheet[..length], &mut out);
-    if let Outcome::Written(count) = printed {
+    if let Ok(count) = printed {
         if count <= 256 {
             let mut output = rt.stdout();
             output.write_all(&out[..count])?;

@@ -1,14 +1,14 @@
 -- Trimming a tree file into two lent outputs (document 02, request 5).
-use Rattle.std.specs.Prelude.{ℕ, cond, List, ◌++◌, length, take, drop, leb}
+use Rattle.std.specs.Prelude.{ℕ, cond, List, ◌++◌, length, take, drop, leb, Result, Ok, Err}
 use Rattle.cells.specs.Numbers.{short_output}
 use Rattle.files.specs.Reading.{Got, got, refused}
 use Rattle.files.specs.Entries.{then}
 use Rattle.files.specs.Accepted.{tree_checked}
 use Rattle.tree_file.specs.File.{tree_file}
-use Rattle.trim.specs.declared.Trimmed.{Trimmed}
-use Rattle.trim.specs.declared.Trimmed.TheVariants.{Written, Refused}
 use Rattle.trim.specs.Trim.{trimmed}
 use Rattle.trim.specs.Lines.{trim_list}
+use Rattle.files.specs.declared.Refusal.{Refusal}
+use Rattle.files.specs.Refusal.{refusal}
 
 -- what is written
 pub record Outputs : Type 0 where
@@ -31,9 +31,9 @@ unfolding into_both
 trimmed_into s m n = then (tree_checked s) (λ ts q. into_both m n (record { file = tree_file (trimmed ts); list = trim_list ts }) q)
 
 -- what trim answers: both lengths
-unfoldable pub answered : Got Outputs → Trimmed
-answered (got o q) = Written (length o.file) (length o.list)
-answered (refused n p) = Refused n p
+unfoldable pub answered : Got Outputs → Result (ℕ × ℕ) (Refusal ℕ)
+answered (got o q) = Ok (length o.file, length o.list)
+answered (refused n p) = Err (refusal n p)
 
 -- what an output holds that held old: what is written in its first bytes; on a refusal both are unchanged
 unfoldable pub file_left : List ℕ → Got Outputs → List ℕ

@@ -2,7 +2,7 @@
 // Both are first written into memory of the function's own, so that an output that is too short stays as it was.
 #![tactic(auto)]
 
-ghost use Rattle.std.specs.Prelude.{◌≡◌, Bool, cond, List, [], ◌++◌, ℕ, suc, ◌+◌, ◌*◌, ◌-◌, ◌/◌, ◌≤◌, ◌<◌, length, get_or, set, replicate, ltb};
+ghost use Rattle.std.specs.Prelude.{◌≡◌, Bool, cond, List, [], ◌++◌, ℕ, suc, ◌+◌, ◌*◌, ◌-◌, ◌≤◌, ◌<◌, length, get_or, replicate, ltb};
 ghost use Rattle.lists.specs.Sets.{has};
 ghost use Rattle.fields.specs.Field.{field_at};
 ghost use Rattle.files.specs.laws.AllGot.{Each};
@@ -22,15 +22,8 @@ ghost use Rattle.trim.specs.Standing.{mark_one, names_marked, RowOf};
 ghost use Rattle.trim.specs.Standing.{Leads, reached_from, marked_if, PutMore, kept_entries, kept_bits, mark_line, row_lines};
 
 use cells::BitPlace;
-use lists::{Keep, Listed};
-use tree::Judged;
-
-// What trimming answers: the lengths of the file and of the list, or a refusal's number and place.
-#[derive(Clone, Copy)]
-pub enum Trimmed {
-    Written(usize, usize),
-    Refused(u8, usize),
-}
+use files::Refusal;
+use lists::Keep;
 
 // A template's list: where it begins and ends, and which templates its closures name (bit t, from the lowest, for template t).
 #[derive(Clone, Copy)]
@@ -50,20 +43,20 @@ pub struct Places {
 
 // ---- what stays
 
-fn list_of(s: &[u8], table: &[u64], own: usize) -> Span
-    requires { (length s.now ≤ 65536) × (length table.now ≡ 16384) × (own < 64) }
+fn list_of(s: &[u8], table: &[u64; 16384], own: usize) -> Span
+    requires { (length s.now ≤ 65536) × (own < 64) }
     ensures { (here : ℕ) (w : TemplateIn s.now table.now own here) → result ≡ span_of w.template }
 {
     let slot = 256 * own;
     let start = BitPlace::from_slot(table[slot]);
     let mut none = [0u32; 1];
     match lists::read_list(s, table, own, start, 15, Keep::Pasts, &mut none) {
-        Listed::Done(past, facts) => Span {
+        Ok((past, facts)) => Span {
             start,
             past,
             closes: facts.closes,
         },
-        Listed::Refused(_, place) => Span {
+        Err(Refusal(_, place)) => Span {
             start,
             past: place,
             closes: 0,
@@ -72,9 +65,9 @@ fn list_of(s: &[u8], table: &[u64], own: usize) -> Span
 }
 
 // Template `own`, if it is in the set: it is marked, and the templates that its closures name come into the set.
-fn reach_from(s: &[u8], table: &[u64], own: usize, reach: u64, marks: &mut [u8]) -> u64
-    requires { (length s.now ≤ 65536) × (length table.now ≡ 16384) × (own < 64) × (length marks.old ≡ 64) }
-    ensures by_index { (here : ℕ) (w : TemplateIn s.now table.now own here) → result ≡ reached_from own w.template reach }
+fn reach_from(s: &[u8], table: &[u64; 16384], own: usize, reach: u64, marks: &mut [u8; 64]) -> u64
+    requires { (length s.now ≤ 65536) × (own < 64) }
+    ensures reach_after { (here : ℕ) (w : TemplateIn s.now table.now own here) → result ≡ reached_from own w.template reach }
     ensures marks_after { marks.new ≡ marked_if (has reach own) own marks.old }
 {
     if (reach >> own) % 2 != 1 {
@@ -86,30 +79,14 @@ fn reach_from(s: &[u8], table: &[u64], own: usize, reach: u64, marks: &mut [u8])
 }
 
 // Marks the templates that closures lead to from template 0 on. Names go upward, so one pass finds them.
-fn mark_reached(s: &[u8], table: &[u64], count: usize, marks: &mut [u8])
-    requires { (length s.now ≤ 65536) × (length table.now ≡ 16384) × (count ≤ 64) × (marks.old ≡ replicate 64 0) }
-    ensures marks { (w : FileIn s.now table.now count) → Marks (reached w.templates) count marks.new }
-    ensures marks_len { length marks.new ≡ 64 }
+fn mark_reached(s: &[u8], table: &[u64; 16384], count: usize, marks: &mut [u8; 64])
+    requires { (length s.now ≤ 65536) × (count ≤ 64) × (marks.old ≡ replicate 64 0) }
+    ensures { (w : FileIn s.now table.now count) → Marks (reached w.templates) count marks.new }
 {
     let mut reach: u64 = 1;
-    let mut own: usize = 0;
-    while own < count {
+    for own in 0..count {
         reach = reach_from(s, table, own, reach, marks);
-        own += 1;
     }
-}
-
-// One mark, numbered if it is set, where `count` were so far; how many are then.
-fn number_one(marks: &mut [u8], i: usize, count: u8) -> u8
-    requires { (i < length marks.old) × (count + cond (is_marked marks.old i) 1 0 ≤ 255) }
-    ensures value { result ≡ count + cond (is_marked marks.old i) 1 0 }
-    ensures marks_after { marks.new ≡ cond (is_marked marks.old i) (set marks.old i (count + 1)) marks.old }
-{
-    if marks[i] < 1 {
-        return count;
-    }
-    marks[i] = count + 1;
-    count + 1
 }
 
 // Numbers the marked of the first n from 1 on; how many there are.
@@ -117,18 +94,19 @@ fn number(marks: &mut [u8], n: usize) -> u8
     requires { (n ≤ length marks.old) × (rank (is_marked marks.old) 0 n ≤ 255) }
     ensures { (result ≡ rank (is_marked marks.old) 0 n) × Numbered n marks.old marks.new }
 {
-    let mut i: usize = 0;
     let mut count: u8 = 0;
-    while i < n {
-        count = number_one(marks, i, count);
-        i += 1;
+    for mark in &mut marks[..n] {
+        if 0 < *mark {
+            count += 1;
+            *mark = count;
+        }
     }
     count
 }
 
 // The entry that a code at a place names, if it names one.
-fn mark_code(s: &[u8], here: BitPlace, code: u32, row: &mut [u8])
-    requires { (length s.now ≤ 262144) × (length row.old ≡ 256) × (6 ≤ code → code ≤ 9 → here.0 + 13 ≤ 8 * length s.now) }
+fn mark_code(s: &[u8], here: BitPlace, code: u32, row: &mut [u8; 256])
+    requires { (length s.now ≤ 262144) × (6 ≤ code → code ≤ 9 → here.0 + 13 ≤ 8 * length s.now) }
     ensures { row.new ≡ mark_one code (field_at s.now (here.0 + 5) 8) row.old }
 {
     if code < 6 {
@@ -141,8 +119,8 @@ fn mark_code(s: &[u8], here: BitPlace, code: u32, row: &mut [u8])
 }
 
 // The entries that n bits of code name.
-fn mark_names(s: &[u8], from: BitPlace, n: usize, row: &mut [u8])
-    requires { (length s.now ≤ 262144) × (length row.old ≡ 256) × TokensAt s.now from.0 n }
+fn mark_names(s: &[u8], from: BitPlace, n: usize, row: &mut [u8; 256])
+    requires { (length s.now ≤ 262144) × TokensAt s.now from.0 n }
     ensures { (w : TokensAt s.now from.0 n) → row.new ≡ names_marked w.all row.old }
 {
     let mut here = from;
@@ -159,20 +137,18 @@ fn mark_names(s: &[u8], from: BitPlace, n: usize, row: &mut [u8])
 // The new indices of a template's entries; how many stay.
 fn number_names(
     s: &[u8],
-    table: &[u64],
+    table: &[u64; 16384],
     own: usize,
     here: BitPlace,
     list: Span,
     entries: usize,
-    row: &mut [u8],
+    row: &mut [u8; 256],
 ) -> u8
     requires { (length s.now ≤ 65536) × (row.old ≡ replicate 256 0) × ListIn s.now table.now own here.0 list entries }
     ensures { (w : ListIn s.now table.now own here.0 list entries)
         → RowOf w.at.template.code entries row.new × (result ≡ rank (λ j. names (suc j) w.at.template.code) 0 entries) }
 {
-    let start = list.start;
-    let past = list.past;
-    mark_names(s, start, past.since(start), row);
+    mark_names(s, list.start, list.past.since(list.start), row);
     number(row, entries + 1)
 }
 
@@ -197,15 +173,11 @@ fn entry_size(s: &[u8], here: BitPlace) -> usize
 }
 
 // The new number of a template that stays.
-fn new_number(numbers: &[u8], u: usize) -> u8
-    requires { u < length numbers.now }
+fn new_number(numbers: &[u8; 64], u: usize) -> u8
+    requires { u < 64 }
     ensures { result ≡ get_or numbers.now u 0 - 1 }
 {
-    let mark = numbers[u];
-    if mark == 0 {
-        return 0;
-    }
-    mark - 1
+    numbers[u].saturating_sub(1)
 }
 
 // The entry at a place, with the new number of the template that it names.
@@ -213,13 +185,14 @@ fn put_entry(
     s: &[u8],
     here: BitPlace,
     size: usize,
-    numbers: &[u8],
-    out: &mut [u8],
+    numbers: &[u8; 64],
+    out: &mut [u8; 65536],
     at: BitPlace,
 ) -> BitPlace
-    requires s_len_bound { (length s.now ≤ 65536) × (length numbers.now ≡ 64) × (length out.old ≡ 65536) × (at.0 + size ≤ 8 * length out.old) }
+    requires size { length s.now ≤ 65536 }
+    requires room { at.0 + size ≤ 8 * length out.old }
     requires entry_in { EntryIn s.now here.0 size }
-    ensures result_value { result.0 ≡ at.0 + size }
+    ensures place_after { result.0 ≡ at.0 + size }
     ensures out_after { (w : EntryIn s.now here.0 size) → out.new ≡ put_bits out.old at.0
         (entry_bits (renumber (λ u. get_or numbers.now u 0 - 1) w.entry)) }
 {
@@ -236,13 +209,14 @@ fn put_marked(
     here: BitPlace,
     size: usize,
     mark: u8,
-    numbers: &[u8],
-    out: &mut [u8],
+    numbers: &[u8; 64],
+    out: &mut [u8; 65536],
     at: BitPlace,
 ) -> BitPlace
-    requires s_len_bound { (length s.now ≤ 65536) × (length numbers.now ≡ 64) × (length out.old ≡ 65536) × (at.0 + size ≤ 524288) }
+    requires size { length s.now ≤ 65536 }
+    requires room { at.0 + size ≤ 524288 }
     requires entry_in { EntryIn s.now here.0 size }
-    ensures result_bound { result.0 ≤ at.0 + size }
+    ensures short { result.0 ≤ at.0 + size }
     ensures put_more { (w : EntryIn s.now here.0 size) → PutMore out.old at.0 out.new result.0
         (cond (ltb 0 mark) (entry_bits (renumber (λ u. get_or numbers.now u 0 - 1) w.entry)) []) }
 {
@@ -257,24 +231,22 @@ fn put_entries(
     s: &[u8],
     from: BitPlace,
     count: usize,
-    numbers: &[u8],
-    row: &[u8],
-    out: &mut [u8],
+    numbers: &[u8; 64],
+    row: &[u8; 256],
+    out: &mut [u8; 65536],
     at: BitPlace,
 ) -> BitPlace
-    requires s_len_bound { (length s.now ≤ 65536) × (length numbers.now ≡ 64) × (length row.now ≡ 256) × (length out.old ≡ 65536) × (count ≤ 255) }
+    requires sizes { (length s.now ≤ 65536) × (count ≤ 255) }
     requires entries_in { EntriesIn s.now from.0 count at.0 }
     ensures { (w : EntriesIn s.now from.0 count at.0) → (result.0 ≤ at.0 + length (entries_bits w.entries))
         × PutMore out.old at.0 out.new result.0 (entries_bits (kept_entries numbers.now row.now w.entries)) }
 {
-    let mut n: usize = 1;
     let mut here = from;
     let mut there = at;
-    while n <= count {
+    for mark in &row[1..=count] {
         let size = entry_size(s, here);
-        there = put_marked(s, here, size, row[n], numbers, out, there);
+        there = put_marked(s, here, size, *mark, numbers, out, there);
         here = here.past(size);
-        n += 1;
     }
     there
 }
@@ -282,18 +254,19 @@ fn put_entries(
 // A template that stays: how many entries it has left, these entries, its list with the new indices.
 fn put_template(
     s: &[u8],
-    table: &[u64],
+    table: &[u64; 16384],
     own: usize,
     here: BitPlace,
     list: Span,
     entries: usize,
     left: u8,
-    numbers: &[u8],
-    row: &[u8],
-    out: &mut [u8],
+    numbers: &[u8; 64],
+    row: &[u8; 256],
+    out: &mut [u8; 65536],
     at: BitPlace,
 ) -> BitPlace
-    requires s_len_bound { (length s.now ≤ 65536) × (length numbers.now ≡ 64) × (length row.now ≡ 256) × (length out.old ≡ 65536) × (at.0 ≤ here.0) }
+    requires size { length s.now ≤ 65536 }
+    requires at_behind { at.0 ≤ here.0 }
     requires list_in { ListIn s.now table.now own here.0 list entries }
     ensures { (w : ListIn s.now table.now own here.0 list entries)
         → RowOf w.at.template.code entries row.now
@@ -301,11 +274,9 @@ fn put_template(
         → (result.0 ≤ at.0 + length (template_bits w.at.template)) × PutMore out.old at.0 out.new result.0
         (template_bits (trim_template (λ u. get_or numbers.now u 0 - 1) w.at.template)) }
 {
-    let start = list.start;
-    let past = list.past;
     let second = bit_writer::put_field(out, at, 8, left as u32);
     let third = put_entries(s, here.past(8), entries, numbers, row, out, second);
-    rewrite::rewrite(s, start, past.since(start), row, out, third)
+    rewrite::rewrite(s, list.start, list.past.since(list.start), row, out, third)
 }
 
 // ---- the list
@@ -314,7 +285,7 @@ fn put_template(
 fn put_line(out: &mut [u8], at: usize, t: usize, e: usize, mark: u8, less: u8) -> usize
     requires { (at + 64 ≤ length out.old) × (t < 64) × (e < 256) × (less ≤ 1) }
     ensures put { Put out.old at out.new result (mark_line t e mark less) }
-    ensures upper_bound { result ≤ at + 12 }
+    ensures short { result ≤ at + 12 }
 {
     let second = text::put_number(out, at, t as u64, b' ');
     let third = text::put_number(out, second, e as u64, b' ');
@@ -325,16 +296,21 @@ fn put_line(out: &mut [u8], at: usize, t: usize, e: usize, mark: u8, less: u8) -
 }
 
 // The lines of a template and of its entries.
-fn put_lines(out: &mut [u8], at: usize, own: usize, entries: usize, mark: u8, row: &[u8]) -> usize
-    requires { (at + 4096 ≤ length out.old) × (own < 64) × (entries ≤ 255) × (length row.now ≡ 256) }
+fn put_lines(
+    out: &mut [u8],
+    at: usize,
+    own: usize,
+    entries: usize,
+    mark: u8,
+    row: &[u8; 256],
+) -> usize
+    requires { (at + 4096 ≤ length out.old) × (own < 64) × (entries ≤ 255) }
     ensures put { Put out.old at out.new result (mark_line own 0 mark 1 ++ row_lines own row.now 1 entries) }
-    ensures upper_bound { result ≤ at + 3072 }
+    ensures short { result ≤ at + 3072 }
 {
     let mut there = put_line(out, at, own, 0, mark, 1);
-    let mut n: usize = 1;
-    while n <= entries {
+    for n in 1..=entries {
         there = put_line(out, there, own, n, row[n], 0);
-        n += 1;
     }
     there
 }
@@ -344,34 +320,33 @@ fn put_lines(out: &mut [u8], at: usize, own: usize, entries: usize, mark: u8, ro
 // A template into the file, if it stays, and into the list.
 fn trim_template(
     s: &[u8],
-    table: &[u64],
+    table: &[u64; 16384],
     own: usize,
     here: BitPlace,
-    numbers: &[u8],
-    file: &mut [u8],
+    numbers: &[u8; 64],
+    file: &mut [u8; 65536],
     at: BitPlace,
-    lines: &mut [u8],
+    lines: &mut [u8; 262144],
     to: usize,
 ) -> Places
-    requires s_len_bound { (length s.now ≤ 65536) × (length table.now ≡ 16384) × (length numbers.now ≡ 64) × (own < 64) }
-    requires file_len { (length file.old ≡ 65536) × (length lines.old ≡ 262144) × (at.0 ≤ here.0) × (to ≤ 3072 * own) }
+    requires sizes { (length s.now ≤ 65536) × (own < 64) }
+    requires written_so_far { (at.0 ≤ here.0) × (to ≤ 3072 * own) }
     requires template_in { TemplateIn s.now table.now own here.0 }
-    ensures list_bound { (result.list ≤ to + 3072) × (result.file.0 ≤ result.next.0) }
-    ensures next_value { (w : TemplateIn s.now table.now own here.0) → result.next.0 ≡ here.0 + length (template_bits w.template) }
+    ensures written { (result.list ≤ to + 3072) × (result.file.0 ≤ result.next.0) }
+    ensures next_is { (w : TemplateIn s.now table.now own here.0) → result.next.0 ≡ here.0 + length (template_bits w.template) }
     ensures put { (w : TemplateIn s.now table.now own here.0) (keep : ℕ → Bool) → Numbers keep w.total numbers.now
         → Leads keep own w.template → Put lines.old to lines.new result.list (template_lines keep own w.template)
         × PutMore file.old at.0 file.new result.file.0 (kept_bits keep own w.template) }
 {
     let entries = fields::bits_at(s, here, 8) as usize;
     let list = list_of(s, table, own);
-    let next = list.past;
     let mark = numbers[own];
     let mut row = [0u8; 256];
     if mark == 0 {
         return Places {
             file: at,
             list: put_lines(lines, to, own, entries, mark, &row),
-            next,
+            next: list.past,
         };
     }
     let left = number_names(s, table, own, here, list, entries, &mut row);
@@ -380,38 +355,36 @@ fn trim_template(
             s, table, own, here, list, entries, left, numbers, &row, file, at,
         ),
         list: put_lines(lines, to, own, entries, mark, &row),
-        next,
+        next: list.past,
     }
 }
 
 // All templates: T, those that stay, and the lines of all.
 fn trim_templates(
     s: &[u8],
-    table: &[u64],
+    table: &[u64; 16384],
     count: usize,
     left: u8,
-    numbers: &[u8],
-    file: &mut [u8],
-    lines: &mut [u8],
+    numbers: &[u8; 64],
+    file: &mut [u8; 65536],
+    lines: &mut [u8; 262144],
 ) -> Places
-    requires s_len_bound { (length s.now ≤ 65536) × (length table.now ≡ 16384) × (length numbers.now ≡ 64) × (count ≤ 64) }
-    requires file_len { (length file.old ≡ 65536) × (length lines.old ≡ 262144) × FileIn s.now table.now count }
+    requires sizes { (length s.now ≤ 65536) × (count ≤ 64) }
+    requires file_in { FileIn s.now table.now count }
     ensures { (w : FileIn s.now table.now count) (keep : ℕ → Bool) → Numbers keep count numbers.now
         → Each (Leads keep) 0 w.templates → left ≡ rank keep 0 count
         → Put lines.old 0 lines.new result.list (lines_from keep 0 w.templates)
         × Wrote file.old file.new (file_bits (trim keep w.templates)) result.file.0
         × (result.list ≤ 196608) × (result.file.0 ≤ 524288) }
 {
-    let mut own: usize = 0;
     let mut here = BitPlace(8);
     let mut at = bit_writer::put_field(file, BitPlace(0), 8, left as u32);
     let mut to: usize = 0;
-    while own < count {
+    for own in 0..count {
         let places = trim_template(s, table, own, here, numbers, file, at, lines, to);
         here = places.next;
         at = places.file;
         to = places.list;
-        own += 1;
     }
     Places {
         file: at,
@@ -428,7 +401,7 @@ fn put_both(
     bytes: usize,
     out: &mut [u8],
     list: &mut [u8],
-) -> Trimmed
+) -> Result<(usize, usize), Refusal<usize>>
     requires { (size ≤ length file.now) × (bytes ≤ length lines.now) }
     ensures value { result ≡ answered (both_into (length out.old) (length list.old) file.now size lines.now bytes) }
     ensures out_after { out.new ≡ file_left out.old
@@ -437,29 +410,29 @@ fn put_both(
         (both_into (length out.old) (length list.old) file.now size lines.now bytes) }
 {
     if out.len() < size {
-        return Trimmed::Refused(9, size);
+        return Err(Refusal(9, size));
     }
     if list.len() < bytes {
-        return Trimmed::Refused(9, bytes);
+        return Err(Refusal(9, bytes));
     }
     text::put_bytes(out, 0, &file[..size]);
     text::put_bytes(list, 0, &lines[..bytes]);
-    Trimmed::Written(size, bytes)
+    Ok((size, bytes))
 }
 
 // A file that was read, with the memory that both are written into.
 fn trim_into(
     s: &[u8],
-    table: &[u64],
+    table: &[u64; 16384],
     count: u8,
-    numbers: &mut [u8],
-    file: &mut [u8],
-    lines: &mut [u8],
+    numbers: &mut [u8; 64],
+    file: &mut [u8; 65536],
+    lines: &mut [u8; 262144],
     out: &mut [u8],
     list: &mut [u8],
-) -> Trimmed
-    requires table_len { (length table.now ≡ 16384) × FileIn s.now table.now count }
-    requires numbers_value { (numbers.old ≡ replicate 64 0) × (length file.old ≡ 65536) × (length lines.old ≡ 262144) }
+) -> Result<(usize, usize), Refusal<usize>>
+    requires file_in { FileIn s.now table.now count }
+    requires numbers_zero { numbers.old ≡ replicate 64 0 }
     ensures value { result ≡ answered (trimmed_into s.now (length out.old) (length list.old)) }
     ensures out_after { out.new ≡ file_left out.old (trimmed_into s.now (length out.old) (length list.old)) }
     ensures list_after { list.new ≡ list_left list.old (trimmed_into s.now (length out.old) (length list.old)) }
@@ -467,13 +440,12 @@ fn trim_into(
     mark_reached(s, table, count as usize, numbers);
     let left = number(numbers, count as usize);
     let places = trim_templates(s, table, count as usize, left, numbers, file, lines);
-    let end = places.file;
-    let size = end.past(end.to_byte()).byte();
+    let size = places.file.past(places.file.to_byte()).byte();
     put_both(file, size, lines, places.list, out, list)
 }
 
-// Trims a tree file: the trimmed file into one output, the list of what became of each template and entry into the other.
-pub fn trim(file: &[u8], out: &mut [u8], list: &mut [u8]) -> Trimmed
+// Trims a tree file: the trimmed file into one output, the list of what became of each template and entry into the other. It answers their lengths.
+pub fn trim(file: &[u8], out: &mut [u8], list: &mut [u8]) -> Result<(usize, usize), Refusal<usize>>
     ensures value { result ≡ answered (trimmed_into file.now (length out.old) (length list.old)) }
     ensures out_after { out.new ≡ file_left out.old
         (trimmed_into file.now (length out.old) (length list.old)) }
@@ -482,22 +454,18 @@ pub fn trim(file: &[u8], out: &mut [u8], list: &mut [u8]) -> Trimmed
 {
     let mut table = [0u64; 16384];
     let mut none = [0u32; 1];
-    match tree::read_checked(file, &mut table, Keep::Pasts, &mut none) {
-        Judged::Accepted(sum) => {
-            let mut numbers = [0u8; 64];
-            let mut whole = [0u8; 65536];
-            let mut lines = [0u8; 262144];
-            trim_into(
-                file,
-                &table,
-                sum.count,
-                &mut numbers,
-                &mut whole,
-                &mut lines,
-                out,
-                list,
-            )
-        }
-        Judged::Refused(no, place) => Trimmed::Refused(no, place),
-    }
+    let sum = tree::read_checked(file, &mut table, Keep::Pasts, &mut none)?;
+    let mut numbers = [0u8; 64];
+    let mut whole = [0u8; 65536];
+    let mut lines = [0u8; 262144];
+    trim_into(
+        file,
+        &table,
+        sum.count,
+        &mut numbers,
+        &mut whole,
+        &mut lines,
+        out,
+        list,
+    )
 }

@@ -1,7 +1,7 @@
 -- 16 is a matter of linear code alone (document 01, 'Rules'): no sheet ends so. For every tree file, budget, owner and memory no run of the tree machine
 -- ends wrong 16, nor does one with request 4's check left aside; for every file that the flattener writes, or wrote before that check, no run of
 -- the linear machine does. Assumes nothing.
-use Rattle.std.specs.Prelude.{ℕ, ◌*◌, ◌≡◌, refl, Bool, true, false, cond, List, leb, length}
+use Rattle.std.specs.Prelude.{ℕ, ◌≡◌, refl, Bool, true, false, cond, List, leb}
 use Rattle.std.proofs.Common.{arith, ◌∙◌}
 use Rattle.std.proofs.Math.Option.{Option, none, some}
 use Rattle.files.specs.Reading.{Got, got, refused}

@@ -1,16 +1,13 @@
 -- The tree program and the linear program of one file agree at places that correspond. Assumes nothing.
 use Prim.Native.Nat.{ℕ, suc, ◌+◌, ◌*◌, ◌/◌, ◌%◌, ◌≤◌, ◌<◌, ◌^◌}
-use Rattle.std.proofs.Common.{arith, ◌∙◌, le→leb}
+use Rattle.std.proofs.Common.{arith, ◌∙◌}
 use Rattle.std.proofs.Math.Nat.{div-add-mod}
-use Rattle.std.specs.Prelude.{◌≡◌, Bool, get_or, drop, leb}
+use Rattle.std.specs.Prelude.{◌≡◌, Bool, get_or, drop}
 use Rattle.std.proofs.Math.Path.{refl, sym, subst}
 use Rattle.std.proofs.Math.Bool.{true, false, and-eq-true_iff}
-use mathlib.Core.List.{List, [], ◌∷◌, ◌++◌, append_assoc, append-nil}
+use mathlib.Core.List.{List, [], ◌∷◌, ◌++◌, append-nil}
 use Rattle.std.proofs.Math.Option.{Option}
 use Rattle.std.proofs.Math.ListN.{length, length-append}
-use Rattle.std.proofs.Math.Seq.{take-append_seam}
-use Rattle.files.specs.Codes.{shape_of, is_neutral, operands}
-use Rattle.files.specs.laws.CodesLaws.{neutral_alike}
 use Rattle.files.specs.Code.{Code, done, neutral, return, call, unless_false, make_cont, bits}
 use Rattle.files.specs.Entries.{Entry}
 use Rattle.files.specs.laws.ReadingLaws.{least_bits}
@@ -20,12 +17,12 @@ use Rattle.files.specs.Tree.{Template}
 use Rattle.files.specs.Linear.{Linear}
 use Rattle.rules.specs.declared.Plain.{Plain}
 use Rattle.owners.specs.declared.Owner.{Owner}
-use Rattle.machines.specs.Fetched.{Fetched, returns, calls, branches, saves, jumps, plainly, resolve, open_count, first}
+use Rattle.machines.specs.Fetched.{Fetched, branches, plainly, open_count, first}
 use Rattle.machines.specs.Fetched.{decode, no_template, no_linear, tree_at, linear_at}
 use Rattle.machines.specs.Machine.{tree_program, linear_program}
 use Rattle.machines.specs.laws.Resolved.{Resolves, resolves, fits_resolves}
 use Rattle.lockstep.specs.laws.Lockstep.{Match, plain_m, return_m, call_m, branch_m, save_m, Meets, now_m, jump_m, Agree}
-use Rattle.agree.specs.laws.Suits.{is_true, Only, Shut, Open, either, Ok}
+use Rattle.agree.specs.laws.Suits.{Only, Shut, Open, either, Ok}
 use Rattle.agree.specs.laws.Layout.{At, at_skip, at_take, at_within, Sub, sub_neutral, sub_first, sub_second, sub_rest, sub_saved, sub_next, Spot, here}
 use Rattle.agree.specs.laws.Layout.{leap, Close, nothing_after, flows, stands}
 use Rattle.agree.specs.laws.Decoded as decoded

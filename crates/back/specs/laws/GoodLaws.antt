@@ -1,5 +1,5 @@
 -- A list is good where it is formed and valid, its levels are there and its offsets fit; and its flat code is bytes. Assumes nothing.
-use Rattle.std.specs.Prelude.{ℕ, zero, suc, ◌+◌, ◌≤◌, ◌<◌, ◌≡◌, refl, Bool, true, false, ◌&&◌, List, [], ◌∷◌, ◌++◌, length, leb}
+use Rattle.std.specs.Prelude.{ℕ, zero, suc, ◌+◌, ◌≤◌, ◌≡◌, refl, Bool, true, false, ◌&&◌, List, length, leb}
 use Rattle.std.proofs.Common.{arith, leb-true, le-leb}
 use Rattle.files.specs.Code.{Code, done, neutral, return, call, unless_false, make_cont}
 use Rattle.files.specs.Grammar.{is_empty, is_closed}

@@ -1,24 +1,30 @@
--- `basic::read_plain` meets its contract: by its shape. Assumes nothing.
+-- `basic::read_plain` meets its contract: by how many operand bytes it has. Assumes nothing.
 use native.Mathlib.Omega.{arith}
-use Rattle.files.specs.laws.EntriesSteps.{field_cut, field_read_lem}
+use Rattle.files.specs.laws.EntriesSteps.{told_field, told_cut}
+use Rattle.basic.specs.laws.StepLaws.{turned_on}
 use Rattle.basic.specs.laws.TokenLaws.{no_operands, one_operand, two_operands, first_cut, second_cut}
 use Rattle.basic.proofs.read_plain.Goals as goal
 
-pub returns-then-shape-eq1 : goal.returns-then-shape-eq1
-returns-then-shape-eq1 c = λ l p. no_operands _ l p _ _ _ c.if-shape-eq1.true c.plain_token.ensures
+pub returns-then-operands-eq0 : goal.returns-then-operands-eq0
+returns-then-operands-eq0 c = λ l p. no_operands _ l p _ _ _ (omega (arith, c.if-operands-eq0.true)) c.plain_token.ensures
 
-pub returns-in_default : goal.returns-in_default
-returns-in_default c = λ l p. first_cut _ l p _ _ _ (omega arith) (omega arith) (field_cut _ _ 8 c.read_field.ensures c.in_default.is)
+pub returns-in_err-second : goal.returns-in_err-second
+returns-in_err-second c =
+    λ l p. turned_on c.from_residual.ensures
+    (first_cut _ l p _ _ _ (omega arith) (omega arith) (told_cut _ _ 8 c.read_field.ensures c.in_err-second.was))
 
-pub returns-then-shape-eq2 : goal.returns-then-shape-eq2
-returns-then-shape-eq2 c = λ l p. one_operand _ l p _ _ _ _ (field_read_lem _ _ 8 c.read_field.ensures c.in-Read.is) _ c.if-shape-eq2.true c.plain_token-then-shape-eq2.ensures
+pub returns-then-operands-eq1 : goal.returns-then-operands-eq1
+returns-then-operands-eq1 c =
+    λ l p. one_operand _ l p _ _ _ _ (told_field _ _ 8 c.read_field.ensures c.in_ok-second.was) _ (omega (arith, c.if-operands-eq1.true))
+    c.plain_token-then-operands-eq1.ensures
 
-pub returns-in_default-read_field : goal.returns-in_default-read_field
-returns-in_default-read_field c =
-    λ l p. second_cut _ l p _ _ _ _ _ (omega arith) (field_read_lem _ _ 8 c.read_field.ensures c.in-Read.is)
-    (field_cut _ _ 8 c.read_field-2.ensures c.in_default-read_field.is)
+pub returns-in_err-last : goal.returns-in_err-last
+returns-in_err-last c =
+    λ l p. turned_on c.from_residual-in_err-last.ensures
+    (second_cut _ l p _ _ _ _ _ (omega arith) (told_field _ _ 8 c.read_field.ensures c.in_ok-second.was)
+    (told_cut _ _ 8 c.read_field-2.ensures c.in_err-last.was))
 
 pub returns : goal.returns
 returns c =
-    λ l p. two_operands _ l p _ _ _ _ (field_read_lem _ _ 8 c.read_field.ensures c.in-Read.is) _ _ _ (omega arith)
-    (field_read_lem _ _ 8 c.read_field-2.ensures c.in-Read-read_field.is) c.plain_token-2.ensures
+    λ l p. two_operands _ l p _ _ _ _ (told_field _ _ 8 c.read_field.ensures c.in_ok-second.was) _ _ _ (omega arith)
+    (told_field _ _ 8 c.read_field-2.ensures c.in_ok-last.was) c.plain_token-2.ensures

@@ -2,7 +2,7 @@
 use Prim.Native.Nat.{ℕ, zero, suc, ◌+◌, ◌*◌, ◌-◌, ◌≤◌, ◌<◌}
 use Rattle.std.proofs.Math.Nat.{add_assoc, add-zero}
 use native.Mathlib.Omega.{arith}
-use Rattle.std.specs.Prelude.{◌≡◌, Bool, cond, ◌||◌, length, get_or, drop, ltb}
+use Rattle.std.specs.Prelude.{◌≡◌, Bool, cond, ◌||◌, length, get_or, drop}
 use Rattle.std.proofs.Math.Path.{refl, sym}
 use Rattle.std.proofs.Common.{ap, ◌∙◌, ne_eqb, length-append}
 use Rattle.std.proofs.Math.Bool.{true, false}
@@ -12,13 +12,13 @@ use Rattle.std.proofs.Math.Dec.{eqb}
 use Rattle.fields.specs.Field.{field_at}
 use Rattle.cells.specs.laws.Laws.{clash}
 use Rattle.files.specs.Codes.{shapes, shape_of}
-use Rattle.files.specs.Code.{Code, Instr, neutral_i, return_i, call_i, simple, put, bits}
+use Rattle.files.specs.Code.{Code, neutral_i, return_i, call_i, simple, put, bits}
 use Rattle.files.specs.Reading.{Got, got, refused}
-use Rattle.files.specs.Entries.{Entry, global, template, then, field, valid, constant_at}
+use Rattle.files.specs.Entries.{Entry, template, then, field, valid, constant_at}
 use Rattle.files.specs.Linear.{bits_of}
 use Rattle.files.specs.Tree.{Template}
 use Rattle.files.specs.laws.EntriesLaws.{then_field}
-use Rattle.files.specs.laws.AllGot.{AllGot, got_value, then_led, then_all, cond_all, valid_all}
+use Rattle.files.specs.laws.AllGot.{got_value, then_led}
 use Rattle.readback.specs.Bits.{Stands}
 use Rattle.readback.specs.Lists.{bits_from}
 use Rattle.readback.specs.laws.Bits.{length_bits}
@@ -27,8 +27,8 @@ use Rattle.readback.specs.laws.Standing.{stands_field, field_then, none_stands}
 use Rattle.tree_file.specs.File.{operands_bits, list_bits, instr_bits}
 use Rattle.tree_file.specs.laws.Lengths.{operands_length, list_put, list_length}
 use Rattle.tree_file.proofs.theorems.Standing.{code_end}
-use Rattle.basic.specs.Basic.{Basic, ended, plain, carries, closure, branch, save, Token, ended_t, plain_t, carries_t, closure_t, branch_t, save_t}
-use Rattle.basic.specs.Basic.{token_bits, bits as basicBits}
+use Rattle.basic.specs.Basic.{Basic, Token, ended_t, plain_t, carries_t, closure_t, branch_t, save_t}
+use Rattle.basic.specs.Basic.{token_bits}
 use Rattle.basic.specs.Reading.{holding, literal_at, global_at, shaped_at, code_at, token_at, onward, list_at}
 use Rattle.basic.specs.Tabulated.{inside, uses, index_of, indexed, template_of, closures}
 use Rattle.basic.specs.Valid.{PlainOk, return_ok, call_ok, neutral_ok, TokenOk, below}

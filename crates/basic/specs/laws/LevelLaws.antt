@@ -1,18 +1,17 @@
 -- A list that is read with some levels left is read alike with more. Assumes nothing.
-use Prim.Native.Nat.{ℕ, zero, suc, ◌+◌, ◌*◌, ◌≤◌, ◌<◌, max}
+use Prim.Native.Nat.{ℕ, zero, suc, ◌+◌}
 use Rattle.std.proofs.Common.{arith, sym, ◌∙◌}
 use Rattle.std.specs.Prelude.{◌≡◌, Bool, true, false, cond, ◌||◌, List}
 use Rattle.std.proofs.Math.Path.{refl, ap}
 use Rattle.std.proofs.Math.Dec.{eqb}
 use Rattle.files.specs.Codes.{shape_of}
-use Rattle.files.specs.Reading.{Got, got, refused}
+use Rattle.files.specs.Reading.{Got, got}
 use Rattle.files.specs.Entries.{Entry, then, field}
 use Rattle.files.specs.laws.AllGot.{refused_got, got_value, then_led}
 use Rattle.basic.specs.Basic.{Basic, ended, plain, carries, closure, branch, save, Token, ended_t, plain_t, carries_t, closure_t, branch_t, save_t}
 use Rattle.basic.specs.Reading.{holding, shaped_at, code_at, token_at, onward, list_at}
 use Rattle.basic.specs.Valid.{below}
 use Rattle.basic.specs.laws.ReadLaws.{list_step}
-use Rattle.basic.specs.laws.StepLaws.{closure_level, branch_level, save_level}
 
 -- ---- a code
 abbrev Extends : Got Token → Got Token → Type 0

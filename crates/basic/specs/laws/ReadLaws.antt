@@ -1,10 +1,10 @@
 -- The laws of reading basic code: a code and a list end as many bits on as they have, within the file, and are as they should be; a list is its first
 -- code and what follows that. Assumes nothing.
-use Prim.Native.Nat.{ℕ, zero, suc, ◌+◌, ◌*◌, ◌-◌, ◌^◌, ◌≤◌, ◌<◌}
+use Prim.Native.Nat.{ℕ, zero, suc, ◌+◌, ◌*◌, ◌-◌, ◌≤◌, ◌<◌}
 use native.Mathlib.Omega.{arith}
 use Rattle.std.specs.Prelude.{◌≡◌, Bool, cond, ◌||◌, ltb}
 use Rattle.std.proofs.Math.Path.{refl}
-use Rattle.std.proofs.Common.{sym, ap, ◌∙◌, le-leb, eqb-true, ltb-true}
+use Rattle.std.proofs.Common.{le-leb, eqb-true, ltb-true}
 use Rattle.std.proofs.Math.Bool.{true, false}
 use mathlib.Core.List.{List, [], ◌∷◌}
 use Rattle.std.proofs.lemmas.Bool.{eqb-false}
@@ -14,7 +14,7 @@ use Rattle.fields.specs.Field.{field_at}
 use Rattle.fields.specs.laws.Laws.{field_small}
 use Rattle.files.specs.Codes.{shape_of, is_neutral, operands}
 use Rattle.files.specs.Reading.{Got, got, refused}
-use Rattle.files.specs.Entries.{Entry, constant, global, then, field, valid, tag_width, constant_at}
+use Rattle.files.specs.Entries.{constant, global, then, field, valid, tag_width, constant_at}
 use Rattle.files.specs.Valid.{Bytes}
 use Rattle.files.specs.laws.EntriesLaws.{then_field}
 use Rattle.basic.specs.Basic.{Basic, ended, plain, carries, closure, branch, save, Token, ended_t, plain_t, carries_t, closure_t, branch_t, save_t}

@@ -16,11 +16,11 @@ unfolding SavedFits
 returns-in_default c = (cut_led _ _ _ (eqb-false _ 0 (sym c.is_first.ensures ∙ c.if-is_first.false)) (sym c.read_field.ensures ∙ c.in_default.is), tt)
 
 pub fetch_code-requires : goal.fetch_code-requires
-fetch_code-requires c = (search rules, read_below _ _ 5 _ _ (sym c.read_field.ensures ∙ c.in-Read.is))
+fetch_code-requires c = (search rules, read_below _ _ 5 _ _ (sym c.read_field.ensures ∙ c.in-Some.is))
 
 pub returns : goal.returns
 returns c = (
   c.fetch_code.ensures.0 ∙ code_led _ _ _ (eqb-false _ 0 (sym c.is_first.ensures ∙ c.if-is_first.false)) _ _
-      (sym c.read_field.ensures ∙ c.in-Read.is),
+      (sym c.read_field.ensures ∙ c.in-Some.is),
   c.fetch_code.ensures.1,
 )

@@ -11,14 +11,14 @@ unfolding SavedFits
 returns-in_default c = (cut_here _ _ _ (sym c.read_field.ensures ∙ c.in_default.is), tt)
 
 pub fetch_code-requires : goal.fetch_code-requires
-fetch_code-requires c = (search rules, read_below _ _ 5 _ _ (sym c.read_field.ensures ∙ c.in-Read.is))
+fetch_code-requires c = (search rules, read_below _ _ 5 _ _ (sym c.read_field.ensures ∙ c.in-Some.is))
 
 pub returns-then-code-eq0 : goal.returns-then-code-eq0
 returns-then-code-eq0 c = (
-  c.fetch_after.ensures.0 ∙ end_here _ _ _ _ _ (sym c.read_field.ensures ∙ c.in-Read.is) c.if-code-eq0.true _
+  c.fetch_after.ensures.0 ∙ end_here _ _ _ _ _ (sym c.read_field.ensures ∙ c.in-Some.is) c.if-code-eq0.true _
       c.link_at.ensures,
   c.fetch_after.ensures.1,
 )
 
 pub returns-else-code-eq0 : goal.returns-else-code-eq0
-returns-else-code-eq0 c = (c.fetch_code.ensures.0 ∙ code_here _ _ _ _ _ (sym c.read_field.ensures ∙ c.in-Read.is) c.if-code-eq0.false, c.fetch_code.ensures.1)
+returns-else-code-eq0 c = (c.fetch_code.ensures.0 ∙ code_here _ _ _ _ _ (sym c.read_field.ensures ∙ c.in-Some.is) c.if-code-eq0.false, c.fetch_code.ensures.1)

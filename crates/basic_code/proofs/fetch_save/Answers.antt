@@ -11,12 +11,12 @@ unfolding SavedFits
 returns-in_default c = (λ v. save_cut _ _ _ v _ (sym c.read_field.ensures ∙ c.in_default.is), tt)
 
 pub overflow_cast-result : goal.overflow_cast-result
-overflow_cast-result c = omega (arith, read_below _ _ 8 _ _ (sym c.read_field.ensures ∙ c.in-Read.is))
+overflow_cast-result c = omega (arith, read_below _ _ 8 _ _ (sym c.read_field.ensures ∙ c.in-Some.is))
 
 pub returns : goal.returns
 unfolding SavedFits
 returns c =
     let pre = c.requires in (
-      λ v. save_read _ _ _ v _ _ _ (sym c.read_field.ensures ∙ c.in-Read.is) _ c.link_at.ensures,
-      (read_fits _ _ _ _ (pre) (sym c.read_field.ensures ∙ c.in-Read.is)),
+      λ v. save_read _ _ _ v _ _ _ (sym c.read_field.ensures ∙ c.in-Some.is) _ c.link_at.ensures,
+      (read_fits _ _ _ _ (pre) (sym c.read_field.ensures ∙ c.in-Some.is)),
     )

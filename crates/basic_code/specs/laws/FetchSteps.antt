@@ -1,53 +1,50 @@
 -- What `fetch` answers, by what the fields are read as: one law for each way through it. Assumes nothing.
 use Prim.Native.Nat.{ℕ, zero, suc, ◌/◌, ◌%◌, ◌≤◌, ◌<◌, ◌^◌}
 use Rattle.std.proofs.Common.{arith, sym, ap, ◌∙◌}
-use Rattle.std.specs.Prelude.{◌≡◌, Bool, ◌&&◌, List, length}
+use Rattle.std.specs.Prelude.{◌≡◌, Bool, ◌&&◌, List, length, Some, None, Ok, Err}
 use Rattle.std.proofs.Math.Path.{refl}
 use Rattle.std.proofs.Math.Bool.{true, false, cond}
 use Rattle.std.proofs.Math.Option.{Option, none, some}
 use borrow.Author.Tests.{eq-eqb, ne_eqb, eqb-false}
 use Rattle.std.proofs.Math.Dec.{eqb}
 use Rattle.cells.specs.declared.BitPlace.{BitPlace}
-use Rattle.fields.specs.declared.Field.{Field}
-use Rattle.fields.specs.declared.Field.TheVariants.{Read, Cut}
 use Rattle.fields.specs.Field.{field_read}
 use Rattle.fields.specs.laws.Laws.{value_of}
 use Rattle.files.specs.Codes.{shape_of}
 use Rattle.files.specs.Entries.{entry_at}
 use Rattle.files.specs.EntriesRead.{entry_told}
-use Rattle.files.specs.declared.EntryRead.TheVariants.{Slot, Refused}
 use Rattle.links.specs.Links.{link_at}
 use Rattle.cells.specs.laws.Laws.{clash}
 use Rattle.rules.specs.declared.Plain.{Plain}
 use Rattle.rules.specs.declared.Plain.TheVariants.{Literal, Closure, Global, SetGlobal}
 use Rattle.machines.specs.Fetched.{plain, bad, returns, plainly}
 use Rattle.machines.specs.Slots.{slot_resolve, resolved_as}
-use Rattle.machines.specs.declared.Resolved.{Resolved}
-use Rattle.machines.specs.declared.Resolved.TheVariants.{Fit, Unfit}
+use Rattle.std.specs.Prelude.{Option as OrNone, None, Some}
 use Rattle.basic_code.specs.declared.BasicInstruction.TheVariants.{Return, Call, Branch, Save, Ready, Bad}
 use Rattle.basic_code.specs.Fetch.{read_as, with_read, literal_by, shaped_as, code_as, instruction_at, end_as, here_as, fetched_at}
+use Rattle.files.specs.declared.Refusal.{Refusal}
 
 -- ---- a code that names no entry, by how it was resolved
-module _ (o : Option Plain) (y : Resolved) (e : y ≡ resolved_as o) (p : BitPlace) where
-  pub ready_read : (i : Plain) → y ≡ Fit i → read_as (Ready i p) ≡ plainly o p.0
+module _ (o : Option Plain) (y : OrNone Plain) (e : y ≡ resolved_as o) (p : BitPlace) where
+  pub ready_read : (i : Plain) → y ≡ Some i → read_as (Ready i p) ≡ plainly o p.0
   unfolding read_as plainly resolved_as
   ready_read i h = by o (sym h ∙ e)
     where
-      by : (z : Option Plain) → Fit i ≡ resolved_as z → plain i p.0 ≡ plainly z p.0
+      by : (z : Option Plain) → Some i ≡ resolved_as z → plain i p.0 ≡ plainly z p.0
       by none k = clash (cc)
       by (some j) k = let z : i ≡ j = cc in rw z
 
-  pub unready_read : y ≡ Unfit → read_as Bad ≡ plainly o p.0
+  pub unready_read : y ≡ None → read_as Bad ≡ plainly o p.0
   unfolding read_as plainly resolved_as
   unready_read h = by o (sym h ∙ e)
     where
-      by : (z : Option Plain) → Unfit ≡ resolved_as z → bad ≡ plainly z p.0
+      by : (z : Option Plain) → None ≡ resolved_as z → bad ≡ plainly z p.0
       by none k = refl
       by (some j) k = clash (cc)
 
 -- ---- an instruction whose code v stands at p and ends at q
 module _ (s L : List ℕ) (p v q : ℕ) where
-  pub operand_cut : (k : ℕ) → 2 ≤ k → k ≤ 3 → field_read s q 8 ≡ Cut → read_as Bad ≡ shaped_as s L p v q k
+  pub operand_cut : (k : ℕ) → 2 ≤ k → k ≤ 3 → field_read s q 8 ≡ None → read_as Bad ≡ shaped_as s L p v q k
   unfolding shaped_as with_read read_as
   operand_cut zero h i e = absurd (omega arith)
   operand_cut (suc zero) h i e = absurd (omega arith)
@@ -55,7 +52,7 @@ module _ (s L : List ℕ) (p v q : ℕ) where
   operand_cut (suc (suc (suc zero))) h i e = rw e refl
   operand_cut (suc (suc (suc (suc k)))) h i e = absurd (omega arith)
 
-  module _ (a : ℕ) (q₁ : BitPlace) (e : field_read s q 8 ≡ Read a q₁) where
+  module _ (a : ℕ) (q₁ : BitPlace) (e : field_read s q 8 ≡ Some (a, q₁)) where
     pub call_read : v ≡ 2 → read_as (Call a) ≡ shaped_as s L p v q 2
     unfolding shaped_as with_read read_as
     call_read h = rw (e, eq-eqb v 2 h) refl
@@ -64,11 +61,11 @@ module _ (s L : List ℕ) (p v q : ℕ) where
     unfolding shaped_as with_read read_as
     one_read h = rw (e, ne_eqb v 2 h) refl
 
-    pub second_cut : field_read s q₁.0 8 ≡ Cut → read_as Bad ≡ shaped_as s L p v q 3
+    pub second_cut : field_read s q₁.0 8 ≡ None → read_as Bad ≡ shaped_as s L p v q 3
     unfolding shaped_as with_read read_as
     second_cut f = rw (e, f) refl
 
-    pub two_read : (b : ℕ) (q₂ : BitPlace) → field_read s q₁.0 8 ≡ Read b q₂
+    pub two_read : (b : ℕ) (q₂ : BitPlace) → field_read s q₁.0 8 ≡ Some (b, q₂)
         → plainly (slot_resolve (λ _. 0) v a b) q₂.0 ≡ shaped_as s L p v q 3
     unfolding shaped_as with_read read_as
     two_read b q₂ f = rw (e, f) refl
@@ -77,7 +74,7 @@ module _ (s L : List ℕ) (p v q : ℕ) where
     unfolding shaped_as with_read read_as
     save_read r h = rw (e, h) refl
 
-  pub save_cut : field_read s q 8 ≡ Cut → read_as Bad ≡ shaped_as s L p v q 5
+  pub save_cut : field_read s q 8 ≡ None → read_as Bad ≡ shaped_as s L p v q 5
   unfolding shaped_as with_read read_as
   save_cut e = rw e refl
 
@@ -114,36 +111,36 @@ module _ (s L : List ℕ) (p v : ℕ) (q : BitPlace) (k : ℕ) (h : k ≡ shape_
       by (suc (suc (suc (suc (suc (suc m)))))) i = refl
 
 -- a field that was read ends within the file
-pub read_fits : (s : List ℕ) (p : ℕ) (n : ℕ) (q : BitPlace) → length s ≤ 65536 → field_read s p 8 ≡ Read n q → q.0 < 2 ^ 24
+pub read_fits : (s : List ℕ) (p : ℕ) (n : ℕ) (q : BitPlace) → length s ≤ 65536 → field_read s p 8 ≡ Some (n, q) → q.0 < 2 ^ 24
 read_fits s p n q h e = let v = value_of s p 8 n q e in omega arith
 
 -- ---- codes that carry something
 module _ (s L : List ℕ) (p v q : ℕ) where
-  pub literal_read : (x : ℕ) (z : BitPlace) → v ≡ 6 → entry_told (entry_at s 0 0 q) ≡ Slot x z
+  pub literal_read : (x : ℕ) (z : BitPlace) → v ≡ 6 → entry_told (entry_at s 0 0 q) ≡ Ok (x, z)
       → read_as (Ready (Literal x) z) ≡ code_as s L p v q
   unfolding code_as literal_by read_as
   literal_read x z h e = rw (h, e) refl
 
-  pub literal_none : (n : ℕ) (z : BitPlace) → v ≡ 6 → entry_told (entry_at s 0 0 q) ≡ Refused n z → read_as Bad ≡ code_as s L p v q
+  pub literal_none : (why : Refusal BitPlace) → v ≡ 6 → entry_told (entry_at s 0 0 q) ≡ Err why → read_as Bad ≡ code_as s L p v q
   unfolding code_as literal_by read_as
-  literal_none n z h e = rw (h, e) refl
+  literal_none why h e = rw (h, e) refl
 
   pub closure_read : (n : ℕ) (z : BitPlace) → v ≡ 7 → n ≡ link_at L p % 64 → z.0 ≡ link_at L p / 64
       → read_as (Ready (Closure n) z) ≡ code_as s L p v q
   unfolding code_as read_as
   closure_read n z h i j = rw (h, i, j) refl
 
-  pub global_read : (g : ℕ) (z : BitPlace) → v ≡ 8 → field_read s q 8 ≡ Read g z
+  pub global_read : (g : ℕ) (z : BitPlace) → v ≡ 8 → field_read s q 8 ≡ Some (g, z)
       → read_as (Ready (Global g) z) ≡ code_as s L p v q
   unfolding code_as with_read read_as
   global_read g z h e = rw (h, e) refl
 
-  pub set_global_read : (g : ℕ) (z : BitPlace) → v ≡ 9 → field_read s q 8 ≡ Read g z
+  pub set_global_read : (g : ℕ) (z : BitPlace) → v ≡ 9 → field_read s q 8 ≡ Some (g, z)
       → read_as (Ready (SetGlobal g) z) ≡ code_as s L p v q
   unfolding code_as with_read read_as
   set_global_read g z h e = rw (h, e) refl
 
-  pub global_cut : 8 ≤ v → v ≤ 9 → field_read s q 8 ≡ Cut → read_as Bad ≡ code_as s L p v q
+  pub global_cut : 8 ≤ v → v ≤ 9 → field_read s q 8 ≡ None → read_as Bad ≡ code_as s L p v q
   unfolding code_as with_read read_as
   global_cut h k e = rw (ne_eqb v 6 (λ z. omega arith), ne_eqb v 7 (λ z. omega arith), e) (by (eqb v 8) (eqb v 9) refl refl)
     where
@@ -162,19 +159,19 @@ module _ (s L : List ℕ) (p : ℕ) where
   unfolding end_as read_as
   nowhere_led e = rw (eq-eqb p 0 e) refl
 
-  pub cut_led : (p ≡ 0 → ⊥) → field_read s p 5 ≡ Cut → read_as Bad ≡ end_as s L p
+  pub cut_led : (p ≡ 0 → ⊥) → field_read s p 5 ≡ None → read_as Bad ≡ end_as s L p
   unfolding end_as instruction_at with_read read_as
   cut_led n e = rw (ne_eqb p 0 n, e) refl
 
-  pub code_led : (p ≡ 0 → ⊥) → (v : ℕ) (q : BitPlace) → field_read s p 5 ≡ Read v q → code_as s L p v q.0 ≡ end_as s L p
+  pub code_led : (p ≡ 0 → ⊥) → (v : ℕ) (q : BitPlace) → field_read s p 5 ≡ Some (v, q) → code_as s L p v q.0 ≡ end_as s L p
   unfolding end_as instruction_at with_read
   code_led n v q e = rw (ne_eqb p 0 n, e) refl
 
-  pub cut_here : field_read s p 5 ≡ Cut → read_as Bad ≡ here_as s L p (field_read s p 5)
+  pub cut_here : field_read s p 5 ≡ None → read_as Bad ≡ here_as s L p (field_read s p 5)
   unfolding here_as read_as
   cut_here e = rw e refl
 
-  module _ (v : ℕ) (q : BitPlace) (e : field_read s p 5 ≡ Read v q) where
+  module _ (v : ℕ) (q : BitPlace) (e : field_read s p 5 ≡ Some (v, q)) where
     pub end_here : v ≡ 0 → (r : BitPlace) → r.0 ≡ link_at L p → end_as s L r.0 ≡ here_as s L p (field_read s p 5)
     unfolding here_as
     end_here h r k = rw (e, eq-eqb v 0 h, k) refl

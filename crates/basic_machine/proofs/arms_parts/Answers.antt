@@ -4,15 +4,15 @@ use Rattle.basic.specs.laws.StepLaws.{list_is, list_refused}
 use Rattle.basic_machine.specs.laws.PassLaws.{arms_parted, none_first, none_second}
 use Rattle.basic_machine.proofs.arms_parts.Goals as goal
 
-pub returns-in-Done-read_list : goal.returns-in-Done-read_list
-returns-in-Done-read_list c =
-    λ p d e h. arms_parted _ p d h _ _ _ _ _ (list_is _ _ _ _ _ (sym c.in-Done.is ∙ c.read_list.ensures))
-    (list_is _ _ _ _ _ (sym c.in-Done-read_list.is ∙ c.read_list-in-Done.ensures)) e
+pub returns : goal.returns
+returns c =
+    λ p d e h. arms_parted _ p d h _ _ _ _ _ (list_is _ _ _ _ _ (sym c.in-Ok.is ∙ c.read_list.ensures))
+    (list_is _ _ _ _ _ (sym c.in-Ok-read_list.is ∙ c.read_list-2.ensures)) e
 
-pub returns-in-Refused-read_list : goal.returns-in-Refused-read_list
-returns-in-Refused-read_list c =
-    λ p d e h. none_second _ p d h _ _ _ (list_is _ _ _ _ _ (sym c.in-Done.is ∙ c.read_list.ensures))
-    (list_refused _ _ _ _ _ (sym c.in-Refused-read_list.is ∙ c.read_list-in-Done.ensures)) e
+pub returns-in_default-read_list : goal.returns-in_default-read_list
+returns-in_default-read_list c =
+    λ p d e h. none_second _ p d h _ _ _ (list_is _ _ _ _ _ (sym c.in-Ok.is ∙ c.read_list.ensures))
+    (list_refused _ _ _ _ (sym c.in_default-read_list.is ∙ c.read_list-2.ensures)) e
 
-pub returns-in-Refused : goal.returns-in-Refused
-returns-in-Refused c = λ p d e h. none_first _ p d h _ (list_refused _ _ _ _ _ (sym c.in-Refused.is ∙ c.read_list.ensures)) e
+pub returns-in_default : goal.returns-in_default
+returns-in_default c = λ p d e h. none_first _ p d h _ (list_refused _ _ _ _ (sym c.in_default.is ∙ c.read_list.ensures)) e

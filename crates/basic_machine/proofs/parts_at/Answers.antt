@@ -1,33 +1,33 @@
 -- `basic_machine::parts_at` meets its contract. Assumes nothing.
-use Rattle.basic.specs.laws.StepLaws.{turned, is_end_lem, is_closure, is_branch, is_literal, is_global, is_refused, is_save_lem}
-use Rattle.basic_machine.specs.laws.PassLaws.{end_parted, plain_parted, carries_parted, none_refused, is_ending, is_plain}
+use Rattle.basic.specs.laws.StepLaws.{turned, turned_to, is_end_lem, is_closure, is_branch, is_refused, is_save_lem}
+use Rattle.basic_machine.specs.laws.PassLaws.{end_parted, simple_parted, none_refused}
 use Rattle.basic_machine.proofs.parts_at.Goals as goal
 
 pub returns-in-End : goal.returns-in-End
-returns-in-End c = λ d h. end_parted _ _ d h (is_end_lem _ _ (turned c.in-End.is c.read_token.ensures))
+returns-in-End c = λ d h. end_parted _ _ d h (is_end_lem _ _ (turned_to c.in-Ok.is c.in-End.is c.read_token.ensures))
 
 pub returns-in-Ending : goal.returns-in-Ending
-returns-in-Ending c = λ d h. plain_parted _ _ d h _ (is_ending _ _ (turned c.in-Ending.is c.read_token.ensures)).2
+returns-in-Ending c = λ d h. simple_parted _ _ d h c.in-Ok.is c.in-Ending.is c.read_token.ensures
 
-pub returns-in-Plain : goal.returns-in-Plain
-returns-in-Plain c = λ d h. plain_parted _ _ d h _ (is_plain _ _ (turned c.in-Plain.is c.read_token.ensures)).2
+pub returns-in-Ending-2 : goal.returns-in-Ending-2
+returns-in-Ending-2 c = λ d h. simple_parted _ _ d h c.in-Ok.is c.in-Ending.is c.read_token.ensures
 
-pub returns-in-Literal : goal.returns-in-Literal
-returns-in-Literal c = λ d h. carries_parted _ _ d h _ (is_literal _ _ _ _ (turned c.in-Literal.is c.read_token.ensures))
+pub returns-in-Ending-3 : goal.returns-in-Ending-3
+returns-in-Ending-3 c = λ d h. simple_parted _ _ d h c.in-Ok.is c.in-Ending.is c.read_token.ensures
 
-pub returns-in-Global : goal.returns-in-Global
-returns-in-Global c = λ d h. carries_parted _ _ d h _ (is_global _ _ _ _ (turned c.in-Global.is c.read_token.ensures))
+pub returns-in-Ending-4 : goal.returns-in-Ending-4
+returns-in-Ending-4 c = λ d h. simple_parted _ _ d h c.in-Ok.is c.in-Ending.is c.read_token.ensures
 
 pub returns-in-Closure : goal.returns-in-Closure
-returns-in-Closure c = λ d h. c.closure_parts.ensures _ d (is_closure _ _ (turned c.in-Closure.is c.read_token.ensures)) h
+returns-in-Closure c = λ d h. c.closure_parts.ensures _ d (is_closure _ _ (turned_to c.in-Ok.is c.in-Closure.is c.read_token.ensures)) h
 
 pub returns-in-Branch : goal.returns-in-Branch
-returns-in-Branch c = λ d h. c.arms_parts.ensures _ d (is_branch _ _ (turned c.in-Branch.is c.read_token.ensures)) h
+returns-in-Branch c = λ d h. c.arms_parts.ensures _ d (is_branch _ _ (turned_to c.in-Ok.is c.in-Branch.is c.read_token.ensures)) h
 
 pub returns-in-Save : goal.returns-in-Save
 returns-in-Save c =
-    let w = is_save_lem _ _ (turned c.in-Save.is c.read_token.ensures) in
+    let w = is_save_lem _ _ (turned_to c.in-Ok.is c.in-Save.is c.read_token.ensures) in
     λ d h. c.saved_parts.ensures _ w.0 d w.1 h
 
-pub returns-in-Refused : goal.returns-in-Refused
-returns-in-Refused c = λ d h. none_refused _ _ d h (is_refused _ _ _ (turned c.in-Refused.is c.read_token.ensures))
+pub returns-in_default : goal.returns-in_default
+returns-in_default c = λ d h. none_refused _ _ d h (is_refused _ _ (turned c.in_default.is c.read_token.ensures))

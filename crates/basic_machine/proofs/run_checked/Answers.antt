@@ -5,11 +5,11 @@ use Rattle.basic_machine.proofs.run_checked.Goals as goal
 pub run_accepted-requires : goal.run_accepted-requires
 run_accepted-requires c =
     let pre = c.requires in
-    let w = file_accepted _ _ c.check_basic.ensures.checked_is _ _ _ c.in-Accepted.is in
-    (pre.0, w, pre.1, pre.2 (file_short _ w))
+    let w = file_accepted _ _ c.check_basic.ensures _ c.in-Ok.is in
+    (w, pre.0, pre.1 (file_short _ w))
 
-pub returns-in-Accepted : goal.returns-in-Accepted
-returns-in-Accepted c = c.run_accepted.ensures
+pub returns-in-Ok : goal.returns-in-Ok
+returns-in-Ok c = c.run_accepted.ensures
 
-pub returns-in-Refused : goal.returns-in-Refused
-returns-in-Refused c = file_refused _ _ _ _ _ _ _ _ c.check_basic.ensures.checked_is c.in-Refused.is c.refused.ensures
+pub returns-in-Err : goal.returns-in-Err
+returns-in-Err c = file_refused _ _ _ _ _ _ _ _ c.check_basic.ensures c.in-Err.is c.refused.ensures

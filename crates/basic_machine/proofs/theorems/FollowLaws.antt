@@ -1,11 +1,9 @@
 -- With which instruction execution goes on at the rest of a conditional, by the code that stands there. Assumes nothing.
-use Rattle.std.specs.Prelude.{ℕ, ◌+◌, ◌≡◌}
+use Rattle.std.specs.Prelude.{ℕ, ◌+◌, ◌≡◌, Option, Some, None}
 use Rattle.std.proofs.Math.Path.{refl, ap}
 use Rattle.std.proofs.Common.{sym, ◌∙◌}
 use mathlib.Core.List.{List, []}
 use Rattle.cells.specs.declared.BitPlace.{BitPlace}
-use Rattle.fields.specs.declared.Field.{Field}
-use Rattle.fields.specs.declared.Field.TheVariants.{Read, Cut}
 use Rattle.fields.specs.Field.{field_read}
 use Rattle.files.specs.Entries.{then, field_got, field}
 use Rattle.basic.specs.Basic.{Basic, ended, plain, carries, closure, branch, save, bits}
@@ -19,7 +17,7 @@ use Rattle.basic_machine.specs.laws.PassLaws.{end_parted, none_refused}
 use Rattle.basic_machine.proofs.theorems.TurnLaws.{Found, parted_found}
 
 module _ (s : List ℕ) (p f : ℕ) (c : Basic) (reads : Reads s p c) where
-  token_by : (x : Field) → field_read s p 5 ≡ x → token_at s 15 p ≡ then (field_got p x) (λ v q. code_at s 15 p v q)
+  token_by : (x : Option (ℕ × BitPlace)) → field_read s p 5 ≡ x → token_at s 15 p ≡ then (field_got p x) (λ v q. code_at s 15 p v q)
   unfolding token_at field
   token_by x e = ap (λ y. then (field_got p y) (λ v q. code_at s 15 p v q)) e
 
@@ -27,25 +25,25 @@ module _ (s : List ℕ) (p f : ℕ) (c : Basic) (reads : Reads s p c) where
   unfolding Found
   bad_none h = absurd (parted_found s p h)
 
-  pub follow_cut : field_read s p 5 ≡ Cut → p ≡ onward c f p
+  pub follow_cut : field_read s p 5 ≡ None → p ≡ onward c f p
   unfolding then field_got
-  follow_cut e = bad_none (none_refused s p c reads (token_by Cut e))
+  follow_cut e = bad_none (none_refused s p c reads (token_by None e))
 
   end_onward : (d : Basic) → Parted s p d End → f ≡ onward d f p
   unfolding onward
   end_onward d end_p = refl
 
-  pub follow_end : (v : ℕ) (q : BitPlace) → field_read s p 5 ≡ Read v q → v ≡ 0 → f ≡ onward c f p
+  pub follow_end : (v : ℕ) (q : BitPlace) → field_read s p 5 ≡ Some (v, q) → v ≡ 0 → f ≡ onward c f p
   unfolding then field_got
   follow_end v q e z =
-      end_onward c (end_parted s p c reads (token_by (Read v q) e ∙ ap (λ n. code_at s 15 p n q.0) z ∙ end_code s [] p q.0))
+      end_onward c (end_parted s p c reads (token_by (Some (v, q)) e ∙ ap (λ n. code_at s 15 p n q.0) z ∙ end_code s [] p q.0))
 
-  pub follow_on : (v : ℕ) (q : BitPlace) → field_read s p 5 ≡ Read v q → (v ≡ 0 → ⊥) → p ≡ onward c f p
+  pub follow_on : (v : ℕ) (q : BitPlace) → field_read s p 5 ≡ Some (v, q) → (v ≡ 0 → ⊥) → p ≡ onward c f p
   unfolding then field_got onward Stands
   follow_on v q e n = by c reads
     where
       by : (d : Basic) → Reads s p d → p ≡ onward d f p
-      by ended h = absurd (n (code_end_0 s [] p 15 v q.0 (p + 5) (sym (token_by (Read v q) e) ∙ stands s ended 15 p (p + bits ended) h)))
+      by ended h = absurd (n (code_end_0 s [] p 15 v q.0 (p + 5) (sym (token_by (Some (v, q)) e) ∙ stands s ended 15 p (p + bits ended) h)))
       by (plain w ns r) h = refl
       by (carries w x r) h = refl
       by (closure x r) h = refl

@@ -1,25 +1,20 @@
 -- The run of a basic file that is accepted. Assumes nothing.
-use Rattle.std.specs.Prelude.{ℕ, ◌+◌, ◌*◌, ◌≤◌, ◌≡◌, refl, List, length}
+use Rattle.std.specs.Prelude.{ℕ, ◌+◌, ◌*◌, ◌≤◌, ◌≡◌, refl, List, length, Result, Ok, Err}
 use Rattle.std.proofs.Common.{arith, ap, ◌∙◌}
 use Rattle.files.specs.Reading.{got, refused}
 use Rattle.cells.specs.declared.BitPlace.{BitPlace}
 use Rattle.cells.specs.laws.Laws.{clash}
 use Rattle.files.specs.laws.AllGot.{got_all}
-use Rattle.owners.specs.Owners.{owner_of}
 use Rattle.owners.specs.declared.Owner.{Owner}
 use Rattle.machines.specs.Runs.{Memory, Ran, ran, refused_run, start_state}
 use Rattle.machines.specs.Start.{zeros, refusal, start_refusal}
 use Rattle.machines.proofs.theorems.Start.{start_goes, start_refused}
-use Rattle.machines.specs.declared.Start.{Start}
-use Rattle.machines.specs.declared.Start.TheVariants as start
 use Rattle.machines.specs.declared.Run.{Run}
 use Rattle.machines.specs.Steps.{ran_from}
 use Rattle.machines.specs.Slots.{slot_at}
 use Rattle.basic.specs.Basic.{Basic, bits}
 use Rattle.basic.specs.Checked.{basic_checked}
 use Rattle.tabulate.specs.Judge.{CheckedIs, accepted, refused_file}
-use Rattle.tabulate.specs.declared.CheckedFile.{CheckedFile}
-use Rattle.tabulate.specs.declared.CheckedFile.TheVariants as judged
 use Rattle.basic_program.specs.Run.{on_basic, basic_run}
 use Rattle.basic_program.specs.laws.Known.{Accepted, checked_known}
 use Rattle.basic_code.specs.Fetch.{basic_linked}
@@ -27,6 +22,9 @@ use Rattle.basic_machine.specs.Accepted.{AcceptedFile}
 use Rattle.basic_machine.specs.Links.{linked, tabled}
 use Rattle.basic_machine.specs.Pass.{Reads, Fresh}
 use Rattle.basic_machine.proofs.theorems.Starts.{few_templates, basic_linked_run}
+use Rattle.files.specs.declared.Refusal.{Refusal}
+use Rattle.files.specs.Refusal.{refusal as why}
+use Rattle.files.specs.laws.RefusalLaws.{err_number, err_place}
 
 module _ (s : List ℕ) (w : AcceptedFile s) where
   known : Accepted s w.code
@@ -50,30 +48,25 @@ module _ (s : List ℕ) (w : AcceptedFile s) where
       h ∙ rw (i, e.0, e.1, z, w.checked) (basic_linked_run s w.code w.past w.checked L₀ long o b m.globals)
 
 -- ---- a file that was judged
-pub file_accepted : (s : List ℕ) (x : CheckedFile) → CheckedIs s x → (q : BitPlace) (count size : ℕ) → x ≡ judged.Accepted q count size → AcceptedFile s
-file_accepted s _ (accepted q count size c z short e read n few b most) q' count' size' h = record { code = c; past = z; checked = e }
-file_accepted s _ (refused_file n p e) q count size h = clash (cc)
+pub file_accepted : (s : List ℕ) (x : Result (BitPlace × ℕ × ℕ) (Refusal ℕ)) → CheckedIs s x → (a : BitPlace × ℕ × ℕ) → x ≡ Ok a → AcceptedFile s
+file_accepted s _ (accepted q count size c z short e read n few b most) a h = record { code = c; past = z; checked = e }
+file_accepted s _ (refused_file n p e) a h = clash (cc)
 
-file_judged : (s : List ℕ) (x : CheckedFile) → CheckedIs s x → (n p : ℕ) → x ≡ judged.Refused n p → basic_checked s ≡ refused n p
+file_judged : (s : List ℕ) (x : Result (BitPlace × ℕ × ℕ) (Refusal ℕ)) → CheckedIs s x → (n p : ℕ) → x ≡ Err (why n p) → basic_checked s ≡ refused n p
 file_judged s _ (accepted q count size c z short e read m few b most) n p h = clash (cc)
-file_judged s _ (refused_file m q e) n p h = let i : m ≡ n = cc in let j : q ≡ p = cc in e ∙ rw (i, j) refl
+file_judged s _ (refused_file m q e) n p h = e ∙ rw (err_number h, err_place h) refl
 
-pub file_refused : (s : List ℕ) (x : CheckedFile) (o : Owner) (b : ℕ) (m : Memory) (n p : ℕ) (r : Run) → CheckedIs s x → x ≡ judged.Refused n p
-    → r ≡ refusal n p → ran r m ≡ on_basic o b m (basic_checked s)
+pub file_refused : (s : List ℕ) (x : Result (BitPlace × ℕ × ℕ) (Refusal ℕ)) (o : Owner) (b : ℕ) (m : Memory) (n p : ℕ) (r : Run)
+    → CheckedIs s x → x ≡ Err (why n p) → r ≡ refusal n p → ran r m ≡ on_basic o b m (basic_checked s)
 unfolding on_basic refused_run
 file_refused s x o b m n p r k h e = rw (e, file_judged s x k n p h)
 
--- ---- the owner of that number
-file_owned : (s : List ℕ) (n : ℕ) (o : Owner) (b : ℕ) (m : Memory) (r : Ran) → o ≡ owner_of n → r ≡ on_basic o b m (basic_checked s)
-    → r ≡ on_basic (owner_of n) b m (basic_checked s)
-file_owned s n o b m r e h = rw e at h
-
 -- ---- a start
-module _ (s : List ℕ) (b n : ℕ) (m : Memory) (x : Start) (asked : x ≡ start_refusal 1000000 b n m) where
-  pub run_goes : (o : Owner) (r : Ran) → x ≡ start.Go → o ≡ owner_of n → r ≡ on_basic o b m (basic_checked s) → r ≡ basic_run s b n m
+module _ (s : List ℕ) (b n : ℕ) (m : Memory) (x : Result Owner (Refusal ℕ)) (asked : x ≡ start_refusal 1000000 b n m) where
+  pub run_goes : (o : Owner) (r : Ran) → x ≡ Ok o → r ≡ on_basic o b m (basic_checked s) → r ≡ basic_run s b n m
   unfolding basic_run
-  run_goes o r h i e = start_goes 1000000 b n m x asked r _ h (file_owned s n o b m r i e)
+  run_goes o r = start_goes 1000000 b n m x asked on_basic (basic_checked s) r o
 
-  pub run_refused : (k p : ℕ) (y : Run) → x ≡ start.Refused k p → y ≡ refusal k p → ran y m ≡ basic_run s b n m
+  pub run_refused : (k p : ℕ) (y : Run) → x ≡ Err (why k p) → y ≡ refusal k p → ran y m ≡ basic_run s b n m
   unfolding basic_run
   run_refused k p y h e = start_refused 1000000 b n m x asked _ k p y h e

@@ -2,17 +2,14 @@
 use Prim.Native.Nat.{ℕ, zero, suc, ◌/◌, ◌%◌}
 use Rattle.std.proofs.Common.{arith, ◌∙◌, eqb-true, eq-eqb, ne_eqb}
 use Rattle.std.proofs.Math.Path.{◌≡◌, refl, sym, ap}
-use Rattle.std.specs.Prelude.{Bool, ◌||◌, List, [], ◌∷◌, ltb, get_or}
+use Rattle.std.specs.Prelude.{Bool, ◌||◌, List, ltb, get_or, Option, Some, None}
 use Rattle.std.proofs.Math.Bool.{true, false, cond}
 use Rattle.std.proofs.Math.Dec.{eqb}
-use Rattle.std.proofs.lemmas.Bool.{eqb-false}
 use Rattle.cells.specs.laws.Laws.{clash}
-use Rattle.fields.specs.declared.Field.{Field}
-use Rattle.fields.specs.declared.Field.TheVariants.{Read, Cut}
 use Rattle.fields.specs.Field.{field_read}
 use Rattle.files.specs.Codes.{shape_of}
 use Rattle.files.specs.Reading.{Got, got, refused}
-use Rattle.files.specs.Entries.{constant, global, then, field_got, field, valid, tag_width, constant_at, kind_at, entry_at}
+use Rattle.files.specs.Entries.{constant, then, field_got, field, valid, tag_width, constant_at, kind_at, entry_at}
 use Rattle.files.specs.EntriesRead.{entry_told}
 use Rattle.files.specs.Table.{slot_of}
 use Rattle.files.specs.laws.AllGot.{refused_got, got_value, then_led}
@@ -25,6 +22,7 @@ use Rattle.basic.specs.Basic.{Token, ended_t, plain_t, carries_t, closure_t, bra
 use Rattle.basic.specs.Reading.{holding, literal_at, global_at, shaped_at, code_at, token_at}
 use Rattle.basic_program.specs.Program.{carried}
 use Rattle.basic_code.specs.Fetch.{with_read, literal_by, shaped_as, code_as, instruction_at, end_as, here_as}
+use Rattle.cells.specs.declared.BitPlace.{BitPlace}
 
 module _ (s L : List ℕ) (p : ℕ) where
   -- a code and the place past it, as an instruction at p
@@ -47,9 +45,9 @@ module _ (s L : List ℕ) (p : ℕ) where
   unfolding then field field_got with_read Is
   with_field_lem q w f g h = by (field_read s q w)
     where
-      by : (x : Field) → Is (then (field_got q x) f) (with_read g x)
-      by (Read a r) = h a r.0
-      by Cut = tt
+      by : (x : Option (ℕ × BitPlace)) → Is (then (field_got q x) f) (with_read g x)
+      by (Some (a, r)) = h a r.0
+      by None = tt
 
   held : (l : ℕ) (g : Got Token) (F : Fetched) → Is g F → Is (holding l p g) F
   unfolding holding Is
@@ -61,20 +59,20 @@ module _ (s L : List ℕ) (p : ℕ) where
   unfolding constant_at then field field_got entry_told literal_by Is instruction_of carried rule_of named_by as_literal plainly slot_of
   constant_is r k z = by (ltb k 6) (field_read s z (tag_width k))
     where
-      by : (b : Bool) (x : Field) → Is (then (valid r b (then (field_got z x) (λ x u. got (constant k x) u))) (λ e u. got (carries_t 6 e) u))
+      by : (b : Bool) (x : Option (ℕ × BitPlace)) → Is (then (valid r b (then (field_got z x) (λ x u. got (constant k x) u))) (λ e u. got (carries_t 6 e) u))
           (literal_by (entry_told (valid r b (then (field_got z x) (λ x u. got (constant k x) u)))))
-      by true (Read a u) = refl
-      by true Cut = tt
+      by true (Some (a, u)) = refl
+      by true None = tt
       by false x = tt
 
   literal_is : (q : ℕ) → Is (literal_at s q) (literal_by (entry_told (entry_at s 0 0 q)))
   unfolding literal_at entry_at kind_at then field field_got entry_told literal_by Is
   literal_is q = by (field_read s q 2)
     where
-      tagged : (r : ℕ) (y : Field) → Is (then (field_got r y) (λ k z. then (constant_at s r k z) (λ e u. got (carries_t 6 e) u)))
+      tagged : (r : ℕ) (y : Option (ℕ × BitPlace)) → Is (then (field_got r y) (λ k z. then (constant_at s r k z) (λ e u. got (carries_t 6 e) u)))
           (literal_by (entry_told (then (field_got r y) (λ k z. constant_at s r k z))))
-      tagged r (Read k z) = constant_is r k z.0
-      tagged r Cut = tt
+      tagged r (Some (k, z)) = constant_is r k z.0
+      tagged r None = tt
 
       kind : (k r : ℕ) (b : Bool) → eqb k 1 ≡ b
           → Is (valid q b (then (field s r 3) (λ k z. then (constant_at s r k z) (λ e u. got (carries_t 6 e) u))))
@@ -82,11 +80,11 @@ module _ (s L : List ℕ) (p : ℕ) where
       kind k r true e = rw (eqb-true k 1 e) (tagged r (field_read s r 3))
       kind k r false e = tt
 
-      by : (x : Field)
+      by : (x : Option (ℕ × BitPlace))
           → Is (then (field_got q x) (λ k r. valid q (eqb k 1) (then (field s r 3) (λ t z. then (constant_at s r t z) (λ e u. got (carries_t 6 e) u)))))
           (literal_by (entry_told (then (field_got q x) (λ k r. kind_at s 0 0 q r k))))
-      by (Read k r) = kind k r.0 (eqb k 1) refl
-      by Cut = tt
+      by (Some (k, r)) = kind k r.0 (eqb k 1) refl
+      by None = tt
 
   -- ---- the codes that carry nothing, by their shape
   module _ (l v q : ℕ) where
@@ -175,18 +173,18 @@ module _ (s L : List ℕ) (p : ℕ) where
   unfolding token_at then field field_got here_as
   end_is {q} e = by (field_read s p 5) e
     where
-      by : (x : Field) → then (field_got p x) (λ v r. code_at s 15 p v r) ≡ got ended_t q → here_as s L p x ≡ end_as s L (link_at L p)
-      by (Read v r) e = rw (eq-eqb v 0 (code_end_0 15 v r.0 q e)) refl
-      by Cut e = refused_got e
+      by : (x : Option (ℕ × BitPlace)) → then (field_got p x) (λ v r. code_at s 15 p v r) ≡ got ended_t q → here_as s L p x ≡ end_as s L (link_at L p)
+      by (Some (v, r)) e = rw (eq-eqb v 0 (code_end_0 15 v r.0 q e)) refl
+      by None e = refused_got e
 
   pub here_is : {k : Token} {q : ℕ} → token_at s 15 p ≡ got k q → ((q : ℕ) → ◌≡◌ {A = Got Token} (got k q) (got ended_t q) → ⊥)
       → here_as s L p (field_read s p 5) ≡ instruction_at s L p
   unfolding token_at then field field_got here_as instruction_at with_read
   here_is {k} {q} e n = by (field_read s p 5) e
     where
-      by : (x : Field) → then (field_got p x) (λ v r. code_at s 15 p v r) ≡ got k q → here_as s L p x ≡ with_read (code_as s L p) x
-      by (Read v r) e = ap (λ b. cond b (end_as s L (link_at L p)) (code_as s L p v r.0)) (ne_eqb v 0 (λ z. n r.0 (same v r.0 z e)))
+      by : (x : Option (ℕ × BitPlace)) → then (field_got p x) (λ v r. code_at s 15 p v r) ≡ got k q → here_as s L p x ≡ with_read (code_as s L p) x
+      by (Some (v, r)) e = ap (λ b. cond b (end_as s L (link_at L p)) (code_as s L p v r.0)) (ne_eqb v 0 (λ z. n r.0 (same v r.0 z e)))
         where
           same : (v r : ℕ) → v ≡ 0 → code_at s 15 p v r ≡ got k q → ◌≡◌ {A = Got Token} (got k r) (got ended_t r)
           same v r z e = let h : got ended_t r ≡ got k q = sym (end_code r) ∙ (rw z at e) in let g : k ≡ ended_t = sym (got_value h).0 in rw g refl
-      by Cut e = refused_got e
+      by None e = refused_got e

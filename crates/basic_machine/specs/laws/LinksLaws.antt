@@ -1,8 +1,8 @@
 -- What the links of a list say, once they are made: a link is never overwritten, since places only grow. Assumes nothing.
-use Rattle.std.specs.Prelude.{ℕ, suc, ◌+◌, ◌*◌, ◌/◌, ◌%◌, ◌≤◌, ◌≡◌, List, length, get_or}
-use Rattle.std.proofs.Common.{arith, ap, ◌∙◌, length-set, get_or-set_same, get_or-set_other}
+use Rattle.std.specs.Prelude.{ℕ, suc, ◌+◌, ◌*◌, ◌/◌, ◌≤◌, ◌≡◌, List, length}
+use Rattle.std.proofs.Common.{arith, ◌∙◌, length-set, get_or-set_same, get_or-set_other}
 use Rattle.links.specs.Links.{link_at, link}
-use Rattle.links.specs.laws.LinksLaws.{Before, Kept}
+use Rattle.links.specs.laws.LinksLaws.{Kept}
 use Rattle.basic.specs.Basic.{Basic, ended, plain, carries, closure, branch, save, carried_bits, bits}
 use Rattle.basic.specs.Tabulated.{inside}
 use Rattle.basic_machine.specs.Links.{onward, linked}

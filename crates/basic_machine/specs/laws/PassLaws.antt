@@ -1,25 +1,28 @@
 -- What the pass that makes links finds, by the code at a place. Assumes nothing.
-use Rattle.std.specs.Prelude.{ℕ, suc, ◌+◌, ◌*◌, ◌≤◌, ◌≡◌, refl, List, length}
+use Rattle.std.specs.Prelude.{ℕ, ◌+◌, ◌≡◌, List, Result, Ok}
 use Rattle.std.proofs.Common.{arith, ◌∙◌}
 use Rattle.std.proofs.Math.Path.{sym, ap}
+use mathlib.Core.Logic.{◌⊎◌, inl, inr}
 use Rattle.cells.specs.declared.BitPlace.{BitPlace}
 use Rattle.files.specs.Reading.{Got, got, refused}
 use Rattle.files.specs.Entries.{Entry, then}
+use Rattle.files.specs.declared.Refusal.{Refusal}
 use Rattle.files.specs.laws.AllGot.{refused_got, got_value, then_led}
-use Rattle.basic.specs.Basic.{Basic, ended, plain, carries, closure, branch, save, bits}
+use Rattle.basic.specs.Basic.{Basic, bits}
 use Rattle.basic.specs.Basic.{Token, ended_t, plain_t, carries_t, closure_t, branch_t, save_t, token_bits}
 use Rattle.basic.specs.Reading.{token_at, onward, list_at}
 use Rattle.basic.specs.Tabulated.{inside}
 use Rattle.basic.specs.Valid.{below}
 use Rattle.basic.specs.declared.Facts.{Facts}
-use Rattle.basic.specs.declared.Token.TheVariants.{Ending, Plain}
+use Rattle.basic.specs.declared.Token.{Token as ToldToken}
+use Rattle.basic.specs.declared.Token.TheVariants.{Ending, Plain, Literal, Global}
 use Rattle.basic.specs.Told.{Told, told_ending, told_plain}
 use Rattle.basic.specs.laws.ReadLaws.{token_facts, list_facts, list_step}
 use Rattle.basic.specs.laws.LevelLaws.{below_15}
-use Rattle.basic.specs.laws.StepLaws.{ListIs}
+use Rattle.basic.specs.laws.StepLaws.{ListIs, turned_to, is_literal, is_global}
 use Rattle.basic_machine.specs.Pass.{Reads, Parted, end_p, plain_p, carries_p, closure_p, arms_p, saved_p}
 use Rattle.basic_machine.specs.declared.Parts.{Parts}
-use Rattle.basic_machine.specs.declared.Parts.TheVariants.{End, Simple, Closure, Arms, Saved, Bad}
+use Rattle.basic_machine.specs.declared.Parts.TheVariants.{End, Simple, Closure, Arms, Saved}
 
 module _ (s : List ℕ) (p : ℕ) (c : Basic) (reads : Reads s p c) where
   -- the list by its first code
@@ -129,8 +132,17 @@ module _ (s : List ℕ) (p : ℕ) (c : Basic) (reads : Reads s p c) where
 
 -- ---- by what is told of a code
 module _ (g : Got Token) where
-  pub is_ending : (q : BitPlace) → Told g (Ending q) → (v : ℕ) × (ns : List ℕ) × (g ≡ got (plain_t v ns) q.0)
+  pub is_ending : (q : BitPlace) → Told g (Ok (Ending q)) → (v : ℕ) × (ns : List ℕ) × (g ≡ got (plain_t v ns) q.0)
   is_ending q (told_ending q' v ns h e) = (v, ns, e)
 
-  pub is_plain : (q : BitPlace) → Told g (Plain q) → (v : ℕ) × (ns : List ℕ) × (g ≡ got (plain_t v ns) q.0)
+  pub is_plain : (q : BitPlace) → Told g (Ok (Plain q)) → (v : ℕ) × (ns : List ℕ) × (g ≡ got (plain_t v ns) q.0)
   is_plain q (told_plain q' v ns h e) = (v, ns, e)
+
+module _ (s : List ℕ) (p : ℕ) (c : Basic) (reads : Reads s p c) {r : Result ToldToken (Refusal BitPlace)} {x : ToldToken} {q : BitPlace} (is : r ≡ Ok x) where
+  -- a code without lists
+  pub simple_parted : (x ≡ Ending q) ⊎ ((x ≡ Plain q) ⊎ (((t : ℕ) × (n : ℕ) × (x ≡ Literal t n q)) ⊎ ((v : ℕ) × (n : ℕ) × (x ≡ Global v n q))))
+      → Told (token_at s 15 p) r → Parted s p c (Simple q)
+  simple_parted (inl e) h = plain_parted s p c reads q (is_ending _ q (turned_to is e h)).2
+  simple_parted (inr (inl e)) h = plain_parted s p c reads q (is_plain _ q (turned_to is e h)).2
+  simple_parted (inr (inr (inl (t, n, e)))) h = carries_parted s p c reads q (is_literal _ _ _ _ (turned_to is e h))
+  simple_parted (inr (inr (inr (v, n, e)))) h = carries_parted s p c reads q (is_global _ _ _ _ (turned_to is e h))

@@ -1,5 +1,5 @@
 -- What is known of the code of a basic file that is accepted. Assumes nothing.
-use Rattle.std.specs.Prelude.{ℕ, ◌+◌, ◌*◌, ◌≤◌, ◌≡◌, refl, true, List, leb, length}
+use Rattle.std.specs.Prelude.{ℕ, ◌*◌, ◌≤◌, ◌≡◌, refl, true, List, leb, length}
 use Rattle.std.proofs.Common.{arith, ap, ◌∙◌, leb-true}
 use Rattle.std.proofs.Math.Option.{Option, none, some}
 use Rattle.files.specs.Reading.{Got, got, refused}

@@ -1,7 +1,7 @@
 -- Small files of basic byte code, and how the basic machine's definition runs them from their bytes, by computation. Assumes nothing.
 use Rattle.std.specs.Prelude.{ℕ, ◌≡◌, refl, List, [], ◌∷◌, map}
 use Rattle.cells.specs.Cells.{starting_global, value_of}
-use Rattle.cells.specs.declared.Value.TheVariants.{Unspecified, Integer, Procedure}
+use Rattle.cells.specs.declared.Value.TheVariants.{Integer, Procedure}
 use Rattle.fields.specs.Field.{bit_at, field_at, field_read, pick_field}
 use Rattle.files.specs.Codes.{shape_of}
 use Rattle.files.specs.Code.{put, simple}

@@ -9,7 +9,7 @@ use Rattle.basic_code.specs.Fetch.{basic_linked}
 use Rattle.basic_steps.proofs.run_from.Given as goal
 
 abbrev pub invariant-loop-left : goal.invariant-loop-left
-invariant-loop-left l = StepReady l.file l.table (memory l.globals l.stack l.store l.frames) l.r l.c × (l.left ≤ l.budget) × Of tree_form l.c.place
+invariant-loop-left l = StepReady l.file l.table l.r l.c × (l.left ≤ l.budget) × Of tree_form l.c.place
     × (ran_from l.owner (basic_linked l.file l.links l.table) l.left (l.budget - l.left) (state_of l.r l.c (memory l.globals l.stack l.store l.frames))
     ≡ ran_from l.owner (basic_linked l.file l.links l.table) l.budget 0 (state_of l.initial.r l.initial.c (memory l.initial.globals l.initial.stack l.initial.store l.initial.frames)))
 

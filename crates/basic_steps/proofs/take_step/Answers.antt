@@ -22,7 +22,7 @@ act_branch-requires c =
 
 pub act_save-requires : goal.act_save-requires
 unfolding number
-act_save-requires c = (search rules, search rules, search rules, search rules, saved_fits _ c.fetch.ensures.1 _ _ _ c.in-Save.is)
+act_save-requires c = (search rules, search rules, saved_fits _ c.fetch.ensures.1 _ _ _ c.in-Save.is)
 
 pub returns-in-Ready : goal.returns-in-Ready
 unfolding read_as form_of number

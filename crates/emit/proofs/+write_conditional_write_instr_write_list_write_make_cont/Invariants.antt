@@ -18,8 +18,8 @@ decreases-write_list l = 3 * l.levels + 2
 abbrev pub decreases-write_make_cont : goal.decreases-write_make_cont
 decreases-write_make_cont l = 3 * l.levels + 3
 
-abbrev pub invariant-write_list-loop-here : goal.invariant-write_list-loop-here
-invariant-write_list-loop-here l = (l.b ≤ length l.out) × (length l.out ≡ length l.initial.out) × Left l.s l.marks l.levels l.initial.here.0 l.front l.back l.here.0 l.f l.b l.initial.out l.out
+abbrev pub invariant-write_list-loop-shape : goal.invariant-write_list-loop-shape
+invariant-write_list-loop-shape l = (l.rest.back ≤ length l.out) × (length l.out ≡ length l.initial.out) × Left l.s l.marks l.levels l.initial.rest.at.0 l.front l.back l.rest.at.0 l.rest.front l.rest.back l.initial.out l.out
 
-abbrev pub decreases-write_list-loop-here : goal.decreases-write_list-loop-here
-decreases-write_list-loop-here l = 8 * length l.s - l.here.0
+abbrev pub decreases-write_list-loop-shape : goal.decreases-write_list-loop-shape
+decreases-write_list-loop-shape l = 8 * length l.s - l.rest.at.0

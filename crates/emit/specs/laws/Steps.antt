@@ -7,7 +7,7 @@ use Rattle.std.proofs.Math.ListN.{length}
 use Rattle.std.proofs.Math.Seq.{sets}
 use Rattle.cells.specs.declared.BitPlace.{BitPlace}
 use Rattle.fields.specs.Field.{field_at}
-use Rattle.files.specs.Code.{Code, done, Instr, bits}
+use Rattle.files.specs.Code.{Code, Instr, bits}
 use Rattle.files.specs.Reading.{Got, got, deep_of, list_at}
 use Rattle.files.specs.laws.ReadingLaws.{bits_i, some_bits, head_past, deep_past, list_bits_lem}
 use Rattle.files.specs.Flat.{offset, flat}
@@ -18,7 +18,7 @@ use Rattle.lists.specs.Pass.{operands_at}
 use Rattle.lists.specs.laws.MarksLaws.{has_rest, has_arms, has_saved}
 use Rattle.lists.specs.laws.Known.{shape_here, Arms, arms, Saved, saved, Simple, without_lists, Turn, list_within, list_end, list_turn}
 use Rattle.emit.specs.declared.Measured.{Measured}
-use Rattle.emit.specs.declared.Wrote.{Wrote}
+use Rattle.emit.specs.declared.Rest.{Rest}
 use Rattle.emit.specs.Written.{gap, jump_bytes, arms_bytes, saved_bytes, front_bytes, back_bytes, measured_of, wrote_as, line_bytes}
 use Rattle.emit.specs.ToWrite.{ToWrite, ArmsToWrite, SavedToWrite, ItemToWrite, ArmsDone, SavedDone, ItemDone, item_bytes, rest_front, rest_back}
 use Rattle.emit.specs.laws.Stores.{sets_four, operands_length, jump_length, arms_length, put_length, simple_bytes, fits_jumps, fits_arms, fits_saved}
@@ -36,8 +36,8 @@ pub mark_measured : (M : List ℕ) (p m : ℕ) → m ≡ mark_at M p → (c : Co
 unfolding mark_of measured_of
 mark_measured M p m e c q h = let z = mark_taken (is_closed c) (length (flat c)) m (e ∙ h) in rw (z.0, z.1) refl
 
-pub wrote_eq : (r : BitPlace) {q x f y b : ℕ} → r.0 ≡ q → x ≡ f → y ≡ b → ◌≡◌ {A = Wrote} (record { next = r; front = x; back = y }) (wrote_as q f b)
-wrote_eq r e₁ e₂ e₃ = λ i. record { next = record { 0 = e₁ i }; front = e₂ i; back = e₃ i }
+pub wrote_eq : (r : BitPlace) {q x f y b : ℕ} → r.0 ≡ q → x ≡ f → y ≡ b → ◌≡◌ {A = Rest} (record { at = r; front = x; back = y }) (wrote_as q f b)
+wrote_eq r e₁ e₂ e₃ = λ i. record { at = record { 0 = e₁ i }; front = e₂ i; back = e₃ i }
 
 -- ---- a conditional: x is what was measured of its first arm, j how many bytes its jump takes
 module _ {s M : List ℕ} {l p f b : ℕ} (w : ArmsToWrite s M l p f b) (x : Measured) (j : ℕ)
@@ -93,7 +93,7 @@ module _ {s M : List ℕ} {l p f b : ℕ} (w : ArmsToWrite s M l p f b) (x : Mea
     pub arms_done : (o : List ℕ) {o₁ o₂ o₃ o₄ : List ℕ} {q : BitPlace} → o₁ ≡ sets o f (3 ∷ offset (j + x.size)) → o₂ ≡ sets o₁ (f + 3) (flat w.first)
         → o₃ ≡ sets o₂ (f + 3 + x.size) (jump_bytes x.closed y.size)
         → (q.0 ≡ w.past) × (o₄ ≡ sets o₃ (f + 3 + x.size + j) (flat w.second))
-        → ArmsDone w (record { next = q; front = f + 3 + x.size + j + y.size; back = b }) o o₄
+        → ArmsDone w (record { at = q; front = f + 3 + x.size + j + y.size; back = b }) o o₄
     unfolding arms_bytes
     arms_done o {q = q} e₁ e₂ e₃ e₄ = (
       wrote_eq q e₄.0 arms_room refl,
@@ -129,7 +129,7 @@ module _ {s M : List ℕ} {l p f b : ℕ} (w : SavedToWrite s M l p f b) (x : Me
 
   pub saved_done : (n : ℕ) (o : List ℕ) {o₁ o₂ : List ℕ} {q : BitPlace} → o₁ ≡ sets o f (4 ∷ offset (b - x.size - (f + 4)))
       → (q.0 ≡ w.past) × (o₂ ≡ sets (set o₁ (f + 3) n) (b - x.size) (flat w.saved))
-      → SavedDone n w (record { next = q; front = f + 4; back = b - x.size }) o o₂
+      → SavedDone n w (record { at = q; front = f + 4; back = b - x.size }) o o₂
   unfolding saved_bytes
   saved_done n o {q = q} e₁ e₂ = (wrote_eq q e₂.0 refl saved_cut, e₂.1 ∙ rw (e₁, saved_rest, saved_cut, add-three) refl)
 
@@ -174,7 +174,7 @@ module _ {s M : List ℕ} {l p f b : ℕ} (w : ItemToWrite s M l p f b) where
         }
 
     -- by what was done for the arms at q
-    pub arms_item : {q : ℕ} {r : Wrote} (o : List ℕ) {o' : List ℕ} → q ≡ p + 5 → ((v : ArmsToWrite s M (l - 1) q f b) → ArmsDone v r o o') → ItemDone w r o o'
+    pub arms_item : {q : ℕ} {r : Rest} (o : List ℕ) {o' : List ℕ} → q ≡ p + 5 → ((v : ArmsToWrite s M (l - 1) q f b) → ArmsDone v r o o') → ItemDone w r o o'
     arms_item {q} {r} o {o'} is did =
         let h : ArmsDone item_arms r o o' = subst (λ (x : ℕ). (v : ArmsToWrite s M (l - 1) x f b) → ArmsDone v r o o') is did item_arms in
         let e : rest_back w ≡ b = omega (arith, item_room, ap length arms_back_lem) in
@@ -215,7 +215,7 @@ module _ {s M : List ℕ} {l p f b : ℕ} (w : ItemToWrite s M l p f b) where
         }
 
     -- by what was done for the saved list at q
-    pub saved_item : {n q : ℕ} {r : Wrote} (o : List ℕ) {o' : List ℕ} → n ≡ field_at s (p + 5) 8 → q ≡ p + 13
+    pub saved_item : {n q : ℕ} {r : Rest} (o : List ℕ) {o' : List ℕ} → n ≡ field_at s (p + 5) 8 → q ≡ p + 13
         → ((v : SavedToWrite s M (l - 1) q f b) → SavedDone n v r o o') → ItemDone w r o o'
     saved_item {n} {q} {r} o {o'} e is did =
         let h : SavedDone n item_saved r o o' = subst (λ (x : ℕ). (v : SavedToWrite s M (l - 1) x f b) → SavedDone n v r o o') is did item_saved in
@@ -243,7 +243,7 @@ module _ {s M : List ℕ} {l p f b : ℕ} (w : ItemToWrite s M l p f b) where
 
     pub plain_item_lem : {k : ℕ} {q : BitPlace} (o : List ℕ) {o' : List ℕ} → k ≡ shape_here s l p - 1 → q.0 ≡ p + (5 + 8 * k)
         → {line : ℕ} → line ≡ field_at s p 21 → o' ≡ sets o f (line_bytes line k)
-        → ItemDone w (record { next = q; front = f + 1 + k; back = b }) o o'
+        → ItemDone w (record { at = q; front = f + 1 + k; back = b }) o o'
     plain_item_lem {k} {q} o e g {line} n h =
         let e₁ : rest_back w ≡ b = omega (arith, item_room, ap length plain_bytes.1) in
         let e₂ : q.0 ≡ w.past = omega (arith, plain.4) in
@@ -296,17 +296,17 @@ module _ (s M : List ℕ) (l p₀ f₀ b₀ : ℕ) (o₀ : List ℕ) where
       pub left_less : (p < turn.next) × (turn.next ≤ 8 * length s)
       left_less = omega (arith, next_place, some_bits turn.instr)
 
-      module _ {r : Wrote} {o' : List ℕ} (done : ItemDone left_item r o o') where
-        pub next_is : r.next.0 ≡ turn.next
-        next_is = ap (λ (x : Wrote). x.next.0) done.0
+      module _ {r : Rest} {o' : List ℕ} (done : ItemDone left_item r o o') where
+        pub next_is : r.at.0 ≡ turn.next
+        next_is = ap (λ (x : Rest). x.at.0) done.0
 
         pub back_less : r.back ≤ b
         back_less = rw done.0 (omega (arith, item_room left_item))
 
-        pub left_next : Left s M l p₀ f₀ b₀ r.next.0 r.front r.back o₀ o'
+        pub left_next : Left s M l p₀ f₀ b₀ r.at.0 r.front r.back o₀ o'
         left_next =
-            let f₁ = ap (λ (x : Wrote). x.front) done.0 in
-            let b₁ = ap (λ (x : Wrote). x.back) done.0 in
+            let f₁ = ap (λ (x : Rest). x.front) done.0 in
+            let b₁ = ap (λ (x : Rest). x.back) done.0 in
             record {
               now =
                   record {

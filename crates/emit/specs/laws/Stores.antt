@@ -1,7 +1,7 @@
 -- Runs of stores, and what an instruction leaves of a list's flat code to write. Assumes nothing.
-use Rattle.std.specs.Prelude.{ℕ, zero, suc, ◌+◌, ◌-◌, ◌/◌, ◌%◌, ◌≤◌, ◌<◌, ◌≡◌, refl, Bool, true, false, cond, ◌&&◌, List, [], ◌∷◌, ◌++◌, length, set}
+use Rattle.std.specs.Prelude.{ℕ, zero, suc, ◌+◌, ◌/◌, ◌%◌, ◌≤◌, ◌≡◌, refl, Bool, true, false, cond, ◌&&◌, List, [], ◌∷◌, ◌++◌, length, set}
 use Rattle.std.specs.Prelude.{get_or, eqb}
-use Rattle.std.proofs.Common.{add-zero, zero-add, add-suc, suc-add, add-one, arith, sym, ap, ◌∙◌, append_assoc, append-nil, leb-true, eqb-true, length-append}
+use Rattle.std.proofs.Common.{zero-add, add-one, arith, sym, ap, ◌∙◌, append_assoc, append-nil, leb-true, eqb-true, length-append}
 use Rattle.std.proofs.Math.Numerals.{add-two}
 use Rattle.std.proofs.Math.Bool.{and-eq-true_iff}
 use Rattle.std.proofs.lemmas.List.Edits.{sets}

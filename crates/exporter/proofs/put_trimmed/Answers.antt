@@ -2,10 +2,10 @@
 use Rattle.exporter.specs.Trims.{trim_slots}
 use Rattle.exporter.proofs.put_trimmed.Goals as goal
 
-pub returns-in-Written : goal.returns-in-Written
+pub returns-in-Ok : goal.returns-in-Ok
 unfolding trim_slots
-returns-in-Written c = rw c.in-Written.is c.put_three.ensures
+returns-in-Ok c = rw c.in-Ok.is c.put_slots.ensures
 
-pub returns-in-Refused : goal.returns-in-Refused
+pub returns-in-Err : goal.returns-in-Err
 unfolding trim_slots
-returns-in-Refused c = rw c.in-Refused.is c.put_three-in-Refused.ensures
+returns-in-Err c = rw c.in-Err.is c.put_slots-in-Err.ensures

@@ -10,7 +10,8 @@ use Rattle.files.specs.Accepted.{tree_accepted}
 use Rattle.rules.specs.laws.Lists.{either}
 use Rattle.owners.specs.Owners.{is_owner, owner_of}
 use Rattle.machines.specs.Machine.{Ending, halted, wrongly, spent, Ended}
-use Rattle.machines.specs.Runs.{Memory, Ran, refused_run, lowest_unfit, fit_globals, right_lengths, by_owner, started, end_of, reported, on_tree, on_linear, tree_run}
+use Rattle.machines.specs.Runs.{Memory, Ran, refused_run, lowest_unfit, fit_globals, right_lengths}
+use Rattle.machines.specs.Runs.{by_owner, started, end_of, reported, on_tree, on_linear, tree_run}
 use Rattle.machines.specs.Runs.{linear_run}
 use Rattle.basic.specs.Basic.{Basic}
 use Rattle.basic.specs.Checked.{basic_checked}

@@ -13,18 +13,17 @@ use Rattle.std.proofs.Math.Pow.{pow-lt, high as high_part, low as low_part}
 use Rattle.std.proofs.lemmas.Nat.{mod-pow-add}
 use Rattle.cells.specs.laws.Laws.{clash}
 use Rattle.cells.specs.declared.BitPlace.{BitPlace}
-use Rattle.fields.specs.declared.Field.{Field}
-use Rattle.fields.specs.declared.Field.TheVariants.{Read, Cut}
+use Rattle.std.specs.Prelude.{Option, Some, None}
 use Rattle.fields.specs.Field.{bit_at, field_at, pick_field, field_read}
 
 module _ (s : List ℕ) (p w : ℕ) where
   -- a field that runs past the end
-  pub cut : 8 * length s < p + w → Cut ≡ field_read s p w
+  pub cut : 8 * length s < p + w → None ≡ field_read s p w
   unfolding field_read pick_field
   cut h = rw (lt-leb (p + w) (8 * length s) h) refl
 
   -- a field that does not
-  pub whole : p + w ≤ 8 * length s → Read (field_at s p w) (record { 0 = p + w }) ≡ field_read s p w
+  pub whole : p + w ≤ 8 * length s → Some (field_at s p w, record { 0 = p + w }) ≡ field_read s p w
   unfolding field_read pick_field
   whole h = rw (le-leb (p + w) (8 * length s) h) refl
 
@@ -33,29 +32,30 @@ module _ (s : List ℕ) (p w : ℕ) where
     pub lies : b ≡ true → p + w ≤ 8 * length s
     lies e = leb-true (p + w) (8 * length s) (sym asked ∙ e)
 
-    pub cut_by : b ≡ false → Cut ≡ field_read s p w
+    pub cut_by : b ≡ false → None ≡ field_read s p w
     unfolding field_read pick_field
     cut_by e = rw (sym asked ∙ e) refl
 
-    pub whole_by : b ≡ true → {v : ℕ} {q : BitPlace} → v ≡ field_at s p w → q.0 ≡ p + w → Read v q ≡ field_read s p w
+    pub whole_by : b ≡ true → {v : ℕ} {q : BitPlace} → v ≡ field_at s p w → q.0 ≡ p + w → Some (v, q) ≡ field_read s p w
     unfolding field_read pick_field
-    whole_by e {v} {q} f g = rw (sym asked ∙ e, f) (ap (λ (x : ℕ). Read (field_at s p w) (record { 0 = x })) g)
+    whole_by e {v} {q} f g = rw (sym asked ∙ e, f) (ap (λ (x : ℕ). Some (field_at s p w, record { 0 = x })) g)
 
   -- what holds of both holds of what is read
-  pub read_cases : (P : Field → Type 0) → P Cut → (p + w ≤ 8 * length s → P (Read (field_at s p w) (record { 0 = p + w }))) → P (field_read s p w)
+  pub read_cases : (P : Option (ℕ × BitPlace) → Type 0) → P None → (p + w ≤ 8 * length s → P (Some (field_at s p w, record { 0 = p + w })))
+      → P (field_read s p w)
   unfolding field_read pick_field
   read_cases P ends fits = go (leb (p + w) (8 * length s)) refl
     where
-      go : (b : Bool) → leb (p + w) (8 * length s) ≡ b → P (pick_field b (Read (field_at s p w) (record { 0 = p + w })))
+      go : (b : Bool) → leb (p + w) (8 * length s) ≡ b → P (pick_field b (Some (field_at s p w, record { 0 = p + w })))
       go true e = fits (leb-true (p + w) (8 * length s) e)
       go false e = ends
 
   -- what is known of a value that was read
-  pub value_of : (v : ℕ) (q : BitPlace) → field_read s p w ≡ Read v q → (v ≡ field_at s p w) × ((q.0 ≡ p + w) × (p + w ≤ 8 * length s))
-  value_of v q e = read_cases (λ f. f ≡ Read v q → (v ≡ field_at s p w) × ((q.0 ≡ p + w) × (p + w ≤ 8 * length s)))
+  pub value_of : (v : ℕ) (q : BitPlace) → field_read s p w ≡ Some (v, q) → (v ≡ field_at s p w) × ((q.0 ≡ p + w) × (p + w ≤ 8 * length s))
+  value_of v q e = read_cases (λ f. f ≡ Some (v, q) → (v ≡ field_at s p w) × ((q.0 ≡ p + w) × (p + w ≤ 8 * length s)))
       (λ e. clash (cc))
-      (λ h e. let e₁ : field_at s p w ≡ v = cc in let e₂ : ◌≡◌ {A = BitPlace} (record { 0 = p + w }) q = cc in
-      (sym e₁, (ap (λ (x : BitPlace). x.0) (sym e₂), h))) e
+      (λ h e. let all : ◌≡◌ {A = ℕ × BitPlace} (field_at s p w, record { 0 = p + w }) (v, q) = cc in
+      (sym (ap (λ (x : ℕ × BitPlace). x.0) all), (sym (ap (λ (x : ℕ × BitPlace). x.1.0) all), h))) e
 
 -- a field of w bits is below 2 ^ w
 pub field_small : (s : List ℕ) (p w : ℕ) → field_at s p w < 2 ^ w
@@ -74,7 +74,7 @@ module _ (s : List ℕ) (p w v x y : ℕ) (first : x ≡ field_at s p w) (second
   pub joined : x * 2 ^ v + y ≡ field_at s p (w + v)
   joined = rw (first, second) (sym (field_split s p w v))
 
-  pub read_joined : p + (w + v) ≤ 8 * length s → Read (x * 2 ^ v + y) (record { 0 = p + (w + v) }) ≡ field_read s p (w + v)
+  pub read_joined : p + (w + v) ≤ 8 * length s → Some (x * 2 ^ v + y, record { 0 = p + (w + v) }) ≡ field_read s p (w + v)
   read_joined h = rw joined (whole s p (w + v) h)
 
 -- A field of at most 8 bits lies in two bytes, a and b.

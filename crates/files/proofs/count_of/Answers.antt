@@ -6,8 +6,8 @@ use Rattle.files.proofs.count_of.Goals as goal
 pub returns-then-s-gt262144 : goal.returns-then-s-gt262144
 returns-then-s-gt262144 c = count_long _ c.if-s-gt262144.true
 
-pub returns-in-Read : goal.returns-in-Read
-returns-in-Read c = count_is _ c.if-s-gt262144.false (field_read_lem _ _ _ c.read_field.ensures c.in-Read.is)
+pub returns-in-Some : goal.returns-in-Some
+returns-in-Some c = count_is _ c.if-s-gt262144.false (field_read_lem _ _ _ c.read_field.ensures c.in-Some.is)
 
-pub returns-in-Cut : goal.returns-in-Cut
-returns-in-Cut c = count_cut _ c.if-s-gt262144.false (field_cut _ _ _ c.read_field.ensures c.in-Cut.is)
+pub returns-in-None : goal.returns-in-None
+returns-in-None c = count_cut _ c.if-s-gt262144.false (field_cut _ _ _ c.read_field.ensures c.in-None.is)

@@ -1,5 +1,5 @@
 -- The two columns of operand bytes agree where the rest of the list follows. Assumes nothing.
-use Rattle.std.specs.Prelude.{ℕ, zero, suc, ◌-◌, ◌≤◌, ◌≡◌, Bool, true, false, cond, ◌&&◌, List, [], ◌∷◌, map, get_or, leb, eqb}
+use Rattle.std.specs.Prelude.{ℕ, zero, suc, ◌-◌, ◌≤◌, ◌≡◌, Bool, true, cond, ◌&&◌, List, [], ◌∷◌, map, get_or, leb, eqb}
 use Rattle.std.proofs.Math.Path.{refl}
 use Rattle.std.proofs.Math.Bool.{and-eq-true_iff}
 use borrow.Author.Tests.{leb-true, eqb-true}

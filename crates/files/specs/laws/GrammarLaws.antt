@@ -1,5 +1,5 @@
 -- A list is empty in one way. Assumes nothing.
-use Rattle.std.specs.Prelude.{ℕ, ◌≡◌, refl, Bool, true, false}
+use Rattle.std.specs.Prelude.{ℕ, ◌≡◌, refl, true, false}
 use Rattle.std.proofs.Common.{arith}
 use Rattle.files.specs.Code.{Code, done, neutral, return, call, unless_false, make_cont}
 use Rattle.files.specs.Grammar.{is_empty}

@@ -1,10 +1,9 @@
 -- What an instruction is read as, by what its fields and its lists are read as: one law for each way through it. Assumes nothing.
 use Prim.Native.Nat.{ℕ, zero, suc, ◌-◌, ◌≤◌}
 use Rattle.std.proofs.Common.{sub-one, arith}
-use Rattle.std.specs.Prelude.{◌≡◌, List, [], ◌∷◌}
+use Rattle.std.specs.Prelude.{◌≡◌, List, [], ◌∷◌, Some, None}
 use Rattle.std.proofs.Math.Path.{refl}
 use Rattle.cells.specs.declared.BitPlace.{BitPlace}
-use Rattle.fields.specs.declared.Field.TheVariants.{Read, Cut}
 use Rattle.fields.specs.Field.{field_read}
 use Rattle.files.specs.Codes.{shape_of}
 use Rattle.files.specs.Code.{Code, unless_i, cont_i, simple}
@@ -12,11 +11,11 @@ use Rattle.files.specs.Reading.{Got, got, refused, item, bad, Deep, bottom, belo
 
 -- ---- the code
 module _ (s : List ℕ) (deep : Deep) (p : ℕ) where
-  pub code_cut : field_read s p 5 ≡ Cut → head_at s deep p ≡ bad 2 p
+  pub code_cut : field_read s p 5 ≡ None → head_at s deep p ≡ bad 2 p
   unfolding head_at with_field
   code_cut e = rw e refl
 
-  pub code_read : (v : ℕ) (q : BitPlace) (k : ℕ) → field_read s p 5 ≡ Read v q → shape_of v ≡ k → head_at s deep p ≡ shaped s deep p v q.0 k
+  pub code_read : (v : ℕ) (q : BitPlace) (k : ℕ) → field_read s p 5 ≡ Some (v, q) → shape_of v ≡ k → head_at s deep p ≡ shaped s deep p v q.0 k
   unfolding head_at with_field
   code_read v q k e h = rw (e, h) refl
 
@@ -32,23 +31,23 @@ module _ (s : List ℕ) (deep : Deep) (p : ℕ) where
 
 -- ---- operands
 module _ (s : List ℕ) (deep : Deep) (p v q : ℕ) where
-  pub one_cut : field_read s q 8 ≡ Cut → shaped s deep p v q 2 ≡ bad 2 q
+  pub one_cut : field_read s q 8 ≡ None → shaped s deep p v q 2 ≡ bad 2 q
   unfolding shaped with_field
   one_cut e = rw e refl
 
-  pub one_read : (a : ℕ) (q₁ : BitPlace) → field_read s q 8 ≡ Read a q₁ → shaped s deep p v q 2 ≡ item (simple v (a ∷ [])) q₁.0
+  pub one_read : (a : ℕ) (q₁ : BitPlace) → field_read s q 8 ≡ Some (a, q₁) → shaped s deep p v q 2 ≡ item (simple v (a ∷ [])) q₁.0
   unfolding shaped with_field
   one_read a q₁ e = rw e refl
 
-  pub first_cut : field_read s q 8 ≡ Cut → shaped s deep p v q 3 ≡ bad 2 q
+  pub first_cut : field_read s q 8 ≡ None → shaped s deep p v q 3 ≡ bad 2 q
   unfolding shaped with_field
   first_cut e = rw e refl
 
-  pub second_cut : (a : ℕ) (q₁ : BitPlace) → field_read s q 8 ≡ Read a q₁ → field_read s q₁.0 8 ≡ Cut → shaped s deep p v q 3 ≡ bad 2 q₁.0
+  pub second_cut : (a : ℕ) (q₁ : BitPlace) → field_read s q 8 ≡ Some (a, q₁) → field_read s q₁.0 8 ≡ None → shaped s deep p v q 3 ≡ bad 2 q₁.0
   unfolding shaped with_field
   second_cut a q₁ e f = rw (e, f) refl
 
-  pub two_read : (a : ℕ) (q₁ : BitPlace) (b : ℕ) (q₂ : BitPlace) → field_read s q 8 ≡ Read a q₁ → field_read s q₁.0 8 ≡ Read b q₂
+  pub two_read : (a : ℕ) (q₁ : BitPlace) (b : ℕ) (q₂ : BitPlace) → field_read s q 8 ≡ Some (a, q₁) → field_read s q₁.0 8 ≡ Some (b, q₂)
       → shaped s deep p v q 3 ≡ item (simple v (a ∷ b ∷ [])) q₂.0
   unfolding shaped with_field
   two_read a q₁ b q₂ e f = rw (e, f) refl
@@ -77,15 +76,15 @@ module _ (s : List ℕ) (f : ℕ → Got Code) (p v q : ℕ) where
   unfolding shaped with_deep with_list
   conditional_read a m b r e g = rw (e, g) refl
 
-  pub count_cut : field_read s q 8 ≡ Cut → shaped s (below f) p v q 5 ≡ bad 2 q
+  pub count_cut : field_read s q 8 ≡ None → shaped s (below f) p v q 5 ≡ bad 2 q
   unfolding shaped with_deep with_field
   count_cut e = rw e refl
 
-  pub saved_refused : (n : ℕ) (m : BitPlace) (k x : ℕ) → field_read s q 8 ≡ Read n m → f m.0 ≡ refused k x → shaped s (below f) p v q 5 ≡ bad k x
+  pub saved_refused : (n : ℕ) (m : BitPlace) (k x : ℕ) → field_read s q 8 ≡ Some (n, m) → f m.0 ≡ refused k x → shaped s (below f) p v q 5 ≡ bad k x
   unfolding shaped with_deep with_field with_list
   saved_refused n m k x e g = rw (e, g) refl
 
-  pub make_cont_read : (n : ℕ) (m : BitPlace) (a : Code) (r : ℕ) → field_read s q 8 ≡ Read n m → f m.0 ≡ got a r
+  pub make_cont_read : (n : ℕ) (m : BitPlace) (a : Code) (r : ℕ) → field_read s q 8 ≡ Some (n, m) → f m.0 ≡ got a r
       → shaped s (below f) p v q 5 ≡ item (cont_i n a) r
   unfolding shaped with_deep with_field with_list
   make_cont_read n m a r e g = rw (e, g) refl

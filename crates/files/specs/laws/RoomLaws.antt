@@ -1,6 +1,6 @@
 -- How many rows of a run's table a file takes. Assumes nothing.
 use Rattle.std.specs.Prelude.{ℕ, ◌*◌, ◌≤◌, ◌<◌, ◌≡◌, List, length, replicate}
-use Rattle.std.proofs.Common.{arith, sym, ap, ◌∙◌, le-leb}
+use Rattle.std.proofs.Common.{arith, ap, ◌∙◌, le-leb}
 use Rattle.std.proofs.lemmas.Bool.{lt-leb}
 use Rattle.std.proofs.lemmas.List.{length-replicate}
 use Rattle.files.specs.Reading.{got, refused}

@@ -10,71 +10,74 @@ pub bits_at-requires : goal.bits_at-requires
 bits_at-requires c =
     let w = c.requires in
     let m = c.from_slot-start.ensures in
-    (omega (arith, w.0), (search rules, count_within w.3 m _ c.measure-size.ensures))
+    (omega (arith, w.sizes.0), (search rules, count_within w.to_write m _ c.measure-size.ensures))
 
 pub bounds-out-front : goal.bounds-out-front
 bounds-out-front c =
     let w = c.requires in
     let m = c.from_slot-start.ensures in
-    let r = room_enough w.3 m _ c.measure-size.ensures in
-    let p = places w.3 m _ c.measure-size.ensures in
-    omega (arith, r, p, m, w.0, c.well_formed)
+    let r = room_enough w.to_write m _ c.measure-size.ensures in
+    let p = places w.to_write m _ c.measure-size.ensures in
+    omega (arith, r, p, m, w.sizes.0, c.well_formed)
 
 pub past-entries-requires : goal.past-entries-requires
 past-entries-requires c =
     let w = c.requires in
     let m = c.from_slot-start.ensures in
-    let r = room_enough w.3 m _ c.measure-size.ensures in
-    let p = places w.3 m _ c.measure-size.ensures in
-    omega (arith, r, p, m, w.0, c.well_formed)
+    let r = room_enough w.to_write m _ c.measure-size.ensures in
+    let p = places w.to_write m _ c.measure-size.ensures in
+    omega (arith, r, p, m, w.sizes.0, c.well_formed)
 
 pub write_bits-requires : goal.write_bits-requires
 write_bits-requires c =
     let w = c.requires in
     let m = c.from_slot-start.ensures in
-    let r = room_enough w.3 m _ c.measure-size.ensures in
-    let p = places w.3 m _ c.measure-size.ensures in
-    (w.0, p.1, simp length-set (omega (arith, r, p, m, w.0, c.well_formed, c.past-entries.ensures)))
+    let r = room_enough w.to_write m _ c.measure-size.ensures in
+    let p = places w.to_write m _ c.measure-size.ensures in
+    record {
+      at_in = (w.sizes.0, omega (arith, r, p, m, w.sizes.0, c.well_formed, c.past-entries.ensures), p.1);
+      out_long = simp length-set (omega (arith, r, p, m, w.sizes.0, c.well_formed, c.past-entries.ensures));
+    }
 
 pub since-requires : goal.since-requires
 since-requires c =
     let w = c.requires in
     let m = c.from_slot-start.ensures in
-    let r = room_enough w.3 m _ c.measure-size.ensures in
-    let p = places w.3 m _ c.measure-size.ensures in
-    omega (arith, r, p, m, w.0, c.well_formed, c.past-entries.ensures)
+    let r = room_enough w.to_write m _ c.measure-size.ensures in
+    let p = places w.to_write m _ c.measure-size.ensures in
+    omega (arith, r, p, m, w.sizes.0, c.well_formed, c.past-entries.ensures)
 
 pub put_length-requires : goal.put_length-requires
 put_length-requires c =
     let w = c.requires in
     let m = c.from_slot-start.ensures in
-    let r = room_enough w.3 m _ c.measure-size.ensures in
-    let p = places w.3 m _ c.measure-size.ensures in
+    let r = room_enough w.to_write m _ c.measure-size.ensures in
+    let p = places w.to_write m _ c.measure-size.ensures in
     let a = c.past-entries.ensures in
     let b = c.since.ensures in
     let o = simp length-set at c.write_bits.auto.out in
-    (omega (arith, r, p, m, w.0, c.well_formed), size_small w.3 m _ c.measure-size.ensures w.0)
+    (omega (arith, r, p, m, w.sizes.0, c.well_formed), size_small w.to_write m _ c.measure-size.ensures w.sizes.0)
 
 pub overflow_add-end-2 : goal.overflow_add-end-2
 overflow_add-end-2 c =
     let w = c.requires in
     let m = c.from_slot-start.ensures in
-    let r = room_enough w.3 m _ c.measure-size.ensures in
-    let p = places w.3 m _ c.measure-size.ensures in
+    let r = room_enough w.to_write m _ c.measure-size.ensures in
+    let p = places w.to_write m _ c.measure-size.ensures in
     let a = c.past-entries.ensures in
     let b = c.since.ensures in
-    omega (arith, r, p, m, w.0, c.well_formed)
+    omega (arith, r, p, m, w.sizes.0, c.well_formed)
 
 pub write_list-next-requires : goal.write_list-next-requires
 write_list-next-requires c =
     let w = c.requires in
     let m = c.from_slot-start.ensures in
-    let r = room_enough w.3 m _ c.measure-size.ensures in
-    let p = places w.3 m _ c.measure-size.ensures in
+    let r = room_enough w.to_write m _ c.measure-size.ensures in
+    let p = places w.to_write m _ c.measure-size.ensures in
     let a = c.past-entries.ensures in
     let b = c.since.ensures in
     let o = simp length-set at c.write_bits.auto.out in
-    (w.0, omega (arith, r, p, m, w.0, c.well_formed, c.put_length.auto.out), list_to_write w.3 m _ c.measure-size.ensures _)
+    (w.sizes.0, omega (arith, r, p, m, w.sizes.0, c.well_formed, c.put_length.auto.out), list_to_write w.to_write m _ c.measure-size.ensures _)
 
 pub shape_of-out : goal.shape_of-out
 shape_of-out c =

@@ -1,7 +1,11 @@
 -- The bits of a file as bytes. Assumes nothing.
-use Rattle.std.specs.Prelude.{ℕ, zero, suc, ◌+◌, ◌*◌, ◌-◌, ◌/◌, ◌%◌, ◌^◌, ◌≤◌, ◌<◌, ◌≡◌, refl, List, [], get_or, drop, set}
-use Rattle.std.proofs.Common.{add-zero, add-suc, mul_assoc, pow-suc, add-one, arith, sym, ◌∙◌, shl_lt, shl_exact}
-use Rattle.std.proofs.lemmas.List.Edits.{sets}
+use Rattle.std.specs.Prelude.{ℕ, zero, suc, ◌+◌, ◌*◌, ◌-◌, ◌/◌, ◌%◌, ◌^◌, ◌≤◌, ◌<◌, ◌≡◌, refl, List, [], length, get_or, take, drop, set}
+use Rattle.std.proofs.lemmas.List.{append-nil, append_assoc, drop-drop, length-drop, length-take-le}
+use Rattle.std.proofs.Common.{zero-add, add-zero, add-suc, mul_assoc, pow-suc, add-one, arith, sym, ◌∙◌, shl_lt, shl_exact}
+use Rattle.std.proofs.lemmas.List.Edits.{sets, sets-eq}
+use Rattle.std.proofs.Math.ListN.{drop_of_length-le}
+use borrow.Rule.Slice.PartMut.{put_mid}
+use Rattle.files.specs.laws.EntriesLaws.{bytes_length}
 use Rattle.fields.specs.Field.{field_at}
 use Rattle.fields.specs.laws.Laws.{field_small}
 use Rattle.files.specs.Linear.{byte_of, bytes_from, bytes_of}
@@ -59,6 +63,20 @@ bytes_on s p end f x o h e =
     let k : (end - p + 7) / 8 ≡ suc ((end - (p + 8) + 7) / 8) = omega arith in
     let d : end - p - 8 ≡ end - (p + 8) = omega arith in
     rw (from_length s p (end - p), from_length s (p + 8) (end - (p + 8)), k, ← e, drop_bits s 8 p (end - p), d, add-one) refl
+
+pub bytes_count : (s : List ℕ) (p n : ℕ) → length (bytes_of (bits_from s p n)) ≡ (n + 7) / 8
+bytes_count s p n = bytes_length (bits_from s p n) ∙ rw (from_length s p n) refl
+
+-- a part of a list, written whole
+pub part_set : (o bytes part : List ℕ) (front n : ℕ) → front + n ≤ length o → length bytes ≡ n → sets (take n (drop front o)) 0 bytes ≡ part
+    → put_mid front n o part ≡ sets o front bytes
+part_set o bytes part front n h l e =
+    let m : length (take n (drop front o)) ≡ n = length-take-le n (drop front o) (omega (arith, length-drop front o)) in
+    let z : drop (length bytes) (take n (drop front o)) ≡ [] = drop_of_length-le (take n (drop front o)) (omega (arith, m, l)) in
+    let q : sets (take n (drop front o)) 0 bytes ≡ bytes =
+    sets-eq bytes (take n (drop front o)) 0 (omega (arith, m, l)) ∙ rw (zero-add, z) (append-nil bytes) in
+    let p : part ≡ bytes = sym e ∙ q in
+    rw (p, sets-eq bytes o front (omega (arith, h, l)), l, append_assoc, drop-drop n front o) refl
 
 -- bits that are fewer than a byte, shifted up
 pub shifted : (s : List ℕ) (p n x : ℕ) → n < 8 → x ≡ field_at s p n → (x * 2 ^ (8 - n) % 2 ^ 32 < 256) × (x * 2 ^ (8 - n) % 2 ^ 32 ≡ byte_of (bits_from s p n))

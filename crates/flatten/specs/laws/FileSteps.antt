@@ -1,11 +1,11 @@
 -- What the writer of the templates does at each step, and the flattener by what was read. Assumes nothing.
-use Rattle.std.specs.Prelude.{ℕ, suc, ◌+◌, ◌*◌, ◌-◌, ◌≤◌, ◌<◌, ◌≡◌, true, get_or, set}
+use Rattle.std.specs.Prelude.{ℕ, suc, ◌+◌, ◌*◌, ◌-◌, ◌≤◌, ◌<◌, ◌≡◌, true, get_or, set, Result, Ok, Err}
 use Rattle.std.proofs.Common.{add-zero, ◌∙◌, subst}
 use Rattle.std.proofs.Math.Nat.{zero-add, sub-zero}
 use native.Mathlib.Omega.{arith}
 use Rattle.std.proofs.Math.Path.{refl, sym, ap}
 use mathlib.Core.List.{List, [], ◌∷◌, ◌++◌, append_assoc}
-use Rattle.std.proofs.Math.Option.{none, some}
+use Rattle.std.proofs.Math.Option.{none}
 use borrow.Author.Tests.{le-leb, lt-leb}
 use Rattle.std.proofs.Math.ListN.{length, length-append}
 use Rattle.std.proofs.Math.Seq.{sets, get_or-append_seam}
@@ -24,7 +24,6 @@ use Rattle.files.specs.laws.TableLaws.{Few, tree_entries, row_start, tree_slot}
 use Rattle.files.specs.laws.AllGot.{got_value, field_got_lem, tree_read_lem}
 use Rattle.files.specs.laws.AcceptedLaws.{lowest_none}
 use Rattle.tree.specs.declared.Summary.{Summary}
-use Rattle.tree.specs.declared.Judged.TheVariants.{Accepted}
 use Rattle.tree.specs.Summary.{number_or64, summary_of, judged_told}
 use Rattle.tree.specs.Filled.{tree_filled}
 use Rattle.tree.specs.laws.FilledLaws.{tree_tabled, tree_rows_there}
@@ -36,11 +35,11 @@ use Rattle.lists.specs.Marks.{Has}
 use Rattle.tree.specs.Marked.{marked_all, templates_marked}
 use Rattle.tree.specs.laws.Laid.{template_has}
 use Rattle.flatten.specs.declared.Past.{Past}
-use Rattle.files.specs.declared.Outcome.{Outcome}
-use Rattle.files.specs.declared.Outcome.TheVariants.{Written, Refused}
 use Rattle.files.specs.Outcome.{into_bytes, answered, written}
 use Rattle.flatten.specs.Flatten.{flattened}
 use Rattle.flatten.specs.ToFlatten.{TemplateToWrite, TemplateDone, Flattenable, TemplatesToWrite}
+use Rattle.files.specs.declared.Refusal.{Refusal}
+use Rattle.files.specs.Refusal.{refusal}
 
 -- ---- the templates that are left, own to T, which stand at p and go into o from f on
 pub record Left (s table M : List ℕ) (T room own p f : ℕ) (o₀ o : List ℕ) : Type 0 where
@@ -129,30 +128,30 @@ all_flattenable size all M few has front (t ∷ ts) own e l h =
 -- ---- the flattener
 module _ (s old : List ℕ) where
   -- the answer r and the output o
-  abbrev pub FlattenDone : Outcome → List ℕ → Type 0
+  abbrev pub FlattenDone : Result ℕ (Refusal ℕ) → List ℕ → Type 0
   FlattenDone r o = (r ≡ answered (flattened s (length old))) × (o ≡ written old (flattened s (length old)))
 
-  flat_refused : {n p : ℕ} → flat_accepted s ≡ refused n p → FlattenDone (Refused n p) old
+  flat_refused : {n p : ℕ} → flat_accepted s ≡ refused n p → FlattenDone (Err (refusal n p)) old
   unfolding flattened then answered written
   flat_refused e = rw e (refl, refl)
 
   -- what the tree machine refuses the flattener refuses
-  pub flatten_refused : {n p : ℕ} → tree_accepted s ≡ refused n p → FlattenDone (Refused n p) old
+  pub flatten_refused : {n p : ℕ} → tree_accepted s ≡ refused n p → FlattenDone (Err (refusal n p)) old
   unfolding flat_accepted then
   flatten_refused e = flat_refused (rw e refl)
 
   module _ {ts : List Template} {q : ℕ} (accepted : flat_accepted s ≡ got ts q) where
-    accepted_short : length old < length (linear_file ts) → FlattenDone (Refused 9 (length (linear_file ts))) old
+    accepted_short : length old < length (linear_file ts) → FlattenDone (Err (refusal 9 (length (linear_file ts)))) old
     unfolding flattened then into_bytes answered written
     accepted_short h = rw (accepted, lt-leb (length (linear_file ts)) (length old) h) (refl, refl)
 
-    accepted_written : length (linear_file ts) ≤ length old → {o : List ℕ} → o ≡ sets old 0 (linear_file ts) → FlattenDone (Written (length (linear_file ts))) o
+    accepted_written : length (linear_file ts) ≤ length old → {o : List ℕ} → o ≡ sets old 0 (linear_file ts) → FlattenDone (Ok (length (linear_file ts))) o
     unfolding flattened then into_bytes answered written
     accepted_written h e =
         let z : 0 + length (linear_file ts) ≡ length (linear_file ts) = zero-add (length (linear_file ts)) in
         rw (accepted, le-leb (length (linear_file ts)) (length old) h) (refl, e ∙ (rw z at (sets-eq (linear_file ts) old 0 (rw z h))))
 
-  module _ {m : Summary} (told : judged_told (tree_accepted s) ≡ Accepted m) where
+  module _ {m : Summary} (told : judged_told (tree_accepted s) ≡ Ok m) where
     file : ReadAs (tree_accepted s) m
     file = judged_told_lem (tree_accepted s) told
 
@@ -167,7 +166,7 @@ module _ (s old : List ℕ) where
     far_is = ap (λ (x : Summary). x.far) file.summary
 
     -- 8
-    pub flatten_far : m.far < 64 → FlattenDone (Refused 8 m.far) old
+    pub flatten_far : m.far < 64 → FlattenDone (Err (refusal 8 m.far)) old
     unfolding flat_accepted then or_lowest
     flatten_far h = flat_refused (rw (file.is, number_some (lowest offset_template 0 templates) (rw far_is h), far_is) refl)
 
@@ -186,8 +185,8 @@ module _ (s old : List ℕ) where
     unfolding summary_of
     count_is = ap (λ (x : Summary). x.count) (sym file.summary)
 
-    pub flatten_short : 64 ≤ m.far → length old < m.size → FlattenDone (Refused 9 m.size) old
-    flatten_short k h = let d = accepted_short (flat k) (omega (arith, size_is)) in (ap (Refused 9) size_is ∙ d.0, d.1)
+    pub flatten_short : 64 ≤ m.far → length old < m.size → FlattenDone (Err (refusal 9 m.size)) old
+    flatten_short k h = let d = accepted_short (flat k) (omega (arith, size_is)) in (ap (λ (n : ℕ). Err (refusal 9 n)) size_is ∙ d.0, d.1)
 
     pub some_bytes : 1 ≤ m.size
     unfolding linear_file
@@ -233,9 +232,9 @@ module _ (s old : List ℕ) where
 
       pub flatten_written : bytes ≡ length old → {o : List ℕ}
           → ((w : TemplatesToWrite s table M' m.count 0 8 1 bytes) → o ≡ sets (set old 0 m.count) 1 (templates_bytes w.templates))
-          → FlattenDone (Written m.size) o
+          → FlattenDone (Ok m.size) o
       unfolding file_to_write linear_file
       flatten_written h e =
           let d = accepted_written (flat close) (omega (arith, size_is))
           (e file_to_write ∙ ap (λ (n : ℕ). sets (set old 0 n) 1 (templates_bytes templates)) count_is) in
-          (ap Written size_is ∙ d.0, d.1)
+          (ap Ok size_is ∙ d.0, d.1)

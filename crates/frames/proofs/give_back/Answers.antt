@@ -13,4 +13,4 @@ pub returns : goal.returns
 unfolding told_back return_rule
 returns c =
     let pre = c.requires in
-    record { by_index = (λ g s. rw (ne_eqb _ _ c.if-fr-eq0.false, c.clear-2.ensures, c.copy_up.ensures, c.clear.ensures, c.frame_env.ensures, c.minus-base.ensures, c.frame_count-n.ensures)); fits = omega (arith, c.frame_count-n.ensures, c.minus-base.ensures, pre) }
+    record { by_index = (λ g s. rw (ne_eqb _ _ c.if-fr-eq0.false, c.clear-2.ensures, c.copy_up.ensures, c.clear.ensures, c.frame_env-env.ensures, c.minus-base.ensures, c.frame_count-n.ensures)); fits = omega (arith, c.frame_count-n.ensures, c.minus-base.ensures, pre) }

@@ -1,14 +1,11 @@
 -- Bits and values correspond: `signed` and `int_bits` are inverse to each other between the bits below `full` and the numbers in range. Assumes nothing.
-use Rattle.std.specs.Prelude.{◌≡◌, refl, Bool, true, false, ◌&&◌, List, ℕ, suc, ◌+◌, ◌-◌, ◌/◌, ◌≤◌, ◌<◌, ◌^◌, ℤ, pos, negsuc, ltb}
+use Rattle.std.specs.Prelude.{◌≡◌, refl, Bool, true, false, ◌&&◌, List, ℕ, suc, ◌+◌, ◌-◌, ◌/◌, ◌≤◌, ◌<◌, ◌^◌, ℤ, pos, negsuc, ltb, Option, Some, None, Ok, Err}
 use Rattle.std.proofs.Common.{sym, ◌∙◌, arith, lt-ltb, le-leb, ltb-true, ltb-false, leb-true}
 use Rattle.std.specs.Int.Signed.{mag}
 use Rattle.cells.specs.Cells.{half, full, widened, int_of}
 use Rattle.cells.specs.laws.Laws.{widened_low, widened_high}
 use Rattle.integers.specs.Integers.{signed_by, signed, within, int_bits, all_integers, total_of}
-use Rattle.integers.specs.Answers.{ranged_of, sum_of}
-use Rattle.integers.specs.declared.Ranged.{Ranged}
-use Rattle.integers.specs.declared.Ranged.TheVariants.{Within, Over}
-use Rattle.integers.specs.declared.Total.TheVariants.{Exactly, NotIntegers}
+use Rattle.integers.specs.Answers.{ranged_of, sum_of, not_integers}
 
 clash : ◌≡◌ {A = ℕ} 0 1 → ⊥
 clash e = omega arith
@@ -91,34 +88,34 @@ unfolding int_bits
 signed_zero a h e = sym (bits_back a h) ∙ rw e
 
 -- ---- what an answer tells
-pub told_within : (z : ℤ) (x : ℕ) → ranged_of z ≡ Within x → (within z ≡ true) × (int_bits z ≡ x)
+pub told_within : (z : ℤ) (x : ℕ) → ranged_of z ≡ Some x → (within z ≡ true) × (int_bits z ≡ x)
 unfolding ranged_of
 told_within z x h = go (within z) refl where
   go : (t : Bool) → within z ≡ t → (within z ≡ true) × (int_bits z ≡ x)
-  go true e = let k : Within (int_bits z) ≡ Within x = rw e at h in (e, cc)
-  go false e = let k : Over ≡ Within x = rw e at h in let n : ◌≡◌ {A = ℕ} 0 1 = cc in absurd (clash n)
+  go true e = let k : Some (int_bits z) ≡ Some x = rw e at h in (e, cc)
+  go false e = let k : None ≡ Some x = rw e at h in let n : ◌≡◌ {A = ℕ} 0 1 = cc in absurd (clash n)
 
-pub told_over : (z : ℤ) → ranged_of z ≡ Over → within z ≡ false
+pub told_over : (z : ℤ) → ranged_of z ≡ None → within z ≡ false
 unfolding ranged_of
 told_over z h = go (within z) refl where
   go : (t : Bool) → within z ≡ t → within z ≡ false
-  go true e = let k : Within (int_bits z) ≡ Over = rw e at h in let n : ◌≡◌ {A = ℕ} 0 1 = cc in absurd (clash n)
+  go true e = let k : Some (int_bits z) ≡ None = rw e at h in let n : ◌≡◌ {A = ℕ} 0 1 = cc in absurd (clash n)
   go false e = e
 
-pub told_exactly : (cs : List ℕ) (r : Ranged) → sum_of cs ≡ Exactly r → (all_integers cs ≡ true) × (ranged_of (total_of cs) ≡ r)
+pub told_exactly : (cs : List ℕ) (r : Option ℕ) → sum_of cs ≡ Ok r → (all_integers cs ≡ true) × (ranged_of (total_of cs) ≡ r)
 unfolding sum_of
 told_exactly cs r h = go (all_integers cs) refl where
   go : (t : Bool) → all_integers cs ≡ t → (all_integers cs ≡ true) × (ranged_of (total_of cs) ≡ r)
-  go true e = let k : Exactly (ranged_of (total_of cs)) ≡ Exactly r = rw e at h in (e, cc)
-  go false e = let k : NotIntegers ≡ Exactly r = rw e at h in let n : ◌≡◌ {A = ℕ} 0 1 = cc in absurd (clash n)
+  go true e = let k : Ok (ranged_of (total_of cs)) ≡ Ok r = rw e at h in (e, cc)
+  go false e = let k : Err not_integers ≡ Ok r = rw e at h in let n : ◌≡◌ {A = ℕ} 0 1 = cc in absurd (clash n)
 
-pub told_not_integers : (cs : List ℕ) → sum_of cs ≡ NotIntegers → all_integers cs ≡ false
+pub told_not_integers : (cs : List ℕ) → sum_of cs ≡ Err not_integers → all_integers cs ≡ false
 unfolding sum_of
 told_not_integers cs h = go (all_integers cs) refl where
   go : (t : Bool) → all_integers cs ≡ t → all_integers cs ≡ false
-  go true e = let k : Exactly (ranged_of (total_of cs)) ≡ NotIntegers = rw e at h in let n : ◌≡◌ {A = ℕ} 0 1 = cc in absurd (clash n)
+  go true e = let k : Ok (ranged_of (total_of cs)) ≡ Err not_integers = rw e at h in let n : ◌≡◌ {A = ℕ} 0 1 = cc in absurd (clash n)
   go false e = e
 
 -- the bits that a function answers are below `full`
-pub answer_fits : (z : ℤ) (x : ℕ) → ranged_of z ≡ Within x → x < full
+pub answer_fits : (z : ℤ) (x : ℕ) → ranged_of z ≡ Some x → x < full
 answer_fits z x h = let k = told_within z x h in rw k.1 at (bits_fit z k.0)

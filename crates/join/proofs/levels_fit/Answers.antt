@@ -1,15 +1,13 @@
--- `join::levels_fit` meets its contract: a list is read where its levels are there. Assumes nothing.
-use mathlib.Core.Path.{sym, ◌∙◌}
-use Rattle.lists.specs.laws.ReadLaws.{listed_done, listed_refused}
-use Rattle.join.specs.laws.OperandsLaws.{levels_read, levels_refused}
+-- `join::levels_fit` meets its contract: a list that was read has at most 15 levels below it, and it is read where its levels are there. Assumes nothing.
+use mathlib.Core.Path.{ap, ◌∙◌}
+use Rattle.std.specs.Prelude.{is_ok}
+use Rattle.join.specs.laws.OperandsLaws.{levels_most, levels_told}
 use Rattle.join.proofs.levels_fit.Goals as goal
 
-pub returns-in-Done : goal.returns-in-Done
-returns-in-Done c =
-    let pre = c.requires in
-    λ w. let l = listed_done _ _ _ _ _ (sym c.read_list.ensures.value ∙ c.in-Done.is) in levels_read _ _ _ pre.2 w l.0 _ l.1
+pub returns-then-most-eq15 : goal.returns-then-most-eq15
+returns-then-most-eq15 c = levels_most _ c.if-most-eq15.true
 
-pub returns-in-Refused : goal.returns-in-Refused
-returns-in-Refused c =
+pub returns : goal.returns
+returns c =
     let pre = c.requires in
-    λ w. levels_refused _ _ _ pre.2 w _ _ (listed_refused _ _ _ _ _ (sym c.read_list.ensures.value ∙ c.in-Refused.is))
+    λ w. c.is_ok.ensures.value ∙ ap is_ok c.read_list.ensures.value ∙ levels_told _ _ _ pre.1 w _ _

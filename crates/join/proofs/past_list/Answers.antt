@@ -4,8 +4,8 @@ use Rattle.files.specs.laws.AllGot.{got_value, refused_got}
 use Rattle.lists.specs.laws.ReadLaws.{listed_done, listed_refused}
 use Rattle.join.proofs.past_list.Goals as goal
 
-pub returns-in-Done : goal.returns-in-Done
-returns-in-Done c = λ k q e. let l = listed_done _ _ _ _ _ (sym c.read_list.ensures.value ∙ c.in-Done.is) in (got_value (sym l.1 ∙ e)).1
+pub returns-in-Ok : goal.returns-in-Ok
+returns-in-Ok c = λ k q e. let l = listed_done _ _ _ _ _ (sym c.read_list.ensures.value ∙ c.in-Ok.is) in (got_value (sym l.1 ∙ e)).1
 
-pub returns-in-Refused : goal.returns-in-Refused
-returns-in-Refused c = λ k q e. let l = listed_refused _ _ _ _ _ (sym c.read_list.ensures.value ∙ c.in-Refused.is) in refused_got (sym l ∙ e)
+pub returns-in-Err : goal.returns-in-Err
+returns-in-Err c = λ k q e. let l = listed_refused _ _ _ _ _ (sym c.read_list.ensures.value ∙ c.in-Err.is) in refused_got (sym l ∙ e)

@@ -12,7 +12,7 @@ returns c =
     let e₄ = c.copy_bits.ensures in
     let s₁ = c.since.ensures in
     let s₂ = c.since-2.ensures in record {
-      result_value = omega (arith, e₁.0, e₂.0, e₃.0, e₄.0, s₁, s₂, p.le_from.0, p.le_from.2);
-      out_after = entries_put _ _ _ _ _ _ _ _ _ _ _ _ _ _ _ _ s₁ s₂ (omega (arith, s₁, s₂, p.le_from.0, p.le_from.2, p.second_bound)) e₁.1 e₁.0 e₂.1 e₂.0 e₃.1 e₃.0
+      place_after = omega (arith, e₁.0, e₂.0, e₃.0, e₄.0, s₁, s₂, p.lists_in.0, p.lists_in.2);
+      out_after = entries_put _ _ _ _ _ _ _ _ _ _ _ _ _ _ _ _ s₁ s₂ (omega (arith, s₁, s₂, p.lists_in.0, p.lists_in.2, p.room)) e₁.1 e₁.0 e₂.1 e₂.0 e₃.1 e₃.0
           e₄.1;
     }

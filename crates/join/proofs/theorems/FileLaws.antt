@@ -1,7 +1,7 @@
 -- The joined file: its refusals, its length and its bits, by what the functions found. Assumes nothing.
 use Prim.Native.Nat.{ℕ, suc, ◌+◌, ◌*◌, ◌-◌, ◌/◌, ◌≤◌, ◌<◌, max}
 use Rattle.std.proofs.Common.{arith, sym, ◌∙◌, length-append, drop_of_length-le, length-take-le}
-use Rattle.std.specs.Prelude.{◌≡◌, Bool, true, false, get_or, drop, take, leb}
+use Rattle.std.specs.Prelude.{◌≡◌, Bool, true, false, get_or, drop, take, leb, Result, Ok, Err}
 use Rattle.std.proofs.Math.Path.{refl, ap}
 use mathlib.Core.List.{List, [], ◌∷◌, ◌++◌, append_assoc, append-nil}
 use Rattle.std.proofs.Math.Option.{none}
@@ -34,8 +34,6 @@ use Rattle.tree_file.proofs.theorems.Written.{put_tree}
 use Rattle.files.specs.Outcome.{into_bytes, answered, written}
 use Rattle.join.specs.declared.First.{First}
 use Rattle.join.specs.declared.Joint.{Joint}
-use Rattle.files.specs.declared.Outcome.{Outcome}
-use Rattle.files.specs.declared.Outcome.TheVariants.{Written, Refused}
 use Rattle.join.specs.Join.{moved, joined_first, indices_checked, prologue_checked, unclosed, second_checked, joined_templates, within_limits, joined}
 use Rattle.join.specs.Join.{joined_file}
 use Rattle.join.specs.Copied.{entries_of, entries_copied, lists_copied}
@@ -45,6 +43,8 @@ use Rattle.join.specs.laws.OperandsLaws.{file_short}
 use Rattle.join.specs.laws.JudgedLaws.{One, one}
 use Rattle.join.specs.laws.PutLaws.{Some, some, operand_count_lem}
 use Rattle.tree_file.specs.laws.Writable.{TreeWritable}
+use Rattle.files.specs.declared.Refusal.{Refusal}
+use Rattle.files.specs.Refusal.{refusal}
 
 module _ (f : ℕ → ℕ) where
   body_count : (c : Code) → length (body_bits (reindex f c)) + 5 ≡ bits c
@@ -164,10 +164,10 @@ module _ {a b : List ℕ} {count : ℕ} (k : Both a b count) where
   writable_b = first_writable b t ts k.end_b k.read_b
 
   -- the answer r and the output o
-  abbrev pub JoinDone : List ℕ → Outcome → List ℕ → Type 0
+  abbrev pub JoinDone : List ℕ → Result ℕ (Refusal ℕ) → List ℕ → Type 0
   JoinDone old r o = (r ≡ answered (joined_file a b (length old))) × (o ≡ written old (joined_file a b (length old)))
 
-  join_refused : (old : List ℕ) (n q : ℕ) → joined_file a b (length old) ≡ refused n q → JoinDone old (Refused n q) old
+  join_refused : (old : List ℕ) (n q : ℕ) → joined_file a b (length old) ≡ refused n q → JoinDone old (Err (refusal n q)) old
   unfolding answered written
   join_refused old n q e = rw e (refl, refl)
 
@@ -233,7 +233,7 @@ module _ {a b : List ℕ} {count : ℕ} (k : Both a b count) where
         (omega (arith, past_x), omega (arith, past_x), omega (arith, e), omega (arith, e))
 
     -- 30
-    pub join_many : (old : List ℕ) → 255 < x.entries + y.entries → JoinDone old (Refused 30 0) old
+    pub join_many : (old : List ℕ) → 255 < x.entries + y.entries → JoinDone old (Err (refusal 30 0)) old
     unfolding within_limits joined_first then
     join_many old h =
         let n : 255 < length (p.entries ++ t.entries) = rw (length-append p.entries t.entries) (omega (arith, entries_x, entries_y)) in
@@ -269,7 +269,7 @@ module _ {a b : List ℕ} {count : ℕ} (k : Both a b count) where
           r_is = fit code_y
 
           -- 4
-          pub join_deep : (old : List ℕ) → r ≡ false → JoinDone old (Refused 4 0) old
+          pub join_deep : (old : List ℕ) → r ≡ false → JoinDone old (Err (refusal 4 0)) old
           unfolding within_limits joined_first then
           join_deep old e =
               let h : 15 - j.depth < levels t.code = leb-false (levels t.code) (15 - j.depth) (sym r_is ∙ e) in
@@ -300,7 +300,7 @@ module _ {a b : List ℕ} {count : ℕ} (k : Both a b count) where
               size_is = e ∙ ap (λ n. (n + 7) / 8) sums ∙ sym (file_length js)
 
               -- 1
-              pub join_long : (old : List ℕ) → 65536 < size → JoinDone old (Refused 1 0) old
+              pub join_long : (old : List ℕ) → 65536 < size → JoinDone old (Err (refusal 1 0)) old
               unfolding within_limits joined_first then
               join_long old h =
                   join_refused old 1 0 (is_joined (length old) ∙ rw (entries_fit_lem, levels_fit, lt-leb (length (tree_file js)) 65536 (rw size_is at h)) refl)
@@ -311,7 +311,7 @@ module _ {a b : List ℕ} {count : ℕ} (k : Both a b count) where
                 is_file n = is_joined n ∙ rw (entries_fit_lem, levels_fit, le-leb (length (tree_file js)) 65536 (rw size_is at short)) refl
 
                 -- 9
-                pub join_short : (old : List ℕ) → length old < size → JoinDone old (Refused 9 size) old
+                pub join_short : (old : List ℕ) → length old < size → JoinDone old (Err (refusal 9 size)) old
                 unfolding into_bytes
                 join_short old h =
                     rw size_is
@@ -429,7 +429,7 @@ module _ {a b : List ℕ} {count : ℕ} (k : Both a b count) where
                         refl_le : length (tree_file js) ≤ length (tree_file js)
                         refl_le = omega arith
 
-                    pub join_written : (o' : List ℕ) → o' ≡ o ++ drop size old → JoinDone old (Written size) o'
+                    pub join_written : (o' : List ℕ) → o' ≡ o ++ drop size old → JoinDone old (Ok size) o'
                     unfolding into_bytes answered written
                     join_written o' e =
                         rw (is_file (length old), le-leb (length (tree_file js)) (length old) (rw size_is at room))

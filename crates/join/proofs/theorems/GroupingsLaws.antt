@@ -1,5 +1,5 @@
 -- Both groupings agree (request 11). Assumes nothing.
-use Rattle.std.specs.Prelude.{ℕ, ◌+◌, ◌*◌, ◌/◌, ◌≤◌, max, ◌≡◌, Bool, cond, drop}
+use Rattle.std.specs.Prelude.{ℕ, ◌+◌, ◌*◌, ◌/◌, ◌≤◌, max, ◌≡◌, Bool, cond, drop, Result, Ok}
 use Rattle.std.proofs.Common.{arith, ◌∙◌}
 use Rattle.std.proofs.Math.Path.{refl, sym, ap}
 use Rattle.std.proofs.Math.Bool.{true, false}
@@ -26,8 +26,6 @@ use Rattle.tree_file.specs.laws.Lengths.{template_length}
 use Rattle.tree_file.proofs.theorems.Written.{file_length}
 use Rattle.rewrite.specs.laws.ReindexLaws.{same_levels, reindex_twice}
 use Rattle.files.specs.Outcome.{into_bytes, answered, written}
-use Rattle.files.specs.declared.Outcome.{Outcome}
-use Rattle.files.specs.declared.Outcome.TheVariants.{Written}
 use Rattle.join.specs.Adjoin.{open_adjoin, joint_depth}
 use Rattle.join.specs.laws.AdjoinLaws.{adjoin_assoc, adjoin_levels, adjoin_reindex}
 use Rattle.join.proofs.theorems.FileLaws.{joined_size}
@@ -35,6 +33,7 @@ use Rattle.join.specs.Join.{is_prologue, prologue_checked, second_checked, moved
 use Rattle.join.specs.Groupings.{left_grouping, right_grouping, Agree, GroupingsAgree, file_within, left_order, right_order, stacked}
 use Rattle.join.proofs.theorems.JoinedLaws.{Sound, second_sound, prologue_second, second_prologue, file_placed, second_back, prologue_back, Within, within}
 use Rattle.join.proofs.theorems.JoinedLaws.{prologue_as, joined_sound}
+use Rattle.files.specs.declared.Refusal.{Refusal}
 
 -- ---- with ample output
 module _ (n : ℕ) (ample : 65536 ≤ n) where
@@ -338,7 +337,7 @@ accepted_exactly a b c n ample =
 
 -- ---- of the function, from its promise alone
 -- join(a, b, out) answered r, where out held old and then new
-pub record JoinPromise (a b old : List ℕ) (r : Outcome) (new : List ℕ) : Type 0 where
+pub record JoinPromise (a b old : List ℕ) (r : Result ℕ (Refusal ℕ)) (new : List ℕ) : Type 0 where
   pub answer : r ≡ answered (joined_file a b (length old))
   pub output : new ≡ written old (joined_file a b (length old))
 
@@ -376,23 +375,23 @@ module _ (a b : List ℕ) (n : ℕ) (ample : 65536 ≤ n) where
           into_all n ample (tree_file us) q h ∙ sym (into_all 65536 (omega arith) (tree_file us) q h)
 
   -- what was written is the joined file, for any ample output
-  pub is_written : {old new : List ℕ} {k : ℕ} → length old ≡ n → JoinPromise a b old (Written k) new
+  pub is_written : {old new : List ℕ} {k : ℕ} → length old ≡ n → JoinPromise a b old (Ok k) new
       → IsFile k (take k new) (joined_file a b 65536)
   unfolding answered written
   is_written {old} {new} {k} l p = go (joined_file a b (length old)) refl
     where
       go : (g : Got (List ℕ)) → joined_file a b (length old) ≡ g → IsFile k (take k new) (joined_file a b 65536)
-      go (refused m q) e = let z : Written k ≡ answered (refused m q) = rw e at p.answer in clash (cc)
+      go (refused m q) e = let z : Ok k ≡ answered (refused m q) = rw e at p.answer in clash (cc)
       go (got w q) e =
-          let z : Written k ≡ answered (got w q) = rw e at p.answer in
+          let z : Ok k ≡ answered (got w q) = rw e at p.answer in
           let m : k ≡ length w = cc in
           let o : new ≡ written old (got w q) = rw e at p.output in
           let t : take k new ≡ w = rw (m, o) (take-append_seam w (drop (length w) old)) in
           record { past = q; is = sym same_output ∙ ap (joined_file a b) (sym l) ∙ rw t e; long = rw t m }
 
   -- and what is the joined file is written
-  pub writes : {old new : List ℕ} {r : Outcome} {w : List ℕ} {q : ℕ} → length old ≡ n → JoinPromise a b old r new → joined_file a b 65536 ≡ got w q
-      → (r ≡ Written (length w)) × (take (length w) new ≡ w)
+  pub writes : {old new : List ℕ} {r : Result ℕ (Refusal ℕ)} {w : List ℕ} {q : ℕ} → length old ≡ n → JoinPromise a b old r new → joined_file a b 65536 ≡ got w q
+      → (r ≡ Ok (length w)) × (take (length w) new ≡ w)
   unfolding answered written
   writes {old} {new} {r} {w} {q} l p e =
       let f : joined_file a b (length old) ≡ got w q = ap (joined_file a b) l ∙ same_output ∙ e in
@@ -400,14 +399,14 @@ module _ (a b : List ℕ) (n : ℕ) (ample : 65536 ≤ n) where
       (rw f at p.answer, rw o (take-append_seam w (drop (length w) old)))
 
 -- a first join answered r and left new; the second, of what it wrote, gives the k bytes w, whatever ample output it has
-pub record Follows (Second : List ℕ → List ℕ → Outcome → List ℕ → Type 0) (r : Outcome) (new : List ℕ) (k : ℕ) (w : List ℕ) : Type 0 where
+pub record Follows (Second : List ℕ → List ℕ → Result ℕ (Refusal ℕ) → List ℕ → Type 0) (r : Result ℕ (Refusal ℕ)) (new : List ℕ) (k : ℕ) (w : List ℕ) : Type 0 where
   pub size : ℕ
-  pub first : r ≡ Written size
-  pub second : (old' new' : List ℕ) (r' : Outcome) → 65536 ≤ length old' → Second (take size new) old' r' new' → (r' ≡ Written k) × (take k new' ≡ w)
+  pub first : r ≡ Ok size
+  pub second : (old' new' : List ℕ) (r' : Result ℕ (Refusal ℕ)) → 65536 ≤ length old' → Second (take size new) old' r' new' → (r' ≡ Ok k) × (take k new' ≡ w)
 
-module _ (a b c : List ℕ) {o₁ n₁ o₂ n₂ o₃ n₃ : List ℕ} {m k : ℕ} {r : Outcome} (l₁ : 65536 ≤ length o₁) (l₂ : 65536 ≤ length o₂) (l₃ : 65536 ≤ length o₃) where
+module _ (a b c : List ℕ) {o₁ n₁ o₂ n₂ o₃ n₃ : List ℕ} {m k : ℕ} {r : Result ℕ (Refusal ℕ)} (l₁ : 65536 ≤ length o₁) (l₂ : 65536 ≤ length o₂) (l₃ : 65536 ≤ length o₃) where
   -- THE LAW: where both joins of (a b) c are written, both of a (b c) are, and the bytes are the same
-  pub functions_left : JoinPromise a b o₁ (Written m) n₁ → JoinPromise (take m n₁) c o₂ (Written k) n₂ → JoinPromise b c o₃ r n₃
+  pub functions_left : JoinPromise a b o₁ (Ok m) n₁ → JoinPromise (take m n₁) c o₂ (Ok k) n₂ → JoinPromise b c o₃ r n₃
       → Follows (λ x old r new. JoinPromise a x old r new) r n₃ k (take k n₂)
   unfolding left_grouping right_grouping then
   functions_left p₁ p₂ p₃ =
@@ -421,11 +420,11 @@ module _ (a b c : List ℕ) {o₁ n₁ o₂ n₂ o₃ n₃ : List ℕ} {m k : �
         size = length bc;
         first = w.0;
         second = λ old new r' l p.
-            (let v = writes a bc (length old) l refl (rw w.1 at p) on in (v.0 ∙ ap Written (sym f₂.long), ap (λ (i : ℕ). take i new) f₂.long ∙ v.1));
+            (let v = writes a bc (length old) l refl (rw w.1 at p) on in (v.0 ∙ ap Ok (sym f₂.long), ap (λ (i : ℕ). take i new) f₂.long ∙ v.1));
       })
 
   -- and conversely
-  pub functions_right : JoinPromise b c o₁ (Written m) n₁ → JoinPromise a (take m n₁) o₂ (Written k) n₂ → JoinPromise a b o₃ r n₃
+  pub functions_right : JoinPromise b c o₁ (Ok m) n₁ → JoinPromise a (take m n₁) o₂ (Ok k) n₂ → JoinPromise a b o₃ r n₃
       → Follows (λ x old r new. JoinPromise x c old r new) r n₃ k (take k n₂)
   unfolding left_grouping right_grouping then
   functions_right p₁ p₂ p₃ =
@@ -439,5 +438,5 @@ module _ (a b c : List ℕ) {o₁ n₁ o₂ n₂ o₃ n₃ : List ℕ} {m k : �
         size = length ab;
         first = w.0;
         second = λ old new r' l p.
-            (let v = writes ab c (length old) l refl (rw w.1 at p) on in (v.0 ∙ ap Written (sym f₂.long), ap (λ (i : ℕ). take i new) f₂.long ∙ v.1));
+            (let v = writes ab c (length old) l refl (rw w.1 at p) on in (v.0 ∙ ap Ok (sym f₂.long), ap (λ (i : ℕ). take i new) f₂.long ∙ v.1));
       })

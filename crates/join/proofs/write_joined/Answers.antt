@@ -10,18 +10,18 @@ use Rattle.join.proofs.write_joined.Goals as goal
 pub put_lists-requires : goal.put_lists-requires
 put_lists-requires c =
     let p = c.requires in
-    let x = p.le_start in
-    let y = p.le_start_2 in
-    let r = p.entries_bound in
+    let x = p.joint_in in
+    let y = p.file_in in
+    let r = p.room in
     let e = c.put_entries-at.ensures in
     let m = ap length e.out_after ∙ put_length _ _ _ in
-    record { a_len_bound = (p.a_len_bound.0, p.a_len_bound.1, omega (arith, m, p.a_len_bound.2), p.a_len_bound.3); start_le_joint = (x.1, x.2, x.3); start_bound = (y.1, y.2, y.3); start_bound_2 = omega (arith, m, e.result_value, x, y, r); tokens_at = p.tokens_at }
+    record { sizes = (p.sizes.0, p.sizes.1, omega (arith, m, p.sizes.2)); joint_in = (x.1, x.2, x.3); file_in = (y.1, y.2, y.3); room = omega (arith, m, e.place_after, x, y, r); tokens_at = p.tokens_at }
 
 pub returns : goal.returns
 returns c =
     let p = c.requires in
-    let x = p.le_start in
-    let y = p.le_start_2 in
+    let x = p.joint_in in
+    let y = p.file_in in
     let e = c.put_entries-at.ensures in
     λ w. both_put c.args.a.now c.args.b.now c.args.out.now _ _ _ c.args.x.start.0 c.args.y.start.0 c.args.count (c.args.x.entries + c.args.y.entries) _ x.0 y.0
-    (omega (arith, x, y, p.entries_bound)) e.out_after e.result_value (c.put_lists.ensures w)
+    (omega (arith, x, y, p.entries_few, p.room)) e.out_after e.place_after (c.put_lists.ensures w)

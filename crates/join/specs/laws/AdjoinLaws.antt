@@ -1,11 +1,11 @@
 -- The laws of open-adjoin: associativity, flat code, offsets, levels, open and closed, renumbering, and the bits of what is joined. Assumes nothing.
-use Rattle.std.specs.Prelude.{ℕ, suc, ◌+◌, ◌*◌, ◌≤◌, max, ◌≡◌, refl, Bool, true, false, ◌&&◌, ◌||◌, List, [], ◌∷◌, ◌++◌, length, get_or}
-use Rattle.std.proofs.Common.{arith, sym, ap, ◌∙◌, append_assoc, append-nil, length-append}
+use Rattle.std.specs.Prelude.{ℕ, ◌+◌, ◌≤◌, max, ◌≡◌, refl, Bool, true, false, ◌&&◌, ◌||◌, List, ◌∷◌, ◌++◌, length, get_or}
+use Rattle.std.proofs.Common.{arith, sym, ap, ◌∙◌, append_assoc, length-append}
 use Rattle.std.proofs.Math.Bool.{and-eq-true_iff}
 use Rattle.cells.specs.laws.Laws.{clash}
 use Rattle.files.specs.Code.{Code, done, neutral, return, call, unless_false, make_cont, bits}
 use Rattle.files.specs.Grammar.{is_empty, is_open, is_closed, each_neutral}
-use Rattle.files.specs.Flat.{offset, conditional, flat, fits_offset, arms_fit, offsets_fit}
+use Rattle.files.specs.Flat.{conditional, flat, fits_offset, arms_fit, offsets_fit}
 use Rattle.files.specs.Valid.{Valid}
 use Rattle.files.specs.Linear.{bits_of}
 use Rattle.readback.specs.laws.Bits.{AreBits, length_bits}

@@ -1,10 +1,8 @@
 -- What an operand is refused for, or accepted as, by what its readers answer. Assumes nothing.
-use Rattle.std.specs.Prelude.{ℕ, ◌+◌, ◌*◌, ◌≤◌, ◌<◌, ◌≡◌, Bool, true, false, cond, List, [], ◌∷◌, length, get_or, replicate}
-use Rattle.std.proofs.Common.{arith, ◌∙◌, eqb-true}
+use Rattle.std.specs.Prelude.{ℕ, ◌+◌, ◌≤◌, ◌<◌, ◌≡◌, Bool, true, false, List, [], ◌∷◌, length, get_or, Ok, Err}
+use Rattle.std.proofs.Common.{arith, ◌∙◌}
 use Rattle.std.proofs.Math.Path.{refl, sym, ap}
-use Rattle.std.proofs.Math.Option.{Option, none, some}
-use Rattle.std.proofs.lemmas.List.{length-replicate}
-use Rattle.std.proofs.Math.Dec.{eqb}
+use Rattle.std.proofs.Math.Option.{none}
 use Rattle.cells.specs.laws.Laws.{clash}
 use Rattle.cells.specs.declared.BitPlace.{BitPlace}
 use Rattle.files.specs.Code.{Code, bits}
@@ -15,27 +13,23 @@ use Rattle.files.specs.Tree.{Template, tree_read}
 use Rattle.files.specs.Grammar.{is_open, is_closed, lowest, closed_template, indexed_template}
 use Rattle.files.specs.laws.AcceptedLaws.{lowest_none}
 use Rattle.files.specs.Accepted.{or_lowest}
+use Rattle.lists.specs.declared.Class.{Class}
+use Rattle.lists.specs.declared.Class.TheVariants.{Empty, Open, Closed, Neither}
 use Rattle.lists.specs.declared.Facts.{Facts}
-use Rattle.lists.specs.declared.Listed.TheVariants.{Done as ListDone, Refused as ListRefused}
-use Rattle.lists.specs.Facts.{class_of, facts_of, listed}
+use Rattle.lists.specs.Facts.{says_open, says_closed, class_of, facts_of, listed}
 use Rattle.lists.specs.laws.PassLaws.{open_class, closed_class}
 use Rattle.lists.specs.laws.ReadLaws.{listed_done, listed_refused}
 use Rattle.tree.specs.declared.Summary.{Summary}
-use Rattle.tree.specs.declared.TreeFile.TheVariants.{Read, Refused as RefusedTree}
-use Rattle.tree.specs.declared.Judged.{Judged}
-use Rattle.tree.specs.declared.Judged.TheVariants.{Accepted, Refused}
 use Rattle.tree.specs.Summary.{number_or64, summary_of, tree_told, judged_told}
 use Rattle.files.specs.Room.{ZerosFor}
 use Rattle.tree.specs.Filled.{tree_filled}
 use Rattle.tree.specs.laws.FilledLaws.{tree_tabled}
 use Rattle.tree.specs.laws.Judged.{ReadAs, tree_told_lem, number_some, number_none}
-use Rattle.join.specs.Join.{is_prologue, indices_checked, prologue_checked, unclosed, second_checked}
+use Rattle.join.specs.Join.{is_prologue, indices_checked, prologue_checked, unclosed, second_checked, operand_checked}
 use Rattle.join.specs.Operands.{Operand, Unclosed}
 use Rattle.join.specs.laws.OperandsLaws.{file_count, slot_start, list_read}
-
--- a table of zeros
-pub zeros_length : (n : ℕ) → ◌≡◌ {A = ℕ} (length (replicate {A = ℕ} n 0)) n
-zeros_length n = rw length-replicate refl
+use Rattle.files.specs.Refusal.{refusal}
+use Rattle.files.specs.laws.RefusalLaws.{err_number, err_place}
 
 -- ---- a prologue has one template
 pub more_templates : (ts : List Template) → (length ts ≡ 1 → ⊥) → false ≡ is_prologue ts
@@ -65,22 +59,28 @@ module _ {s table : List ℕ} {count : ℕ} (w : Operand s table count) (single 
       let z : get_or table 0 0 ≡ t.start = slot_start s (t ∷ []) w.past r 0 t (omega arith) w.size (rw it.is at w.filled) in
       ap (list_at s 15) (at_is ∙ z) ∙ list_read s (t ∷ []) w.past r 0 t (omega arith)
 
-  pub prologue_class : (q : BitPlace) (f : Facts) → listed table 0 (list_at s 15 at) ≡ ListDone q f → eqb f.class 1 ≡ is_prologue w.templates
+  pub prologue_class : (q : BitPlace) (f : Facts) → listed table 0 (list_at s 15 at) ≡ Ok (q, f) → says_open f.class ≡ is_prologue w.templates
   unfolding is_prologue facts_of
   prologue_class q f e =
       let x = listed_done table 0 (list_at s 15 at) q f e in
       let c : x.0 ≡ it.the.code = (got_value (sym x.1 ∙ list_is)).0 in
       let k : class_of x.0 ≡ f.class = ap (λ (y : Facts). y.class) x.2 in
-      rw it.is (ap (λ n. eqb n 1) (sym k) ∙ sym (open_class x.0) ∙ ap is_open c)
+      rw it.is (ap says_open (sym k) ∙ sym (open_class x.0) ∙ ap is_open c)
 
-  pub prologue_refused : (n : ℕ) (q : BitPlace) → listed table 0 (list_at s 15 at) ≡ ListRefused n q → false ≡ is_prologue w.templates
+  pub prologue_refused : (n : ℕ) (q : BitPlace) → listed table 0 (list_at s 15 at) ≡ Err (refusal n q) → false ≡ is_prologue w.templates
   prologue_refused n q e = refused_got (sym (listed_refused table 0 (list_at s 15 at) n q e) ∙ list_is)
 
 -- ---- where all lists are closed there is no prologue
+one_said : (k : Class) → says_closed k ≡ true → says_open k ≡ false
+unfolding says_open says_closed
+one_said Empty e = refl
+one_said Open e = clash (cc)
+one_said Closed e = refl
+one_said Neither e = refl
+
 closed_not_open : (c : Code) → is_closed c ≡ true → is_open c ≡ false
 closed_not_open c e =
-    let k : class_of c ≡ 2 = eqb-true (class_of c) 2 (sym (closed_class c) ∙ e) in
-    open_class c ∙ rw k refl
+    open_class c ∙ one_said (class_of c) (sym (closed_class c) ∙ e)
 
 none_open : (ts : List Template) → lowest closed_template 0 ts ≡ none → false ≡ is_prologue ts
 unfolding is_prologue
@@ -94,7 +94,7 @@ all_closed {s} u h w =
     none_open w.templates (number_none closed_template 0 w.templates few (rw (u w) h))
 
 -- ---- a file that was read
-module _ (s : List ℕ) {m : Summary} (told : tree_told (tree_read s) ≡ Read m) where
+module _ (s : List ℕ) {m : Summary} (told : tree_told (tree_read s) ≡ Ok m) where
   pub file : ReadAs (tree_read s) m
   file = tree_told_lem (tree_read s) told
 
@@ -139,68 +139,50 @@ module _ (s : List ℕ) {m : Summary} (told : tree_told (tree_read s) ≡ Read m
   unfolding indices_checked or_lowest
   misnamed h = rw (number_some (lowest indexed_template 0 ts) (rw misnamed_is h), misnamed_is) refl
 
-  named : 64 ≤ m.misnamed → judged_told (indices_checked ts file.past) ≡ Accepted m
+  named : 64 ≤ m.misnamed → judged_told (indices_checked ts file.past) ≡ Ok m
   unfolding indices_checked or_lowest judged_told
-  named h = rw (number_none indexed_template 0 ts few (rw misnamed_is h)) (ap Accepted file.summary)
+  named h = rw (number_none indexed_template 0 ts few (rw misnamed_is h)) (ap Ok file.summary)
 
-  -- the first operand
-  module _ (opened : is_prologue ts ≡ true) where
-    prologue_is : prologue_checked s ≡ indices_checked ts file.past
-    unfolding prologue_checked then
-    prologue_is = rw (file.is, opened) refl
+  -- an operand that passes 6
+  pub operand_open : (or_closed : Bool) → is_prologue ts ≡ true → operand_checked or_closed s ≡ indices_checked ts file.past
+  unfolding prologue_checked second_checked then unclosed or_lowest
+  operand_open false e = rw (file.is, e) refl
+  operand_open true e = rw (file.is, e) refl
 
-    pub prologue_misnamed : m.misnamed < 64 → Refused 7 m.misnamed ≡ judged_told (prologue_checked s)
+  pub operand_closed : (or_closed : Bool) → or_closed ≡ true → is_prologue ts ≡ false → 64 ≤ m.unclosed
+      → operand_checked or_closed s ≡ indices_checked ts file.past
+  unfolding second_checked then unclosed or_lowest
+  operand_closed false c e h = clash (cc)
+  operand_closed true c e h = rw (file.is, e, number_none closed_template 0 ts few (rw unclosed_is h)) refl
+
+  module _ {g : Got (List Template)} (passed : g ≡ indices_checked ts file.past) where
+    pub operand_misnamed : m.misnamed < 64 → Err (refusal 7 m.misnamed) ≡ judged_told g
     unfolding judged_told
-    prologue_misnamed h = rw (prologue_is, misnamed h) refl
+    operand_misnamed h = rw (passed, misnamed h) refl
 
-    pub prologue_good : 64 ≤ m.misnamed → Accepted m ≡ judged_told (prologue_checked s)
-    prologue_good h = sym (ap judged_told prologue_is ∙ named h)
+    pub operand_good : 64 ≤ m.misnamed → Ok m ≡ judged_told g
+    operand_good h = sym (ap judged_told passed ∙ named h)
 
-    -- the second operand as a prologue
-    second_open : second_checked s ≡ indices_checked ts file.past
-    unfolding second_checked then unclosed or_lowest
-    second_open = rw (file.is, opened) refl
+  -- 6
+  pub operand_other : (or_closed : Bool) → or_closed ≡ false → is_prologue ts ≡ false → Err (refusal 6 0) ≡ judged_told (operand_checked or_closed s)
+  unfolding prologue_checked then judged_told
+  operand_other false c e = rw (file.is, e) refl
+  operand_other true c e = clash (cc)
 
-    pub second_open_misnamed : m.misnamed < 64 → Refused 7 m.misnamed ≡ judged_told (second_checked s)
-    unfolding judged_told
-    second_open_misnamed h = rw (second_open, misnamed h) refl
-
-    pub second_open_good : 64 ≤ m.misnamed → Accepted m ≡ judged_told (second_checked s)
-    second_open_good h = sym (ap judged_told second_open ∙ named h)
-
-  module _ (other : is_prologue ts ≡ false) where
-    pub prologue_other : Refused 6 0 ≡ judged_told (prologue_checked s)
-    unfolding prologue_checked then judged_told
-    prologue_other = rw (file.is, other) refl
-
-    -- the second operand
-    pub second_unclosed : m.unclosed < 64 → Refused 6 m.unclosed ≡ judged_told (second_checked s)
-    unfolding second_checked then unclosed or_lowest judged_told
-    second_unclosed h = rw (file.is, other, number_some (lowest closed_template 0 ts) (rw unclosed_is h), unclosed_is) refl
-
-    module _ (closed : 64 ≤ m.unclosed) where
-      second_closed : second_checked s ≡ indices_checked ts file.past
-      unfolding second_checked then unclosed or_lowest
-      second_closed = rw (file.is, other, number_none closed_template 0 ts few (rw unclosed_is closed)) refl
-
-      pub second_misnamed : m.misnamed < 64 → Refused 7 m.misnamed ≡ judged_told (second_checked s)
-      unfolding judged_told
-      second_misnamed h = rw (second_closed, misnamed h) refl
-
-      pub second_good : 64 ≤ m.misnamed → Accepted m ≡ judged_told (second_checked s)
-      second_good h = sym (ap judged_told second_closed ∙ named h)
+  pub operand_unclosed : (or_closed : Bool) → or_closed ≡ true → is_prologue ts ≡ false → m.unclosed < 64
+      → Err (refusal 6 m.unclosed) ≡ judged_told (operand_checked or_closed s)
+  unfolding second_checked then unclosed or_lowest judged_told
+  operand_unclosed false c e h = clash (cc)
+  operand_unclosed true c e h = rw (file.is, e, number_some (lowest closed_template 0 ts) (rw unclosed_is h), unclosed_is) refl
 
 -- ---- a file that was not
-tree_refused : (g : Got (List Template)) {n : ℕ} {p : BitPlace} → tree_told g ≡ RefusedTree n p → g ≡ refused n p.0
+tree_refused : (g : Got (List Template)) {n : ℕ} {p : BitPlace} → tree_told g ≡ Err (refusal n p) → g ≡ refused n p.0
 unfolding tree_told
 tree_refused (got ts z) h = clash (cc)
-tree_refused (refused m z) {n} {p} h = let k : ◌≡◌ {A = BitPlace} (record { 0 = z }) p = cc in let i : m ≡ n = cc in rw (i, ← k)
+tree_refused (refused m z) {n} {p} h = rw (err_number h, ← (err_place h))
 
-module _ (s : List ℕ) (n : ℕ) (p : BitPlace) (told : tree_told (tree_read s) ≡ RefusedTree n p) where
-  pub prologue_unread : (q : ℕ) → q ≡ p.0 → Refused n q ≡ judged_told (prologue_checked s)
-  unfolding prologue_checked then judged_told
-  prologue_unread q e = rw (tree_refused (tree_read s) told, e) refl
-
-  pub second_unread : (q : ℕ) → q ≡ p.0 → Refused n q ≡ judged_told (second_checked s)
-  unfolding second_checked then judged_told
-  second_unread q e = rw (tree_refused (tree_read s) told, e) refl
+module _ (s : List ℕ) {n : ℕ} {p : BitPlace} (told : tree_told (tree_read s) ≡ Err (refusal n p)) where
+  pub operand_unread : (or_closed : Bool) → Err (refusal n p.0) ≡ judged_told (operand_checked or_closed s)
+  unfolding prologue_checked second_checked then judged_told
+  operand_unread false = rw (tree_refused (tree_read s) told) refl
+  operand_unread true = rw (tree_refused (tree_read s) told) refl

@@ -1,27 +1,25 @@
 -- Where the parts of an operand that was read stand. Assumes nothing.
-use Prim.Native.Nat.{ℕ, zero, suc, ◌+◌, ◌*◌, ◌-◌, ◌≤◌, ◌<◌}
-use Rattle.std.proofs.Common.{add-zero, arith, ap, ◌∙◌, le-leb, leb-true, leb-false}
-use Rattle.std.specs.Prelude.{◌≡◌, Bool, true, false, get_or, leb}
+use Prim.Native.Nat.{ℕ, zero, suc, ◌+◌, ◌*◌, ◌≤◌, ◌<◌}
+use Rattle.std.proofs.Common.{add-zero, arith, ap, ◌∙◌, le-leb, leb-true}
+use Rattle.std.specs.Prelude.{◌≡◌, Bool, true, false, get_or, leb, is_ok}
 use Rattle.std.proofs.Math.Path.{refl, sym}
 use mathlib.Core.List.{List, [], ◌∷◌, ◌++◌}
-use Rattle.std.proofs.lemmas.Bool.{lt-leb}
 use Rattle.std.proofs.Math.ListN.{length, length-append}
 use Rattle.fields.specs.Field.{field_at}
 use Rattle.files.specs.Code.{Code, bits}
-use Rattle.files.specs.Reading.{got, refused, list_at}
+use Rattle.files.specs.Reading.{Got, got, refused, list_at}
 use Rattle.files.specs.laws.ReadingLaws.{list_valid}
-use Rattle.files.specs.Entries.{Entry}
-use Rattle.files.specs.laws.AllGot.{Each, each_at, got_value, refused_got, field_got_lem, tree_read_lem}
+use Rattle.files.specs.laws.AllGot.{each_at, got_value, refused_got, field_got_lem, tree_read_lem}
 use Rattle.files.specs.Linear.{bits_of, entries_bits}
 use Rattle.files.specs.Tree.{Template, tree_read}
 use Rattle.files.specs.Table.{tree_table}
 use Rattle.files.specs.laws.TableLaws.{row_start, tree_slot}
-use Rattle.files.specs.Valid.{Valid}
+use Rattle.lists.specs.Facts.{listed}
 use Rattle.readback.specs.Bits.{Stands}
 use Rattle.readback.specs.laws.Bits.{length_bits, stands_left, stands_right, field_stands}
 use Rattle.tree.specs.laws.Parts.{tree_parts}
 use Rattle.tree_file.specs.File.{list_bits, template_bits, templates_bits, file_bits, starts_at, placed, levels}
-use Rattle.tree_file.specs.laws.Lengths.{list_length, template_length}
+use Rattle.tree_file.specs.laws.Lengths.{template_length}
 use Rattle.tree_file.proofs.theorems.Standing.{list_stands}
 use Rattle.tree_file.proofs.theorems.Canonical.{TreeKnown, tree_known}
 use Rattle.tree_file.specs.laws.Writable.{TreeWritable}
@@ -62,6 +60,14 @@ module _ (s : List ℕ) (p most : ℕ) (few : most ≤ 15) (w : CodeAt s 15 p) w
           let r = list_back_lem s w.code most p w.valid (leb-true (levels w.code) most h) w.stands in
           refused_got (sym e ∙ r)
       go false h = sym h
+
+  pub levels_told : (table : List ℕ) (own : ℕ) → is_ok (listed table own (list_at s most p)) ≡ leb (levels w.code) most
+  unfolding listed
+  levels_told table own = go (list_at s most p) refl
+    where
+      go : (g : Got Code) → list_at s most p ≡ g → is_ok (listed table own g) ≡ leb (levels w.code) most
+      go (got c q) e = levels_read c q e
+      go (refused n q) e = levels_refused n q e
 
 -- ---- templates
 module _ (s : List ℕ) where

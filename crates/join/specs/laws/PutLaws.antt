@@ -1,6 +1,6 @@
 -- Bits that are put one after the other: the entries, the lists, both. And what the smaller functions answer. Assumes nothing.
-use Rattle.std.specs.Prelude.{ℕ, zero, suc, ◌+◌, ◌*◌, ◌-◌, ◌≤◌, ◌<◌, Bool, true, false, set, eqb}
-use Rattle.std.proofs.Common.{zero-add, ◌∙◌, eqb-true, length-append, get_or-set_same, get_or-set_other}
+use Rattle.std.specs.Prelude.{ℕ, ◌+◌, ◌*◌, ◌-◌, ◌≤◌, ◌<◌, Bool, true, false, set, eqb}
+use Rattle.std.proofs.Common.{◌∙◌, eqb-true, length-append, get_or-set_same, get_or-set_other}
 use native.Mathlib.Omega.{arith}
 use Rattle.std.proofs.Math.Path.{◌≡◌, refl, sym, ap}
 use mathlib.Core.List.{List, [], ◌∷◌, ◌++◌, append_assoc}

@@ -1,5 +1,5 @@
 -- What stands first in a list says where another goes: there, past an instruction, or within a saved list. Assumes nothing.
-use Rattle.std.specs.Prelude.{ℕ, zero, suc, ◌+◌, ◌*◌, ◌-◌, ◌^◌, ◌≤◌, ◌<◌, max, ◌≡◌, List, [], ◌∷◌, ◌++◌}
+use Rattle.std.specs.Prelude.{ℕ, suc, ◌+◌, ◌*◌, ◌-◌, ◌≤◌, ◌<◌, ◌≡◌, List, ◌++◌}
 use native.Mathlib.Omega.{arith}
 use Rattle.std.proofs.Math.Path.{refl, ap}
 use Rattle.std.proofs.Common.{sym, ◌∙◌}
@@ -18,9 +18,8 @@ use Rattle.readback.specs.Bits.{Stands}
 use Rattle.readback.specs.laws.Bits.{length_bits, stands_left, stands_right, field_stands}
 use Rattle.tree_file.specs.File.{operands_bits, list_bits, levels}
 use Rattle.tree_file.specs.laws.Lengths.{operands_length, list_length}
-use Rattle.tree_file.proofs.theorems.Back.{Neutral, neutral_shape}
+use Rattle.tree_file.proofs.theorems.Back.{neutral_shape}
 use Rattle.join.specs.declared.Joint.{Joint}
-use Rattle.join.specs.declared.Turn.{Turn}
 use Rattle.join.specs.declared.Turn.TheVariants.{There, Past, Within}
 use Rattle.join.specs.Adjoin.{joint_bits, joint_depth}
 use Rattle.join.specs.Operands.{CodeAt, joint_of, turn_of}
@@ -65,6 +64,15 @@ turn_at_end p (make_cont n y b) e = absurd (omega arith)
 few_operands : (op : ℕ) (ns : List ℕ) (y : Code) → Valid (neutral op ns y) → length ns ≤ 2
 unfolding Valid
 few_operands op ns y v = (neutral_shape op (length ns) v.0 v.1).few
+
+head_known : (c : Code) → Valid c → head_shape c ≤ 5
+unfolding head_shape
+head_known done v = omega arith
+head_known (neutral op ns y) v = omega (arith, few_operands op ns y v)
+head_known (return y) v = omega arith
+head_known (call n y) v = omega arith
+head_known (unless_false y₁ y₂ y) v = omega arith
+head_known (make_cont n y b) v = omega arith
 
 turn_at_cont : (p : ℕ) (c : Code) → Valid c → head_shape c ≡ 5 → (q : BitPlace) → q.0 ≡ p + 13 → Within q ≡ turn_of p c
 unfolding head_shape turn_of
@@ -210,6 +218,9 @@ code_five w = omega (arith, code_inside w, least_bits w.code)
 module _ {s : List ℕ} {l p : ℕ} (w : CodeAt s l p) (k : ℕ) (shape : k ≡ shape_of (field_at s p 5)) where
   shape_is : k ≡ head_shape w.code
   shape_is = shape ∙ head_is s p w.code w.valid w.stands
+
+  pub code_known : k ≤ 5
+  code_known = rw shape_is (head_known w.code w.valid)
 
   pub code_there : k ≡ 0 → There ≡ turn_of p w.code
   code_there e = turn_at_end p w.code (sym shape_is ∙ e)

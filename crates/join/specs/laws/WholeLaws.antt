@@ -1,27 +1,25 @@
 -- The function as its operands are judged. Assumes nothing.
-use Rattle.std.specs.Prelude.{ℕ, ◌≡◌, refl, Bool, true, false, cond, List, [], ◌∷◌, length}
+use Rattle.std.specs.Prelude.{ℕ, ◌≡◌, refl, true, List, [], ◌∷◌, length, Result, Ok, Err}
 use Rattle.std.proofs.Common.{sym, ap, ◌∙◌}
 use Rattle.cells.specs.laws.Laws.{clash}
-use Rattle.files.specs.Reading.{Got, got, refused}
+use Rattle.files.specs.Reading.{got, refused}
 use Rattle.files.specs.Entries.{then}
-use Rattle.files.specs.laws.AllGot.{then_led, got_value, refused_got}
+use Rattle.files.specs.laws.AllGot.{then_led, got_value}
 use Rattle.files.specs.laws.AcceptedLaws.{or_led}
-use Rattle.files.specs.Accepted.{or_lowest}
 use Rattle.files.specs.Grammar.{lowest, indexed_template}
 use Rattle.files.specs.Tree.{Template, tree_read}
 use Rattle.readback.specs.laws.Led.{cond_led}
 use Rattle.tree.specs.declared.Summary.{Summary}
-use Rattle.tree.specs.declared.Judged.TheVariants.{Accepted}
 use Rattle.tree.specs.Summary.{summary_of, judged_told}
 use Rattle.files.specs.Room.{ZerosFor}
 use Rattle.tree.specs.Filled.{tree_filled}
 use Rattle.tree.specs.laws.FilledLaws.{tree_tabled}
-use Rattle.tree.specs.laws.Judged.{ReadAs, judged_told_lem}
+use Rattle.tree.specs.laws.Judged.{judged_told_lem}
 use Rattle.files.specs.Outcome.{answered, written}
-use Rattle.files.specs.declared.Outcome.{Outcome}
-use Rattle.files.specs.declared.Outcome.TheVariants.{Refused}
 use Rattle.join.specs.Join.{is_prologue, indices_checked, prologue_checked, unclosed, second_checked, joined, joined_file}
-use Rattle.join.specs.Operands.{Operand, PrologueAt, ToJoin}
+use Rattle.join.specs.Operands.{PrologueAt, ToJoin}
+use Rattle.files.specs.declared.Refusal.{Refusal}
+use Rattle.files.specs.Refusal.{refusal}
 
 -- ---- what was judged was read
 second_read : (s : List ℕ) (ts : List Template) (q : ℕ) → second_checked s ≡ got ts q → tree_read s ≡ got ts q
@@ -50,7 +48,7 @@ one_template [] e = clash (cc)
 one_template (t ∷ []) e = refl
 one_template (t ∷ u ∷ ts) e = clash (cc)
 
-pub prologue_at : (a : List ℕ) {m : Summary} {table table' : List ℕ} → judged_told (prologue_checked a) ≡ Accepted m → ZerosFor a table
+pub prologue_at : (a : List ℕ) {m : Summary} {table table' : List ℕ} → judged_told (prologue_checked a) ≡ Ok m → ZerosFor a table
     → table' ≡ tree_filled a table
     → PrologueAt a table'
 prologue_at a told z e =
@@ -68,7 +66,7 @@ prologue_at a told z e =
       checked = f.is;
     }
 
-pub to_join : {a first : List ℕ} → PrologueAt a first → (b : List ℕ) {m : Summary} {zeros second : List ℕ} → judged_told (second_checked b) ≡ Accepted m
+pub to_join : {a first : List ℕ} → PrologueAt a first → (b : List ℕ) {m : Summary} {zeros second : List ℕ} → judged_told (second_checked b) ≡ Ok m
     → ZerosFor b zeros → second ≡ tree_filled b zeros
     → ToJoin a first b second m.count
 unfolding summary_of
@@ -90,13 +88,13 @@ to_join w b told z e =
 
 -- ---- refused
 module _ (a b old : List ℕ) where
-  abbrev Done : Outcome → List ℕ → Type 0
+  abbrev Done : Result ℕ (Refusal ℕ) → List ℕ → Type 0
   Done r o = (r ≡ answered (joined_file a b (length old))) × (o ≡ written old (joined_file a b (length old)))
 
-  pub prologue_refused : {n q : ℕ} → prologue_checked a ≡ refused n q → Done (Refused n q) old
+  pub prologue_refused : {n q : ℕ} → prologue_checked a ≡ refused n q → Done (Err (refusal n q)) old
   unfolding joined_file joined then answered written
   prologue_refused e = rw e (refl, refl)
 
-  pub second_refused : {first : List ℕ} → PrologueAt a first → {n q : ℕ} → second_checked b ≡ refused n q → Done (Refused n q) old
+  pub second_refused : {first : List ℕ} → PrologueAt a first → {n q : ℕ} → second_checked b ≡ refused n q → Done (Err (refusal n q)) old
   unfolding joined_file joined then answered written
   second_refused w e = rw (w.checked, e) (refl, refl)

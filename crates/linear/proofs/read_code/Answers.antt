@@ -6,33 +6,34 @@ use lib.ListN.{length}
 use Rattle.cells.specs.declared.BitPlace.{BitPlace}
 use Rattle.fields.specs.laws.Laws.{lies}
 use Rattle.files.specs.Reading.{refused}
-use Rattle.files.specs.laws.EntriesSteps.{field_cut, field_read_lem}
+use Rattle.files.specs.laws.EntriesSteps.{told_field, told_cut}
+use Rattle.files.specs.laws.RefusalLaws.{handed_on}
 use Rattle.linear.specs.laws.LinearSteps.{padding_set, length_cut, code_cut, code_read, code_stops, code_ends}
 use Rattle.linear.proofs.read_code.Goals as goal
 
-pub returns-in_default : goal.returns-in_default
-returns-in_default c =
-    let all = code_stops _ _ _ (length_cut _ _ (rw c.to_byte.ensures at c.zero_bits.ensures) c.in-Zero.is
-    (field_cut _ _ _ c.read_three.ensures c.in_default.is)) in
-    record { value = all.0; table_after = all.1 }
+pub returns-in_err-size : goal.returns-in_err-size
+returns-in_err-size c =
+    let all = code_stops _ _ _ (padding_set _ _ (rw c.to_byte.ensures at c.zero_bits.ensures) c.in_err-size.was) in
+    record { value = λ es. handed_on c.from_residual.ensures ∙ all.0 es; table_after = all.1 }
+
+pub returns-in_err-n : goal.returns-in_err-n
+returns-in_err-n c =
+    let all = code_stops _ _ _ (length_cut _ _ (rw c.to_byte.ensures at c.zero_bits.ensures) c.in_ok-size.was
+    (told_cut _ _ _ c.read_three.ensures c.in_err-n.was)) in
+    record { value = λ es. handed_on c.from_residual-in_err-n.ensures ∙ all.0 es; table_after = all.1 }
 
 pub returns-then-within : goal.returns-then-within
 returns-then-within c =
-    let h = lies c.args.s.now c.in-Read.code.0 (8 * c.in-Read.n) c.within.ensures c.if-within.true in
-    let q : ◌≡◌ {A = BitPlace} c.past.result (record { 0 = c.in-Read.code.0 + 8 * c.in-Read.n }) = ap (λ (x : ℕ). record { 0 = x }) c.past.ensures in
+    let h = lies c.args.s.now c.in_ok-n.code.0 (8 * c.in_ok-n.n) c.within.ensures c.if-within.true in
+    let q : ◌≡◌ {A = BitPlace} c.past.result (record { 0 = c.in_ok-n.code.0 + 8 * c.in_ok-n.n }) = ap (λ (x : ℕ). record { 0 = x }) c.past.ensures in
     let all =
     code_ends _ _ _ _ _ _ h
-    (code_read _ _ (rw c.to_byte.ensures at c.zero_bits.ensures) c.in-Zero.is (field_read_lem _ _ _ c.read_three.ensures c.in-Read.is) h) in
+    (code_read _ _ (rw c.to_byte.ensures at c.zero_bits.ensures) c.in_ok-size.was (told_field _ _ _ c.read_three.ensures c.in_ok-n.was) h) in
     rw (q, c.byte.ensures) (record { value = all.0; table_after = all.1 })
 
-pub returns-else-within : goal.returns-else-within
-returns-else-within c =
-    let h = leb-false (c.in-Read.code.0 + 8 * c.in-Read.n) (8 * length c.args.s.now) (sym c.within.ensures ∙ c.if-within.false) in
-    let cut = code_cut _ _ (rw c.to_byte.ensures at c.zero_bits.ensures) c.in-Zero.is (field_read_lem _ _ _ c.read_three.ensures c.in-Read.is) h in
+pub returns : goal.returns
+returns c =
+    let h = leb-false (c.in_ok-n.code.0 + 8 * c.in_ok-n.n) (8 * length c.args.s.now) (sym c.within.ensures ∙ c.if-within.false) in
+    let cut = code_cut _ _ (rw c.to_byte.ensures at c.zero_bits.ensures) c.in_ok-size.was (told_field _ _ _ c.read_three.ensures c.in_ok-n.was) h in
     let all = code_stops _ _ _ (λ es. cut es ∙ ap (refused 2) (sym c.end_of.ensures)) in
-    record { value = all.0; table_after = all.1 }
-
-pub returns-in-Refused : goal.returns-in-Refused
-returns-in-Refused c =
-    let all = code_stops _ _ _ (padding_set _ _ (rw c.to_byte.ensures at c.zero_bits.ensures) c.in-Refused.is) in
     record { value = all.0; table_after = all.1 }

@@ -5,18 +5,18 @@ use Rattle.linear_machine.proofs.FileLaws.{file_within_lem, file_ran, file_refus
 use Rattle.linear_machine.proofs.run_file.Goals as goal
 
 pub read_linear-requires : goal.read_linear-requires
-read_linear-requires c = table_room _ _ c.requires.1
+read_linear-requires c = table_room _ _ c.requires
 
 pub run_read-requires : goal.run_read-requires
 run_read-requires c =
     let pre = c.requires in
-    (pre.0, file_within_lem _ _ _ _ c.read_linear.ensures.value pre.1 c.read_linear.ensures.table_after _ c.in-Read.is)
+    file_within_lem _ _ _ _ c.read_linear.ensures.value pre c.read_linear.ensures.table_after _ c.in-Ok.is
 
-pub returns-in-Read : goal.returns-in-Read
-returns-in-Read c =
+pub returns-in-Ok : goal.returns-in-Ok
+returns-in-Ok c =
     let pre = c.requires in
-    file_ran _ _ _ _ c.read_linear.ensures.value pre.1 c.read_linear.ensures.table_after _ c.in-Read.is _ _ _ _
+    file_ran _ _ _ _ c.read_linear.ensures.value pre c.read_linear.ensures.table_after _ c.in-Ok.is _ _ _ _
     (λ i. omega (arith, c.shared_slice_known-1.given i)) c.run_read.ensures
 
-pub returns-in-Refused : goal.returns-in-Refused
-returns-in-Refused c = file_refused _ _ _ _ _ _ _ _ c.read_linear.ensures.value c.in-Refused.is (rw c.number.ensures at c.refused.ensures)
+pub returns-in-Err : goal.returns-in-Err
+returns-in-Err c = file_refused _ _ _ _ _ _ _ _ c.read_linear.ensures.value c.in-Err.is (rw c.number.ensures at c.refused.ensures)

@@ -1,11 +1,9 @@
 -- `linear_machine::run_read` meets its contract. Assumes nothing.
-use borrow.Author.Rules.{rules}
 use Rattle.linear_machine.proofs.run_read.Goals as goal
 
 pub run_code-requires : goal.run_code-requires
 run_code-requires c =
-    let pre = c.requires in
-    (pre.1, search rules, search rules, search rules, search rules)
+    c.requires
 
 pub returns : goal.returns
 returns c = c.run_code.ensures

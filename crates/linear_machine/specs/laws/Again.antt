@@ -1,12 +1,11 @@
 -- A file that is read once and run often, in memory that is used again, from globals that are known to fit. Assumes nothing.
-use Rattle.std.specs.Prelude.{ℕ, ◌+◌, ◌≤◌, ◌≡◌, refl, Bool, true, false, cond, ◌&&◌, List, [], ◌∷◌, leb, eqb, length}
+use Rattle.std.specs.Prelude.{ℕ, ◌+◌, ◌≤◌, ◌≡◌, refl, Bool, true, false, cond, ◌&&◌, List, [], ◌∷◌, leb, eqb, length, Ok}
 use Rattle.std.proofs.Math.Option.{Option, none, some}
 use Rattle.std.proofs.Common.{eq-eqb, le-leb}
 use Rattle.files.specs.Reading.{Got, got, refused}
 use Rattle.files.specs.Linear.{Linear, linear_read}
 use Rattle.owners.specs.Owners.{is_owner, owner_of}
 use Rattle.machines.specs.Start.{globals_refusal, start_refusal}
-use Rattle.machines.specs.declared.Start.TheVariants.{Go}
 use Rattle.machines.specs.Runs.{Memory, memory, Ran, run_of, left_of, refused_run, right_lengths, lowest_unfit, fit_globals, by_owner, started, on_linear}
 use Rattle.machines.specs.Runs.{linear_run}
 use Rattle.linear_machine.specs.Again.{AllFit}
@@ -49,7 +48,7 @@ none_unfit n [] h = refl
 none_unfit n (c ∷ cs) h = rw h.0 (none_unfit (n + 1) cs h.1)
 
 pub may_run : (b o : ℕ) (g k t f : List ℕ) → length g ≡ 256 → length k ≡ 256 → length t ≡ 2048 → length f ≡ 2048 → b ≤ 2000000 → o ≤ 1 → AllFit g
-    → start_refusal 2000000 b o (memory g k t f) ≡ Go
+    → start_refusal 2000000 b o (memory g k t f) ≡ Ok (owner_of o)
 unfolding start_refusal is_owner right_lengths globals_refusal
 may_run b o g k t f hg hk ht hf hb ho fit =
     rw (

@@ -10,9 +10,7 @@ use Rattle.linear_steps.proofs.run_code.Goals as goal
 pub run_from-requires : goal.run_from-requires
 unfolding form_of CodeReady
 run_from-requires c =
-    let pre = c.requires in
-    let e = c.clear_all.ensures in
-    first_ready _ _ e.0 e.1 e.2 _ _ pre.0 pre.1
+    first_ready _ _ _ c.requires
 
 pub returns : goal.returns
 unfolding number

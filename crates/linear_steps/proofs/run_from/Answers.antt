@@ -1,6 +1,5 @@
 -- `linear_steps::run_from` meets its contract. Assumes nothing.
-use Prim.Native.Nat.{◌-◌}
-use mathlib.Core.Path.{refl, sym, ◌∙◌}
+use mathlib.Core.Path.{refl}
 use Rattle.rules.specs.State.{regs}
 use Rattle.machines.specs.Instruction.{form_of}
 use Rattle.machines.specs.declared.CodePlace.TheVariants.{Linear}
@@ -27,7 +26,7 @@ returns-in-Halted c =
 pub returns-in-Wrong : goal.returns-in-Wrong
 returns-in-Wrong c =
     wrong_turn _ _ _ c.loop-left.left c.args.budget _ _ (regs c.loop-left.v c.loop-left.env c.loop-left.sp c.loop-left.st) (control c.loop-left.template (Linear c.loop-left.at) c.loop-left.fr) _ c.loop-left-test.true
-    c.loop-left.invariant.1 c.take_step.ensures c.loop-left.invariant.3 _ _ c.in-Wrong.is c.ended-in-Wrong.ensures
+    c.loop-left.invariant.1 c.take_step.ensures c.loop-left.invariant.3 _ _ _ c.in-Wrong.is c.number.ensures c.ended-in-Wrong.ensures
 
 pub code_after-code-requires : goal.code_after-code-requires
 code_after-code-requires c = c.loop-left.invariant.2
@@ -44,72 +43,11 @@ loop-left-preserved c =
     let k = control c.loop-left.template (Linear c.loop-left.at) c.loop-left.fr in
     let there = next_place _ _ _ c.loop-left.left c.args.budget _ _ r k _ c.loop-left-test.true c.loop-left.invariant.1 c.take_step.ensures c.loop-left.invariant.3 _ _ c.in-Next.is in
     let ready = next_ready _ _ _ c.loop-left.left c.args.budget _ _ r k _ c.loop-left-test.true c.loop-left.invariant.1 c.take_step.ensures c.loop-left.invariant.3 _ _ _ _ c.in-Next.is
-    refl c.loop-left.invariant.0 (c.globals-1.given ∙ c.loop-left.invariant.0.globals_long) (c.stack-1.given ∙ c.loop-left.invariant.0.stack_long)
-    (c.store-1.given ∙ c.loop-left.invariant.0.store_long) (c.frames-1.given ∙ c.loop-left.invariant.0.frames_long) in
+    refl c.loop-left.invariant.0 in
     let turn = next_turn _ _ _ c.loop-left.left c.args.budget _ _ r k _ c.loop-left-test.true c.loop-left.invariant.1 c.take_step.ensures c.loop-left.invariant.3 _ _ c.in-Next.is in
-    (placed_ready _ _ c.byte_place-at.ensures _ _ _ _ there ready, search rules, c.code_after-code.ensures, placed_turn _ _ c.byte_place-at.ensures _ _ _ _ _ _ turn)
+    (placed_ready _ _ c.byte_place-at.ensures _ _ _ there ready, search rules, c.code_after-code.ensures, placed_turn _ _ c.byte_place-at.ensures _ _ _ _ _ _ turn)
 
 pub returns : goal.returns
 returns c =
     spent_turn _ _ c.loop-left.left c.args.budget _ (regs c.loop-left.v c.loop-left.env c.loop-left.sp c.loop-left.st) (control c.loop-left.template (Linear c.loop-left.at) c.loop-left.fr) _ c.loop-left-test.false c.loop-left.invariant.3
     c.ended-2.ensures
-
-pub shape_of-globals-in-Halted : goal.shape_of-globals-in-Halted
-shape_of-globals-in-Halted c =
-    let pre = c.requires in
-    c.globals-1.given ∙ c.loop-left.invariant.0.globals_long ∙ sym pre.globals_long
-
-pub shape_of-globals-in-Wrong : goal.shape_of-globals-in-Wrong
-shape_of-globals-in-Wrong c =
-    let pre = c.requires in
-    c.globals-1.given ∙ c.loop-left.invariant.0.globals_long ∙ sym pre.globals_long
-
-pub shape_of-globals : goal.shape_of-globals
-shape_of-globals c =
-    let pre = c.requires in
-    c.loop-left.invariant.0.globals_long ∙ sym pre.globals_long
-
-pub shape_of-stack-in-Halted : goal.shape_of-stack-in-Halted
-shape_of-stack-in-Halted c =
-    let pre = c.requires in
-    c.stack-1.given ∙ c.loop-left.invariant.0.stack_long ∙ sym pre.stack_long
-
-pub shape_of-stack-in-Wrong : goal.shape_of-stack-in-Wrong
-shape_of-stack-in-Wrong c =
-    let pre = c.requires in
-    c.stack-1.given ∙ c.loop-left.invariant.0.stack_long ∙ sym pre.stack_long
-
-pub shape_of-stack : goal.shape_of-stack
-shape_of-stack c =
-    let pre = c.requires in
-    c.loop-left.invariant.0.stack_long ∙ sym pre.stack_long
-
-pub shape_of-store-in-Halted : goal.shape_of-store-in-Halted
-shape_of-store-in-Halted c =
-    let pre = c.requires in
-    c.store-1.given ∙ c.loop-left.invariant.0.store_long ∙ sym pre.store_long
-
-pub shape_of-store-in-Wrong : goal.shape_of-store-in-Wrong
-shape_of-store-in-Wrong c =
-    let pre = c.requires in
-    c.store-1.given ∙ c.loop-left.invariant.0.store_long ∙ sym pre.store_long
-
-pub shape_of-store : goal.shape_of-store
-shape_of-store c =
-    let pre = c.requires in
-    c.loop-left.invariant.0.store_long ∙ sym pre.store_long
-
-pub shape_of-frames-in-Halted : goal.shape_of-frames-in-Halted
-shape_of-frames-in-Halted c =
-    let pre = c.requires in
-    c.frames-1.given ∙ c.loop-left.invariant.0.frames_long ∙ sym pre.frames_long
-
-pub shape_of-frames-in-Wrong : goal.shape_of-frames-in-Wrong
-shape_of-frames-in-Wrong c =
-    let pre = c.requires in
-    c.frames-1.given ∙ c.loop-left.invariant.0.frames_long ∙ sym pre.frames_long
-
-pub shape_of-frames : goal.shape_of-frames
-shape_of-frames c =
-    let pre = c.requires in
-    c.loop-left.invariant.0.frames_long ∙ sym pre.frames_long

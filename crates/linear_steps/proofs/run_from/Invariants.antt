@@ -11,7 +11,7 @@ use Rattle.linear_steps.specs.Code.{code_of}
 use Rattle.linear_steps.proofs.run_from.Given as goal
 
 abbrev pub invariant-loop-left : goal.invariant-loop-left
-invariant-loop-left l = StepReady l.file l.table (memory l.globals l.stack l.store l.frames) (regs l.v l.env l.sp l.st) (control l.template (Linear l.at) l.fr) × (l.left ≤ l.budget)
+invariant-loop-left l = StepReady l.file l.table (regs l.v l.env l.sp l.st) (control l.template (Linear l.at) l.fr) × (l.left ≤ l.budget)
     × (l.code ≡ code_of l.table l.template)
     × (ran_from l.owner (bytes_program l.file l.table) l.left (l.budget - l.left) (state_of (regs l.v l.env l.sp l.st) (control l.template (Linear l.at) l.fr) (memory l.globals l.stack l.store l.frames))
     ≡ ran_from l.owner (bytes_program l.file l.table) l.budget 0

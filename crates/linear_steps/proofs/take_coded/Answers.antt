@@ -4,7 +4,7 @@ use Rattle.linear_steps.proofs.StepLaws.{coded, neutral_asked}
 use Rattle.linear_steps.proofs.take_coded.Goals as goal
 
 pub take_data-requires : goal.take_data-requires
-take_data-requires c = neutral_asked _ _ _ _ _ _ _ _ c.requires (is_neutral_lem _ c.in_default.in_default-own.rest.0.0.0.0.1 c.in_default.in_default-own.rest.0.0.0.1 c.in_default.in_default-own.rest.0.0.1 c.in_default.in_default-own.rest.0.1 c.in_default.in_default-own.rest.1)
+take_data-requires c = neutral_asked _ _ _ _ _ _ _ c.requires (is_neutral_lem _ c.in_default.in_default-own.rest.0.0.0.0.1 c.in_default.in_default-own.rest.0.0.0.1 c.in_default.in_default-own.rest.0.0.1 c.in_default.in_default-own.rest.0.1 c.in_default.in_default-own.rest.1)
 
 pub returns-in-1 : goal.returns-in-1
 returns-in-1 c = coded _ _ _ _ _ _ _ _ c.in-1.is c.take_transfer.ensures

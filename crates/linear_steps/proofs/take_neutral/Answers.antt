@@ -6,12 +6,12 @@ use Rattle.steps.proofs.StepLaws.{bad_stops}
 use Rattle.linear_steps.proofs.StepLaws.{neutral_as_lem}
 use Rattle.linear_steps.proofs.take_neutral.Goals as goal
 
-pub returns-in-Whole : goal.returns-in-Whole
+pub returns-in-Some : goal.returns-in-Some
 unfolding neutral_as number form_of
-returns-in-Whole c = λ P f. neutral_as_lem c.args.owner P _ (slot_at c.args.table.now c.args.c.template) _ c.args.op _ _ (c.neutral_at.ensures (slot_at c.args.table.now c.args.c.template)) c.in-Whole.is (c.act_neutral.ensures P f)
+returns-in-Some c = λ P f. neutral_as_lem c.args.owner P _ (slot_at c.args.table.now c.args.c.template) _ c.args.op _ _ (c.neutral_at.ensures (slot_at c.args.table.now c.args.c.template)) c.in-Some.is (c.act_neutral.ensures P f)
 
-pub returns-in-Cut : goal.returns-in-Cut
+pub returns-in-None : goal.returns-in-None
 unfolding neutral_as
-returns-in-Cut c =
-    λ P f. neutral_as_lem c.args.owner P _ (slot_at c.args.table.now c.args.c.template) _ c.args.op _ _ (c.neutral_at.ensures (slot_at c.args.table.now c.args.c.template)) c.in-Cut.is
+returns-in-None c =
+    λ P f. neutral_as_lem c.args.owner P _ (slot_at c.args.table.now c.args.c.template) _ c.args.op _ _ (c.neutral_at.ensures (slot_at c.args.table.now c.args.c.template)) c.in-None.is
     (bad_stops linear_form c.args.owner P _ c.args.r c.args.c)

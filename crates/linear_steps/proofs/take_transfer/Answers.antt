@@ -17,7 +17,7 @@ pub act_save-requires : goal.act_save-requires
 act_save-requires c =
     let pre = c.requires in
     let w = pre.3 in
-    (w.stack_long, w.frames_long, w.fit, w.frames_fit, (save_places _ _ c.fetch_op.ensures.1 _ _ _ c.in-Save.is).2)
+    (w.fit, w.frames_fit, (save_places _ _ c.fetch_op.ensures.1 _ _ _ c.in-Save.is).2)
 
 pub returns-in-Neutral : goal.returns-in-Neutral
 unfolding fetched_as

@@ -8,19 +8,19 @@ use Rattle.lines.proofs.put_sheet.Goals as goal
 pub slice_bounds-linear-end : goal.slice_bounds-linear-end
 slice_bounds-linear-end c =
     let pre = c.requires in
-    omega (arith, written_within _ pre.sheet_len_bound _ (sym c.in-Written.is ∙ c.flatten.ensures.value))
+    omega (arith, written_within _ pre.sheet_len_bound _ (sym c.in-Ok.is ∙ c.flatten.ensures.value))
 
 pub slice_bounds-put_accepted-end : goal.slice_bounds-put_accepted-end
 slice_bounds-put_accepted-end c =
     let pre = c.requires in
-    sym (length-take-le _ _ (omega (arith, written_within _ pre.sheet_len_bound _ (sym c.in-Written.is ∙ c.flatten.ensures.value))))
+    sym (length-take-le _ _ (omega (arith, written_within _ pre.sheet_len_bound _ (sym c.in-Ok.is ∙ c.flatten.ensures.value))))
 
-pub returns-in-Written : goal.returns-in-Written
-returns-in-Written c =
+pub returns-in-Ok : goal.returns-in-Ok
+returns-in-Ok c =
     let pre = c.requires in
-    record { put = rw (accepted_lines_lem _ pre.sheet_len_bound _ (sym c.in-Written.is ∙ c.flatten.ensures.value) _ _ c.flatten.ensures.out_after) c.put_accepted.ensures.put; upper_bound = omega arith }
+    record { put = rw (accepted_lines_lem _ pre.sheet_len_bound _ (sym c.in-Ok.is ∙ c.flatten.ensures.value) _ _ c.flatten.ensures.out_after) c.put_accepted.ensures.put; upper_bound = omega arith }
 
-pub returns-in-Refused : goal.returns-in-Refused
-returns-in-Refused c =
+pub returns-in-Err : goal.returns-in-Err
+returns-in-Err c =
     let pre = c.requires in
-    record { put = rw (refused_lines _ pre.sheet_len_bound _ _ (sym c.in-Refused.is ∙ c.flatten.ensures.value)) c.put_numbers.ensures.put; upper_bound = omega arith }
+    record { put = rw (refused_lines _ pre.sheet_len_bound _ (sym c.in-Err.is ∙ c.flatten.ensures.value)) c.put_numbers.ensures.put; upper_bound = omega arith }

@@ -1,6 +1,5 @@
 -- The cycle of calls {link_arms, link_list, link_saved}: levels fall where an instruction's lists are linked; within a list unread bits
 -- fall. Assumes nothing.
-use Prim.Native.Nat.{◌-◌}
 use native.Mathlib.Omega.{arith}
 use mathlib.Core.Path.{◌≡◌, refl, sym, ◌∙◌}
 use Rattle.links.specs.laws.LinkSteps.{Outcome, outcome, arms_room, first_to_link, second_to_link, saved_room, saved_to_link, arms_linked, saved_linked, linked_on}

@@ -9,15 +9,15 @@ use Rattle.fields.specs.laws.Laws.{whole}
 use Rattle.files.specs.Code.{Instr, neutral_i, return_i, call_i, put, simple, bits}
 use Rattle.files.specs.Reading.{item, shaped, head_at, deep_of}
 use Rattle.files.specs.laws.Heads.{code_read}
-use Rattle.files.specs.laws.ReadingLaws.{bits_i, Past, head_past, deep_past, list_bits_lem}
+use Rattle.files.specs.laws.ReadingLaws.{bits_i, Past, head_past, deep_past}
 use Rattle.lists.specs.declared.Keep.TheVariants.{Pasts}
 use Rattle.lists.specs.Marks.{mark_of, HasIn}
 use Rattle.lists.specs.laws.MarksLaws.{has_arms, has_saved}
-use Rattle.lists.specs.laws.Known.{shape_here, Arms, arms, Saved, saved, Simple, without_lists, Turn, list_within, list_turn}
+use Rattle.lists.specs.laws.Known.{shape_here, arms, saved, Simple, without_lists, Turn, list_within, list_turn}
 use Rattle.links.specs.Links.{link_at}
 use Rattle.links.specs.Parts.{place, instr_parts, parts_of, ToLink}
 use Rattle.links.specs.declared.Parts.{Parts}
-use Rattle.links.specs.declared.Parts.TheVariants.{End, Simple as SimplePart, Arms as ArmsPart, Saved as SavedPart, Bad}
+use Rattle.links.specs.declared.Parts.TheVariants.{End, Simple as SimplePart, Arms as ArmsPart, Saved as SavedPart}
 
 simple_item : (p v : ℕ) (ns : List ℕ) (q : ℕ) → SimplePart (place q) ≡ parts_of p (item (simple v ns) q)
 unfolding parts_of instr_parts simple

@@ -1,7 +1,7 @@
 -- A list that is read stands in the file: each field of it is read at its place. Assumes nothing.
 use Prim.Native.Nat.{ℕ, zero, suc, ◌+◌, ◌*◌, ◌≤◌}
 use native.Mathlib.Omega.{arith}
-use Rattle.std.specs.Prelude.{◌≡◌, Bool, cond, ◌&&◌, get_or}
+use Rattle.std.specs.Prelude.{◌≡◌, Bool, cond, ◌&&◌, get_or, Some}
 use Rattle.std.proofs.Math.Path.{refl, ap}
 use Rattle.std.proofs.Common.{sym, ◌∙◌}
 use Rattle.std.proofs.Math.Bool.{true, false, and-eq-true_iff}
@@ -9,7 +9,6 @@ use mathlib.Core.List.{List, [], ◌∷◌}
 use borrow.Author.Tests.{eqb-true, eqb-false, eq-eqb}
 use Rattle.std.proofs.Math.ListN.{length}
 use Rattle.std.proofs.Math.Dec.{eqb}
-use Rattle.fields.specs.declared.Field.TheVariants.{Read}
 use Rattle.fields.specs.Field.{field_at, field_read}
 use Rattle.fields.specs.laws.Laws.{read_cases, whole}
 use Rattle.files.specs.Codes.{shapes, shape_of}
@@ -21,7 +20,7 @@ use Rattle.files.specs.laws.ReadingLaws.{bits_i, bits_put, past_five}
 
 -- the field of w bits at p is read as v
 abbrev pub Reads : List ℕ → ℕ → ℕ → ℕ → Type 0
-Reads s p w v = field_read s p w ≡ Read v (record { 0 = p + w })
+Reads s p w v = field_read s p w ≡ Some (v, record { 0 = p + w })
 
 unfoldable pub Operands : List ℕ → ℕ → List ℕ → Type 0
 Operands s p [] = Unit

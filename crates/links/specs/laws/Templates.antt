@@ -1,5 +1,5 @@
 -- The templates of a tree file that is read: their lists stand in it one after the other, so each keeps its links. Assumes nothing.
-use Rattle.std.specs.Prelude.{ℕ, zero, suc, ◌+◌, ◌*◌, ◌≤◌, ◌<◌, ◌≡◌, refl, List, [], ◌∷◌, length, get_or}
+use Rattle.std.specs.Prelude.{ℕ, zero, suc, ◌*◌, ◌≤◌, ◌<◌, ◌≡◌, refl, List, [], ◌∷◌, length, get_or}
 use Rattle.std.proofs.Common.{arith, ◌∙◌}
 use Rattle.files.specs.Reading.{got}
 use Rattle.files.specs.Tree.{Template, tree_read}

@@ -1,13 +1,12 @@
 -- `lists::conditional_size` meets its contract. Assumes nothing.
 use Rattle.lists.specs.Pass.{conditional_size}
-use mathlib.Core.Path.{refl}
-use borrow.Author.Tests.{eq-eqb, ne_eqb}
+use mathlib.Core.Path.{refl, sym, ◌∙◌}
 use Rattle.lists.proofs.conditional_size.Goals as goal
 
-pub returns-then-class-eq2 : goal.returns-then-class-eq2
+pub returns-then-is_closed : goal.returns-then-is_closed
 unfolding conditional_size
-returns-then-class-eq2 c = rw (eq-eqb _ _ c.if-class-eq2.true) refl
+returns-then-is_closed c = rw (sym c.is_closed.ensures ∙ c.if-is_closed.true) refl
 
 pub returns : goal.returns
 unfolding conditional_size
-returns c = rw (ne_eqb _ _ c.if-class-eq2.false) refl
+returns c = rw (sym c.is_closed.ensures ∙ c.if-is_closed.false) refl

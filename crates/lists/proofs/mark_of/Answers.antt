@@ -5,7 +5,7 @@ use Rattle.lists.proofs.mark_of.Goals as goal
 
 pub returns-in-Sizes : goal.returns-in-Sizes
 unfolding mark_by
-returns-in-Sizes c = c.size_mark.ensures ∙ rw c.in-Sizes.is refl
+returns-in-Sizes c = c.size_mark.ensures ∙ rw (c.in-Sizes.is, c.is_closed.ensures) refl
 
 pub returns-in-Pasts : goal.returns-in-Pasts
 unfolding mark_by

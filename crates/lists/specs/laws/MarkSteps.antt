@@ -1,5 +1,5 @@
 -- What the readers of lists leave in the marks at each step, by what is read there. Assumes nothing.
-use Rattle.std.specs.Prelude.{ℕ, ◌+◌, ◌*◌, ◌-◌, ◌≤◌, ◌<◌, ◌≡◌, Bool, cond, length, get_or, eqb}
+use Rattle.std.specs.Prelude.{ℕ, ◌+◌, ◌*◌, ◌≤◌, ◌≡◌, Bool, cond, length, get_or, eqb, Option, Some, None, Ok}
 use native.Mathlib.Omega.{arith}
 use Rattle.std.proofs.Math.Path.{refl, sym, ap}
 use Rattle.std.proofs.Common.{◌∙◌}
@@ -7,28 +7,24 @@ use Rattle.std.proofs.Math.Bool.{true, false}
 use mathlib.Core.List.{List, [], ◌∷◌}
 use Rattle.cells.specs.declared.BitPlace.{BitPlace}
 use Rattle.cells.specs.laws.Laws.{clash}
-use Rattle.fields.specs.declared.Field.{Field}
-use Rattle.fields.specs.declared.Field.TheVariants.{Read, Cut}
 use Rattle.fields.specs.Field.{field_read}
 use Rattle.fields.specs.laws.Laws.{value_of}
 use Rattle.files.specs.Code.{Code, done, Instr, neutral_i, return_i, call_i, unless_i, cont_i, put, simple, bits}
 use Rattle.files.specs.Reading.{Got, got, refused, Head, stop, item, bad, with_field, shaped, head_at, before, after, deep_of, list_at}
-use Rattle.files.specs.Grammar.{is_closed}
 use Rattle.files.specs.Flat.{flat}
 use Rattle.files.specs.laws.Heads.{conditional_read, make_cont_read}
 use Rattle.files.specs.laws.ReadingLaws.{bits_i, Past, head_past, deep_past, list_step, list_bits_lem}
 use Rattle.lists.specs.declared.Facts.{Facts}
-use Rattle.lists.specs.declared.Listed.TheVariants.{Done}
 use Rattle.lists.specs.declared.Keep.{Keep}
 use Rattle.lists.specs.declared.Keep.TheVariants.{Sizes, Pasts}
 use Rattle.lists.specs.declared.Added.{Added}
-use Rattle.lists.specs.declared.Item.TheVariants.{End, More}
-use Rattle.lists.specs.Facts.{class_of, facts_of, listed}
+use Rattle.lists.specs.Facts.{facts_of, listed}
 use Rattle.lists.specs.Pass.{itemed, simple_at, deep_at}
 use Rattle.lists.specs.Marks.{size_mark, mark_of, mark_by, mark, marked_in, marked, marked_instr, list_marked, head_marked}
 use Rattle.lists.specs.laws.Each.{each}
 use Rattle.lists.specs.laws.PassLaws.{closed_class}
 use Rattle.lists.specs.laws.ReadLaws.{listed_done, listed_size}
+use Rattle.lists.specs.declared.Item.TheVariants.{End, More}
 
 module _ (k : Keep) where
   -- one instruction and the rest
@@ -53,10 +49,11 @@ module _ (k : Keep) where
       go false true = refl
       go false false = refl
 
-  with_operand : (M : List ℕ) (a p : ℕ) (f : ℕ → ℕ → Head) (x : Field) → ((v q : ℕ) → head_marked k M M a (f v q)) → head_marked k M M a (with_field p f x)
+  with_operand : (M : List ℕ) (a p : ℕ) (f : ℕ → ℕ → Head) (x : Option (ℕ × BitPlace)) → ((v q : ℕ) → head_marked k M M a (f v q))
+      → head_marked k M M a (with_field p f x)
   unfolding head_marked with_field
-  with_operand M a p f (Read v q) h = h v q.0
-  with_operand M a p f Cut h = tt
+  with_operand M a p f (Some (v, q)) h = h v q.0
+  with_operand M a p f None h = tt
 
   pub simple_marked : (M s : List ℕ) (a v q n : ℕ) → 1 ≤ n → n ≤ 3 → head_marked k M M a (simple_at s v q n)
   unfolding head_marked shaped
@@ -71,7 +68,7 @@ module _ (k : Keep) where
       n h (omega arith)
 
   -- the place where the code ends is 5 bits on
-  pub code_marked : (s M M' : List ℕ) (p v : ℕ) (u : BitPlace) {g h : Head} → field_read s p 5 ≡ Read v u → g ≡ h → head_marked k M M' u.0 h
+  pub code_marked : (s M M' : List ℕ) (p v : ℕ) (u : BitPlace) {g h : Head} → field_read s p 5 ≡ Some (v, u) → g ≡ h → head_marked k M M' u.0 h
       → head_marked k M M' (p + 5) g
   code_marked s M M' p v u e f m = rw (f, ← (value_of s p 5 v u e).1.0) m
 
@@ -85,7 +82,7 @@ module _ (k : Keep) where
         let j : M₂ ≡ marked k M₁ m y = rw f at h in
         rw (conditional_read _ _ _ _ _ _ _ _ _ e f) (j ∙ rw (i, (list_bits_lem s l a x m e).0) refl)
 
-    pub saved_marked : (M₁ : List ℕ) (n : ℕ) (m : BitPlace) (x : Code) (q : ℕ) → field_read s a 8 ≡ Read n m → m.0 ≡ a + 8 → list_at s l m.0 ≡ got x q
+    pub saved_marked : (M₁ : List ℕ) (n : ℕ) (m : BitPlace) (x : Code) (q : ℕ) → field_read s a 8 ≡ Some (n, m) → m.0 ≡ a + 8 → list_at s l m.0 ≡ got x q
         → list_marked k M M₁ m.0 (list_at s l m.0) → head_marked k M M₁ a (deep_at s l a 5)
     unfolding head_marked list_marked marked_instr
     saved_marked M₁ n m x q e z f g =
@@ -108,7 +105,7 @@ module _ (k : Keep) where
 
     module _ (table : List ℕ) (own : ℕ) {M : List ℕ} {p : ℕ} (going : Marking M p) where
       -- one instruction more
-      pub marking_more : (M' : List ℕ) (u : BitPlace) (o : Added) → itemed table own (head_at s (deep_of s l) p) ≡ More u o
+      pub marking_more : (M' : List ℕ) (u : BitPlace) (o : Added) → itemed table own (head_at s (deep_of s l) p) ≡ Ok (More u o)
           → head_marked k M M' (p + 5) (head_at s (deep_of s l) p) → Marking M' u.0
       unfolding itemed head_marked after before
       marking_more M' u o e h c q r =
@@ -127,7 +124,7 @@ module _ (k : Keep) where
               }
           more i (refused n w) a b m g f = clash (cc)
 
-          go : (h : Head) → Past (8 * length s) p h → itemed table own h ≡ More u o → head_marked k M M' (p + 5) h → (g : Rest s l M₀ p₀ M p c q)
+          go : (h : Head) → Past (8 * length s) p h → itemed table own h ≡ Ok (More u o) → head_marked k M M' (p + 5) h → (g : Rest s l M₀ p₀ M p c q)
               → after (list_at s l) h ≡ got g.rest q → Rest s l M₀ p₀ M' u.0 c q
           go (stop x) w e m g f = clash (cc)
           go (item i x) w e m g f =
@@ -137,7 +134,7 @@ module _ (k : Keep) where
           go (bad n x) w e m g f = clash (cc)
 
       -- the list's end
-      pub marking_end : (M' : List ℕ) (u : BitPlace) → itemed table own (head_at s (deep_of s l) p) ≡ End u
+      pub marking_end : (M' : List ℕ) (u : BitPlace) → itemed table own (head_at s (deep_of s l) p) ≡ Ok (End u)
           → head_marked k M M' (p + 5) (head_at s (deep_of s l) p)
           → (c : Code) (q : ℕ) → list_at s l p₀ ≡ got c q → M' ≡ marked_in k M₀ p₀ c
       unfolding itemed head_marked after marked_in
@@ -145,7 +142,7 @@ module _ (k : Keep) where
           let g = going c q r in
           go (head_at s (deep_of s l) p) e h g (sym (list_step s l p) ∙ g.read)
         where
-          go : (h : Head) → itemed table own h ≡ End u → head_marked k M M' (p + 5) h → (g : Rest s l M₀ p₀ M p c q)
+          go : (h : Head) → itemed table own h ≡ Ok (End u) → head_marked k M M' (p + 5) h → (g : Rest s l M₀ p₀ M p c q)
               → after (list_at s l) h ≡ got g.rest q → M' ≡ marked_in k M₀ p₀ c
           go (stop x) e m g f = let n : done ≡ g.rest = cc in m ∙ sym (g.same ∙ ap (marked_in k M p) (sym n))
           go (item i x) e m g f = clash (cc)
@@ -153,7 +150,7 @@ module _ (k : Keep) where
 
 -- a list that is read is small, and near
 pub listed_near : (table : List ℕ) (own : ℕ) (s : List ℕ) (l p : ℕ) (u : BitPlace) (f : Facts) → length s ≤ 65536
-    → listed table own (list_at s l p) ≡ Done u f → (f.size ≤ 1048576) × (u.0 ≤ 524288)
+    → listed table own (list_at s l p) ≡ Ok (u, f) → (f.size ≤ 1048576) × (u.0 ≤ 524288)
 listed_near table own s l p u f h e =
     let x = listed_done table own (list_at s l p) u f e in (listed_size table own s l p u f h e, omega (arith, list_bits_lem s l p x.0 u.0 x.1))
 
@@ -165,7 +162,7 @@ mark_by_lem Pasts table own c q = refl
 
 -- a list's own mark, when all inside it have theirs
 pub list_marked_lem : (k : Keep) (table : List ℕ) (own : ℕ) (s : List ℕ) (l : ℕ) (M₀ M M' : List ℕ) (p v : ℕ) (u : BitPlace) (f : Facts)
-    → ((c : Code) (q : ℕ) → list_at s l p ≡ got c q → M ≡ marked_in k M₀ p c) → listed table own (list_at s l p) ≡ Done u f → v ≡ mark_by k f u.0
+    → ((c : Code) (q : ℕ) → list_at s l p ≡ got c q → M ≡ marked_in k M₀ p c) → listed table own (list_at s l p) ≡ Ok (u, f) → v ≡ mark_by k f u.0
     → M' ≡ mark M p v → list_marked k M₀ M' p (list_at s l p)
 unfolding list_marked marked
 list_marked_lem k table own s l M₀ M M' p v u f inside e w m =

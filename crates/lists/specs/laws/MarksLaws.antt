@@ -3,7 +3,7 @@
 use Rattle.std.specs.Prelude.{ℕ, ◌+◌, ◌*◌, ◌/◌, ◌≤◌, ◌≡◌, List, get_or}
 use native.Mathlib.Omega.{arith}
 use Rattle.std.proofs.Math.Path.{refl}
-use Rattle.std.proofs.Common.{sym, ◌∙◌, get_or-set_same}
+use Rattle.std.proofs.Common.{◌∙◌, get_or-set_same}
 use Rattle.std.proofs.Math.ListN.{length, length-set}
 use Rattle.std.proofs.Math.Seq.{get_or-set_other}
 use Rattle.files.specs.Code.{Code, done, neutral, return, call, unless_false, make_cont, bits, Instr, neutral_i, return_i, call_i, unless_i, cont_i, put}

@@ -1,5 +1,5 @@
 -- One pass finds the facts: what each instruction adds, from the first to the last, comes to the facts of the list. Assumes nothing.
-use Rattle.std.specs.Prelude.{ℕ, zero, suc, ◌+◌, ◌≤◌, ◌≡◌, Bool, cond, ◌&&◌, ◌||◌, List, leb, eqb}
+use Rattle.std.specs.Prelude.{ℕ, ◌+◌, ◌≤◌, ◌≡◌, Bool, cond, ◌&&◌, ◌||◌, List}
 use Rattle.std.proofs.Common.{add-zero, ap, ◌∙◌, le-leb, leb-true}
 use Rattle.std.proofs.Math.Nat.{zero-add, add_assoc}
 use native.Mathlib.Omega.{arith}
@@ -10,14 +10,16 @@ use Rattle.files.specs.Code.{Code, done, neutral, return, call, unless_false, ma
 use Rattle.files.specs.Reading.{Got, got, refused}
 use Rattle.files.specs.Grammar.{is_empty, is_open, is_closed, each_neutral}
 use Rattle.files.specs.Flat.{conditional, flat, fits_offset, arms_fit, offsets_fit}
+use Rattle.lists.specs.declared.Class.{Class}
+use Rattle.lists.specs.declared.Class.TheVariants.{Empty, Open, Closed, Neither as NoClass}
 use Rattle.lists.specs.declared.Kind.{Kind}
-use Rattle.lists.specs.declared.Kind.TheVariants.{Neutral, Ending, SavesOpen, SavesClosed, SavesNeither, Neither}
+use Rattle.lists.specs.declared.Kind.TheVariants.{Neutral, Ending, SavesOpen, SavesClosed, Neither}
 use Rattle.lists.specs.declared.Classes.{Classes}
 use Rattle.lists.specs.declared.Added.{Added}
 use Rattle.lists.specs.declared.State.{State}
 use Rattle.lists.specs.Sets.{unite}
 use Rattle.lists.specs.laws.SetsLaws.{unite_zero, unite_assoc}
-use Rattle.lists.specs.Facts.{class_by, class_of, slots_fit, unite_neutral, slots_close, facts_of, listed}
+use Rattle.lists.specs.Facts.{says_empty, says_open, says_closed, class_by, class_of, slots_fit, unite_neutral, slots_close, facts_of, listed}
 use Rattle.lists.specs.Pass.{conditional_kind, conditional_size, conditional_added, save_kind, save_added, added_by, classes_after, is_save, state_after, begun}
 use Rattle.lists.specs.Pass.{finish, run, listed_from}
 
@@ -92,24 +94,24 @@ sorted (unless_false x y r) = rw (and_assoc (is_empty r) (is_closed x) (is_close
     (sorted_conditional (arms (is_open y) (is_closed y) (sorted x)) (sorted r))
 sorted (make_cont n x r) = sorted_save (sorted x) (is_closed r)
 
-pub empty_class : (c : Code) → is_empty c ≡ eqb (class_of c) 0
-unfolding class_of
-empty_class c = four (λ e o k. e ≡ eqb (class_by e o k) 0) refl refl refl refl (sorted c)
+pub empty_class : (c : Code) → is_empty c ≡ says_empty (class_of c)
+unfolding class_of says_empty
+empty_class c = four (λ e o k. e ≡ says_empty (class_by e o k)) refl refl refl refl (sorted c)
 
-pub open_class : (c : Code) → is_open c ≡ eqb (class_of c) 1
-unfolding class_of
-open_class c = four (λ e o k. o ≡ eqb (class_by e o k) 1) refl refl refl refl (sorted c)
+pub open_class : (c : Code) → is_open c ≡ says_open (class_of c)
+unfolding class_of says_open
+open_class c = four (λ e o k. o ≡ says_open (class_by e o k)) refl refl refl refl (sorted c)
 
-pub closed_class : (c : Code) → is_closed c ≡ eqb (class_of c) 2
-unfolding class_of
-closed_class c = four (λ e o k. k ≡ eqb (class_by e o k) 2) refl refl refl refl (sorted c)
+pub closed_class : (c : Code) → is_closed c ≡ says_closed (class_of c)
+unfolding class_of says_closed
+closed_class c = four (λ e o k. k ≡ says_closed (class_by e o k)) refl refl refl refl (sorted c)
 
 -- the class of a whole list, by the class of what is left of it
-under : Classes → ℕ → ℕ
-under c zero = c.empty
-under c (suc zero) = c.opened
-under c (suc (suc zero)) = c.closed
-under c (suc (suc (suc k))) = 3
+under : Classes → Class → Class
+under c Empty = c.empty
+under c Open = c.opened
+under c Closed = c.closed
+under c NoClass = NoClass
 
 begun_class : (c : Code) → under begun.classes (class_of c) ≡ class_of c
 unfolding under begun class_of
@@ -125,9 +127,9 @@ module _ (c : Classes) {e o k : Bool} (r : Sorted e o k) where
   unfolding under classes_after
   ending_class = four (λ e o k. under (classes_after Ending c) (class_by e o k) ≡ under c (class_by false false e)) refl refl refl refl r
 
-  neither_class : under (classes_after Neither c) (class_by e o k) ≡ 3
+  neither_class : under (classes_after Neither c) (class_by e o k) ≡ NoClass
   unfolding under classes_after
-  neither_class = four (λ e o k. under (classes_after Neither c) (class_by e o k) ≡ 3) refl refl refl refl r
+  neither_class = four (λ e o k. under (classes_after Neither c) (class_by e o k) ≡ NoClass) refl refl refl refl r
 
   conditional_class : {bo bk : Bool} → Arms bo bk
       → under (classes_after (cond bo Neutral (cond bk Ending Neither)) c) (class_by e o k) ≡ under c (class_by false (bo && (e || o)) ((bo && k) || (e && bk)))
@@ -165,23 +167,21 @@ unfolding conditional
 arms_size_lem true x y r = simp length-append (omega arith)
 arms_size_lem false x y r = simp length-append (omega arith)
 
-arms_no_save : (x y : ℕ) → is_save (conditional_kind x y) ≡ false
+arms_no_save : (x y : Class) → is_save (conditional_kind x y) ≡ false
 unfolding conditional_kind is_save
-arms_no_save x y = go (eqb x 1 && eqb y 1) (eqb x 2 && eqb y 2)
+arms_no_save x y = go (says_open x && says_open y) (says_closed x && says_closed y)
   where
     go : (a b : Bool) → is_save (cond a Neutral (cond b Ending Neither)) ≡ false
     go true b = refl
     go false true = refl
     go false false = refl
 
-save_is_save : (x : ℕ) → is_save (save_kind x) ≡ true
+save_is_save : (x : Class) → is_save (save_kind x) ≡ true
 unfolding save_kind is_save
-save_is_save x = go (leb x 1) (eqb x 2)
-  where
-    go : (a b : Bool) → is_save (cond a SavesOpen (cond b SavesClosed SavesNeither)) ≡ true
-    go true b = refl
-    go false true = refl
-    go false false = refl
+save_is_save Empty = refl
+save_is_save Open = refl
+save_is_save Closed = refl
+save_is_save NoClass = refl
 
 -- ---- what an instruction adds
 module _ (table : List ℕ) (own : ℕ) where

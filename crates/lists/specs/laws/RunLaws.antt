@@ -1,5 +1,5 @@
 -- A run of neutral instructions without lists, passed at one go: what it comes to for the list, its marks and its bits. Assumes nothing.
-use Rattle.std.specs.Prelude.{ℕ, ◌+◌, ◌*◌, ◌-◌, ◌/◌, ◌%◌, ◌^◌, ◌≤◌, ◌<◌, ◌≡◌, Bool, true, false, cond, ◌&&◌, ◌||◌, List, length, eqb}
+use Rattle.std.specs.Prelude.{ℕ, ◌+◌, ◌*◌, ◌-◌, ◌/◌, ◌%◌, ◌^◌, ◌≤◌, ◌≡◌, Bool, true, false, cond, ◌&&◌, List, length, eqb}
 use Rattle.std.proofs.Common.{add-zero, add_assoc, arith, sym, ap, ◌∙◌, shr-shr}
 use Rattle.std.proofs.Math.Path.{refl}
 use Rattle.std.proofs.Math.Bool.{and-true, or-false, and_assoc}
@@ -8,19 +8,15 @@ use Rattle.std.proofs.lemmas.Nat.{shl-shr}
 use Rattle.std.proofs.Math.Pow.{field}
 use Rattle.cells.specs.declared.BitPlace.{BitPlace}
 use Rattle.fields.specs.Field.{field_at}
-use Rattle.fields.specs.laws.Laws.{field_small, joined, line_in, line_code}
-use Rattle.files.specs.Codes.{shape_of}
-use Rattle.files.specs.Reading.{head_at, deep_of, list_at}
+use Rattle.fields.specs.laws.Laws.{joined, line_in}
+use Rattle.files.specs.Reading.{deep_of, list_at}
 use Rattle.files.specs.laws.Heads.{code_read}
 use Rattle.lists.specs.declared.Keep.{Keep}
-use Rattle.lists.specs.declared.Kind.TheVariants.{Neutral}
 use Rattle.lists.specs.declared.Added.{Added}
-use Rattle.lists.specs.declared.Item.TheVariants.{More}
 use Rattle.lists.specs.declared.State.{State}
 use Rattle.lists.specs.Facts.{slot_named, slot_closes}
-use Rattle.lists.specs.Sets.{unite}
 use Rattle.lists.specs.laws.SetsLaws.{unite_zero}
-use Rattle.lists.specs.Pass.{simple_added, classes_after, is_save, state_after, listed_from, itemed, simple_at, run_shape, Plain, Neutrals, none, more}
+use Rattle.lists.specs.Pass.{simple_added, classes_after, is_save, state_after, listed_from, itemed, run_shape, Plain, Neutrals, none, more}
 use Rattle.lists.specs.Pass.{run_after}
 use Rattle.lists.specs.laws.ReadLaws.{line_read, simple_anywhere, line_whole, turn_more, turn_bits}
 use Rattle.lists.specs.laws.MarkSteps.{simple_marked, Marking, marking_more}

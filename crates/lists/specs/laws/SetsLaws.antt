@@ -1,9 +1,9 @@
 -- What is in a union is in one of the two sets, and sets are united in any grouping. Assumes nothing.
 use Rattle.std.specs.Prelude.{ℕ, zero, suc, ◌+◌, ◌*◌, ◌/◌, ◌%◌, ◌^◌, ◌<◌, ◌≡◌, refl, Bool, true, false, ◌||◌, eqb}
-use Rattle.std.proofs.Common.{pow-suc, mod-lt, div-add-mod', arith, sym, ap, ap₂, ◌∙◌, eq-eqb, ne_eqb, eqb-true}
+use Rattle.std.proofs.Common.{pow-suc, div-add-mod', arith, sym, ap, ap₂, ◌∙◌, eq-eqb, ne_eqb, eqb-true}
 use Rattle.std.proofs.lemmas.Bool.{eqb-false}
 use Rattle.std.proofs.Math.Arith.{bin_ind}
-use Rattle.std.specs.Int.Bits.{bit_or, or_zero_r}
+use Rattle.std.specs.Int.Bits.{or_zero_r}
 use Rattle.std.proofs.lemmas.Nat.{or_shr, or_mod}
 use Rattle.lists.specs.Sets.{unite, has}
 

@@ -19,7 +19,7 @@ use Rattle.files.specs.Grammar.{entry_of, suits, index_fits, each_neutral, indic
 use Rattle.files.specs.Orphans.{is_template, closes}
 use Rattle.files.specs.Table.{constant_cell, slot_of, row_of}
 use Rattle.files.specs.laws.TableLaws.{slot_or, EntryFits, FoundFits, found_fits, constant_tag, row_length, row_entry}
-use Rattle.files.specs.Valid.{Bytes, Valid}
+use Rattle.files.specs.Valid.{Valid}
 use Rattle.files.specs.laws.ReadingLaws.{first_byte}
 use Rattle.lists.specs.Sets.{unite, has}
 use Rattle.lists.specs.laws.SetsLaws.{has_none, has_unite, has_one}

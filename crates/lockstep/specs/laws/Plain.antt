@@ -1,7 +1,7 @@
 -- What is alike: registers, memory and instructions, and what an owner has the right to. Assumes nothing.
 use Rattle.std.specs.Prelude.{◌≡◌}
 use Prim.Native.Nat.{◌<◌, ◌^◌}
-use Rattle.std.specs.Prelude.{true, length, get_or, set}
+use Rattle.std.specs.Prelude.{true, length, get_or}
 use Prim.Native.Nat.{ℕ}
 use Rattle.owners.specs.Owners.{may_read, may_set}
 use Rattle.owners.specs.declared.Owner.{Owner}

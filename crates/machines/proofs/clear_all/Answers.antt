@@ -1,11 +1,11 @@
 -- `machines::clear_all` meets its contract. Assumes nothing.
-use Rattle.machines.proofs.Laws.{zeroed_whole}
+use Rattle.machines.specs.Start.{zeros}
 use Rattle.machines.proofs.clear_all.Goals as goal
 
 pub returns : goal.returns
-returns c =
-    let pre = c.requires in (
-      zeroed_whole c.args.stack.now _ 256 pre.0 c.clear.ensures,
-      zeroed_whole c.args.store.now _ 2048 pre.1 c.clear-2.ensures,
-      zeroed_whole c.args.frames.now _ 2048 pre.2 c.clear-3.ensures,
-    )
+unfolding zeros
+returns c = (
+  rw c.told-stack at (c.fill.ensures.after (λ y same. same)),
+  rw c.told-store at (c.fill-2.ensures.after (λ y same. same)),
+  rw c.told-frames at (c.fill-3.ensures.after (λ y same. same)),
+)

@@ -12,49 +12,47 @@ returns-in-6 c =
     coded (slot_at c.args.table.now c.args.template) _ 6 c.args.a c.args.b _ c.in-6.is
     (c.literal.ensures ∙ ap (λ x. resolved_as (as_literal (slot_names x))) c.slot_at.ensures)
 
-pub returns-in-Number : goal.returns-in-Number
+pub returns-in_ok-under_tag-in-7 : goal.returns-in_ok-under_tag-in-7
 unfolding slot_resolve rule_of
-returns-in-Number c =
+returns-in_ok-under_tag-in-7 c =
     let x = slot_at c.args.table.now c.args.template c.args.a in
     coded (slot_at c.args.table.now c.args.template) _ 7 c.args.a c.args.b _ c.in-7.is
-    (marked_number x Closure 12 _ (c.under_tag.ensures ∙ ap (marked_as 12) c.slot_at-in-7.ensures) _ (closure_slot x) _ c.in-Number.is)
+    (marked_number x Closure 12 _ (c.under_tag.ensures ∙ ap (marked_as 12) c.slot_at-in-7.ensures) _ (closure_slot x) _ c.in_ok-under_tag-in-7.was)
 
-pub returns-in-Other : goal.returns-in-Other
+pub returns-in_err-under_tag-in-7 : goal.returns-in_err-under_tag-in-7
 unfolding slot_resolve rule_of
-returns-in-Other c =
+returns-in_err-under_tag-in-7 c =
     let x = slot_at c.args.table.now c.args.template c.args.a in
-    coded (slot_at c.args.table.now c.args.template) _ 7 c.args.a c.args.b _ c.in-7.is
-    (marked_other x Closure 12 _ (c.under_tag.ensures ∙ ap (marked_as 12) c.slot_at-in-7.ensures) _ (closure_slot x) c.in-Other.is)
+    c.from_residual.ensures ∙ coded (slot_at c.args.table.now c.args.template) _ 7 c.args.a c.args.b _ c.in-7.is
+    (marked_other x Closure 12 _ (c.under_tag.ensures ∙ ap (marked_as 12) c.slot_at-in-7.ensures) _ (closure_slot x) c.in_err-under_tag-in-7.was)
 
-pub returns-in-Number-under_tag : goal.returns-in-Number-under_tag
+pub returns-in_ok-under_tag-in-8 : goal.returns-in_ok-under_tag-in-8
 unfolding slot_resolve rule_of
-returns-in-Number-under_tag c =
-    let x = slot_at c.args.table.now c.args.template c.args.a in
-    coded (slot_at c.args.table.now c.args.template) _ 8 c.args.a c.args.b _ c.in-8.is
-    (marked_number x Global 11 _ (c.under_tag-in-8.ensures ∙ ap (marked_as 11) c.slot_at-in-8.ensures) _ (global_slot x Global) _ c.in-Number-under_tag.is)
-
-pub returns-in-Other-under_tag : goal.returns-in-Other-under_tag
-unfolding slot_resolve rule_of
-returns-in-Other-under_tag c =
+returns-in_ok-under_tag-in-8 c =
     let x = slot_at c.args.table.now c.args.template c.args.a in
     coded (slot_at c.args.table.now c.args.template) _ 8 c.args.a c.args.b _ c.in-8.is
-    (marked_other x Global 11 _ (c.under_tag-in-8.ensures ∙ ap (marked_as 11) c.slot_at-in-8.ensures) _ (global_slot x Global)
-    c.in-Other-under_tag.is)
+    (marked_number x Global 11 _ (c.under_tag-in-8.ensures ∙ ap (marked_as 11) c.slot_at-in-8.ensures) _ (global_slot x Global) _ c.in_ok-under_tag-in-8.was)
 
-pub returns-in-Number-under_tag-2 : goal.returns-in-Number-under_tag-2
+pub returns-in_err-under_tag-in-8 : goal.returns-in_err-under_tag-in-8
 unfolding slot_resolve rule_of
-returns-in-Number-under_tag-2 c =
+returns-in_err-under_tag-in-8 c =
+    let x = slot_at c.args.table.now c.args.template c.args.a in
+    c.from_residual-in_err-under_tag-in-8.ensures ∙ coded (slot_at c.args.table.now c.args.template) _ 8 c.args.a c.args.b _ c.in-8.is
+    (marked_other x Global 11 _ (c.under_tag-in-8.ensures ∙ ap (marked_as 11) c.slot_at-in-8.ensures) _ (global_slot x Global) c.in_err-under_tag-in-8.was)
+
+pub returns-in_ok-under_tag-in-9 : goal.returns-in_ok-under_tag-in-9
+unfolding slot_resolve rule_of
+returns-in_ok-under_tag-in-9 c =
     let x = slot_at c.args.table.now c.args.template c.args.a in
     coded (slot_at c.args.table.now c.args.template) _ 9 c.args.a c.args.b _ c.in-9.is
-    (marked_number x SetGlobal 11 _ (c.under_tag-in-9.ensures ∙ ap (marked_as 11) c.slot_at-in-9.ensures) _ (global_slot x SetGlobal) _ c.in-Number-under_tag-2.is)
+    (marked_number x SetGlobal 11 _ (c.under_tag-in-9.ensures ∙ ap (marked_as 11) c.slot_at-in-9.ensures) _ (global_slot x SetGlobal) _ c.in_ok-under_tag-in-9.was)
 
-pub returns-in-Other-under_tag-2 : goal.returns-in-Other-under_tag-2
+pub returns-in_err-under_tag-in-9 : goal.returns-in_err-under_tag-in-9
 unfolding slot_resolve rule_of
-returns-in-Other-under_tag-2 c =
+returns-in_err-under_tag-in-9 c =
     let x = slot_at c.args.table.now c.args.template c.args.a in
-    coded (slot_at c.args.table.now c.args.template) _ 9 c.args.a c.args.b _ c.in-9.is
-    (marked_other x SetGlobal 11 _ (c.under_tag-in-9.ensures ∙ ap (marked_as 11) c.slot_at-in-9.ensures) _ (global_slot x SetGlobal)
-    c.in-Other-under_tag-2.is)
+    c.from_residual-in_err-under_tag-in-9.ensures ∙ coded (slot_at c.args.table.now c.args.template) _ 9 c.args.a c.args.b _ c.in-9.is
+    (marked_other x SetGlobal 11 _ (c.under_tag-in-9.ensures ∙ ap (marked_as 11) c.slot_at-in-9.ensures) _ (global_slot x SetGlobal) c.in_err-under_tag-in-9.was)
 
 pub returns-in_default : goal.returns-in_default
 returns-in_default c = c.unnamed.ensures ∙ other_code _ _ _ _ c.in_default.in_default-own.rest.0.0.0.1 c.in_default.in_default-own.rest.0.0.1 c.in_default.in_default-own.rest.0.1 c.in_default.in_default-own.rest.1

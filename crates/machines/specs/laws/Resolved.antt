@@ -1,7 +1,7 @@
 -- Refusal 7 and the resolution of entries are one table: a neutral code whose index fits its template's entries (document 01, refusal 7) is
 -- resolved to its rule. Assumes nothing.
-use Rattle.std.specs.Prelude.{ℕ, ◌+◌, ◌-◌, ◌≤◌, ◌≡◌, Bool, true, false, cond, ◌&&◌, List, leb, eqb, get_or, replicate}
-use Rattle.std.proofs.Common.{arith, sym, ap, ◌∙◌, leb-true, eqb-true, get_or-drop}
+use Rattle.std.specs.Prelude.{ℕ, ◌+◌, ◌-◌, ◌≤◌, ◌≡◌, Bool, true, false, cond, List, leb, eqb, get_or, replicate}
+use Rattle.std.proofs.Common.{arith, sym, ◌∙◌, leb-true, eqb-true, get_or-drop}
 use Rattle.std.proofs.Math.Path.{refl}
 use Rattle.std.proofs.Math.Bool.{and-eq-true_iff}
 use Rattle.std.proofs.Math.Option.{Option, none, some}

@@ -2,13 +2,12 @@
 -- lent buffer. The promises are the functions' own: `Reads.Learnt` is what Rattle reads off a contract's `ensures`, over the arguments, the answer and
 -- the arguments at exit, `Kinds` the types of these. Each is an equation with a definition of the arguments, so one law gives all. A promise that
 -- left something open would not be one, and its line below would not be proved. A function for users that is added gets a line here. Assumes nothing.
-use Rattle.std.specs.Prelude.{ℕ, ◌≡◌, List}
+use Rattle.std.specs.Prelude.{ℕ, ◌≡◌, List, Result}
 use Rattle.std.proofs.Common.{sym, ◌∙◌}
 use contract.Lifetimes.{Lfts}
 use denote.Triple.Clauses.{AtExit}
 use borrow.Fn.Kinds.{ParamKind, ResultKind, Out, Dens, res_t, ended_of}
 use Rattle.machines.specs.Runs.{memory, ran}
-use Rattle.files.specs.declared.Outcome.{Outcome}
 use Rattle.exporter.specs.Exporter.{exported}
 use Rattle.tree.proofs.check_tree.Kinds as check-tree
 use Rattle.tree.proofs.check_tree.Reads as check-tree-reads
@@ -33,7 +32,6 @@ use Rattle.join.proofs.join.Kinds as join
 use Rattle.join.proofs.join.Reads as join-reads
 use Rattle.exporter.proofs.exporter_join.Kinds as exporter-join
 use Rattle.exporter.proofs.exporter_join.Reads as exporter-join-reads
-use Rattle.trim.specs.declared.Trimmed.{Trimmed}
 use Rattle.trim.proofs.trim.Kinds as trim
 use Rattle.trim.proofs.trim.Reads as trim-reads
 use Rattle.exporter.proofs.exporter_trim.Kinds as exporter-trim
@@ -54,6 +52,7 @@ use Rattle.exporter.proofs.exporter_run_linear.Kinds as exporter-run-linear
 use Rattle.exporter.proofs.exporter_run_linear.Reads as exporter-run-linear-reads
 use Rattle.exporter.proofs.exporter_run_basic.Kinds as exporter-run-basic
 use Rattle.exporter.proofs.exporter_run_basic.Reads as exporter-run-basic-reads
+use Rattle.files.specs.declared.Refusal.{Refusal}
 
 -- THE LAW
 pub fixed : {A : Type 0} {d x y : A} → x ≡ d → y ≡ d → x ≡ y
@@ -77,12 +76,12 @@ pub check_linear_only : Only 1 check-linear.ps check-linear.r check-linear-reads
 check_linear_only κs a x y e f p q = fixed p q
 
 -- flatten::flatten(s, out): its answer, and out
-pub flatten_only : Only 2 flatten.ps flatten.r flatten-reads.Learnt {B = Outcome × List ℕ}
+pub flatten_only : Only 2 flatten.ps flatten.r flatten-reads.Learnt {B = Result ℕ (Refusal ℕ) × List ℕ}
     (λ κs x e. (x, e.1.0.now))
 flatten_only κs a x y e f p q = (λ i. (fixed p.0 q.0 i, fixed p.1 q.1 i))
 
 -- lines::program(sheet, out): its answer, and out
-pub program_only : Only 2 program.ps program.r program-reads.Learnt {B = Outcome × List ℕ}
+pub program_only : Only 2 program.ps program.r program-reads.Learnt {B = Result ℕ (Refusal ℕ) × List ℕ}
     (λ κs x e. (x, e.1.0.now))
 program_only κs a x y e f p q = (λ i. (fixed p.0 q.0 i, fixed p.1 q.1 i))
 
@@ -125,7 +124,7 @@ pub exporter_run_basic_only : Only 6 exporter-run-basic.ps exporter-run-basic.r 
 exporter_run_basic_only κs a x y e f p q = fixed p q
 
 -- pull::pull_list(clips, file, budget, list): its answer, and list
-pub pull_list_only : Only 3 pull-list.ps pull-list.r pull-list-reads.Learnt {B = Outcome × List ℕ}
+pub pull_list_only : Only 3 pull-list.ps pull-list.r pull-list-reads.Learnt {B = Result ℕ (Refusal ℕ) × List ℕ}
     (λ κs x e. (x, e.1.1.1.0.now))
 pull_list_only κs a x y e f p q = (λ i. (fixed p.0 q.0 i, fixed p.1.0 q.1.0 i))
 
@@ -135,7 +134,7 @@ pub exporter_pull_list_only : Only 4 exporter-pull-list.ps exporter-pull-list.r 
 exporter_pull_list_only κs a x y e f p q = (λ i. (fixed p.0 q.0 i, fixed p.1 q.1 i))
 
 -- unflatten::back(s, out): its answer, and out
-pub back_only : Only 2 back.ps back.r back-reads.Learnt {B = Outcome × List ℕ}
+pub back_only : Only 2 back.ps back.r back-reads.Learnt {B = Result ℕ (Refusal ℕ) × List ℕ}
     (λ κs x e. (x, e.1.0.now))
 back_only κs a x y e f p q = (λ i. (fixed p.0 q.0 i, fixed p.1 q.1 i))
 
@@ -145,7 +144,7 @@ pub exporter_back_only : Only 3 exporter-back.ps exporter-back.r exporter-back-r
 exporter_back_only κs a x y e f p q = (λ i. (fixed p.0 q.0 i, fixed p.1 q.1 i))
 
 -- tabulate::tabulate(basic, out): its answer, and out
-pub tabulate_only : Only 2 tabulate.ps tabulate.r tabulate-reads.Learnt {B = Outcome × List ℕ}
+pub tabulate_only : Only 2 tabulate.ps tabulate.r tabulate-reads.Learnt {B = Result ℕ (Refusal ℕ) × List ℕ}
     (λ κs x e. (x, e.1.0.now))
 tabulate_only κs a x y e f p q = (λ i. (fixed p.0 q.0 i, fixed p.1 q.1 i))
 
@@ -155,7 +154,7 @@ pub exporter_tabulate_only : Only 3 exporter-tabulate.ps exporter-tabulate.r exp
 exporter_tabulate_only κs a x y e f p q = (λ i. (fixed p.0 q.0 i, fixed p.1 q.1 i))
 
 -- join::join(prologue, file, out): its answer, and out
-pub join_only : Only 3 join.ps join.r join-reads.Learnt {B = Outcome × List ℕ}
+pub join_only : Only 3 join.ps join.r join-reads.Learnt {B = Result ℕ (Refusal ℕ) × List ℕ}
     (λ κs x e. (x, e.1.1.0.now))
 join_only κs a x y e f p q = (λ i. (fixed p.0 q.0 i, fixed p.1 q.1 i))
 
@@ -170,7 +169,7 @@ pub exporter_join_only : Only 4 exporter-join.ps exporter-join.r exporter-join-r
 exporter_join_only κs a x y e f p q = (λ i. (fixed p.0 q.0 i, fixed p.1 q.1 i))
 
 -- trim::trim(file, out, list): its answer, out and list
-pub trim_only : Only 3 trim.ps trim.r trim-reads.Learnt {B = Trimmed × (List ℕ × List ℕ)}
+pub trim_only : Only 3 trim.ps trim.r trim-reads.Learnt {B = Result (ℕ × ℕ) (Refusal ℕ) × (List ℕ × List ℕ)}
     (λ κs x e. (x, (e.1.0.now, e.1.1.0.now)))
 trim_only κs a x y e f p q = (λ i. (fixed p.0 q.0 i, (fixed p.1.0 q.1.0 i, fixed p.1.1 q.1.1 i)))
 

@@ -1,7 +1,7 @@
 -- A clip's line is the list's line of that number, and depends on that clip, the file and the budget alone. Assumes nothing.
 use Prim.Native.Nat.{ℕ, zero, suc, ◌+◌, ◌-◌, ◌/◌, ◌%◌, ◌<◌}
 use Rattle.std.proofs.Common.{arith, sym, ◌∙◌}
-use Rattle.std.specs.Prelude.{◌≡◌, Bool, cond, ◌&&◌, ltb, ℤ, length, drop}
+use Rattle.std.specs.Prelude.{◌≡◌, Bool, cond, ◌&&◌, ltb, ℤ, length, drop, Ok}
 use Rattle.std.proofs.Math.Path.{refl, ap}
 use Rattle.std.proofs.Math.Bool.{true, false}
 use mathlib.Core.List.{List, [], ◌∷◌, ◌++◌, append_assoc}
@@ -11,10 +11,8 @@ use Rattle.std.specs.Int.Signed.{lt_z}
 use Rattle.cells.specs.Cells.{full, tag_of, int_of}
 use Rattle.text.specs.Text.{digits_within, decimal, integer, line}
 use Rattle.integers.specs.Integers.{signed}
-use Rattle.linear.specs.declared.Checked.TheVariants.{Accepted}
 use Rattle.machines.specs.declared.End.{End}
 use Rattle.machines.specs.declared.End.TheVariants.{Halted, Wrong, OutOfBudget, Refused}
-use Rattle.pull.specs.declared.Found.{Found}
 use Rattle.pull.specs.Pull.{clip_count, clip_at, word, ok_word, order_word, low_word, high_word, none_word, wrong_word, verdict, source_words}
 use Rattle.pull.specs.Pull.{halted_words, end_words, found_line, clip_run, pull_line, pull_lines, pull_list, pull_checked, listed, pulled_list}
 
@@ -172,14 +170,14 @@ module _ (cs : List ℤ) (file : List ℕ) (b : ℕ) where
       by false e before = let d : k ≡ n → ⊥ = eqb-false k n e in before (omega arith)
 
   -- of an accepted list
-  pub clip_line : (old : List ℕ) (k : ℕ) → pull_checked cs file b (length old) ≡ Accepted → k < clip_count cs
+  pub clip_line : (old : List ℕ) (k : ℕ) → pull_checked cs file b (length old) ≡ Ok tt → k < clip_count cs
       → line_at k (pulled_list cs file b old) ≡ pull_line k (clip_at cs k) file b
   unfolding pulled_list listed pull_list
   clip_line old k e h = rw e (line_among (clip_count cs) k (drop (length (pull_list cs file b)) old) h)
 
 -- so two accepted lists that have a clip in the same place have the same line there
-pub no_other_clip : (cs ds : List ℤ) (file : List ℕ) (b : ℕ) (old older : List ℕ) (k : ℕ) → pull_checked cs file b (length old) ≡ Accepted
-    → pull_checked ds file b (length older) ≡ Accepted → k < clip_count cs → k < clip_count ds → clip_at cs k ≡ clip_at ds k
+pub no_other_clip : (cs ds : List ℤ) (file : List ℕ) (b : ℕ) (old older : List ℕ) (k : ℕ) → pull_checked cs file b (length old) ≡ Ok tt
+    → pull_checked ds file b (length older) ≡ Ok tt → k < clip_count cs → k < clip_count ds → clip_at cs k ≡ clip_at ds k
     → line_at k (pulled_list cs file b old) ≡ line_at k (pulled_list ds file b older)
 no_other_clip cs ds file b old older k a d h i e =
     clip_line cs file b old k a h ∙ ap (λ (clip : List ℤ). pull_line k clip file b) e ∙ sym (clip_line ds file b older k d i)

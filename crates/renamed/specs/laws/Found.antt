@@ -1,5 +1,5 @@
 -- Code with its indices renumbered is as valid as it was, and names again what it named. Assumes nothing.
-use Rattle.std.specs.Prelude.{ℕ, zero, suc, ◌+◌, ◌≤◌, ◌<◌, ◌≡◌, Bool, cond, ◌&&◌, ◌||◌, leb}
+use Rattle.std.specs.Prelude.{ℕ, ◌<◌, ◌≡◌, Bool, cond, ◌&&◌, ◌||◌, leb}
 use Rattle.std.proofs.Common.{arith, ◌∙◌}
 use Rattle.std.proofs.Math.Path.{refl, sym, ap}
 use Rattle.std.proofs.Math.Bool.{true, false, and-eq-true_iff}
@@ -8,9 +8,8 @@ use Rattle.std.proofs.Math.Option.{Option, none, some}
 use borrow.Author.Tests.{leb-true, eqb-true, eq-eqb}
 use Rattle.std.proofs.Math.Dec.{eqb}
 use Rattle.std.proofs.Math.ListN.{length, get_or}
-use Rattle.std.proofs.lemmas.List.{length-map}
 use Rattle.files.specs.Codes.{is_neutral, operands}
-use Rattle.files.specs.Code.{Code, done, neutral, return, call, unless_false, make_cont, bits}
+use Rattle.files.specs.Code.{Code, done, neutral, return, call, unless_false, make_cont}
 use Rattle.files.specs.Entries.{Entry, constant, global, template}
 use Rattle.files.specs.Grammar.{entry_of, suits, index_fits, each_neutral, indices_fit}
 use Rattle.files.specs.Orphans.{is_template, closes}

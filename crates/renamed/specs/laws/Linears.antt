@@ -1,17 +1,14 @@
 -- The linear files of two tree files whose templates are the same but for indices and templates' numbers are twins (request 5): the places are the
 -- same bytes. Assumes nothing.
-use Prim.Native.Nat.{ℕ, suc, ◌+◌, ◌*◌, ◌/◌, ◌%◌, ◌≤◌}
-use Rattle.std.proofs.Common.{arith, ◌∙◌, le→leb}
+use Prim.Native.Nat.{ℕ, suc, ◌+◌, ◌*◌, ◌/◌, ◌%◌}
+use Rattle.std.proofs.Common.{arith, ◌∙◌}
 use Rattle.std.proofs.Math.Nat.{div-add-mod}
-use Rattle.std.specs.Prelude.{◌≡◌, Bool, get_or, drop, leb}
+use Rattle.std.specs.Prelude.{◌≡◌, Bool, get_or}
 use Rattle.std.proofs.Math.Path.{refl, sym, ap, subst}
 use Rattle.std.proofs.Math.Bool.{true, false}
-use mathlib.Core.List.{List, [], ◌∷◌, ◌++◌, append_assoc, append-nil}
+use mathlib.Core.List.{List, [], ◌∷◌, ◌++◌, append-nil}
 use Rattle.std.proofs.Math.Option.{Option}
 use Rattle.std.proofs.Math.ListN.{length, length-append}
-use Rattle.std.proofs.Math.Seq.{take-append_seam}
-use Rattle.files.specs.laws.CodesLaws.{neutral_alike}
-use Rattle.files.specs.Codes.{shape_of, is_neutral, operands}
 use Rattle.files.specs.Code.{Code, done, neutral, return, call, unless_false, make_cont}
 use Rattle.files.specs.Entries.{Entry}
 use Rattle.files.specs.Grammar.{is_closed, entry_of}
@@ -25,11 +22,11 @@ use Rattle.readback.specs.laws.Templates.{linears}
 use Rattle.files.specs.laws.AcceptedLaws.{flat_checked_lem}
 use Rattle.readback.specs.laws.ReadBack.{flattened_reads}
 use Rattle.rules.specs.declared.Plain.{Plain}
-use Rattle.machines.specs.Fetched.{Fetched, returns, calls, branches, saves, jumps, plainly, resolve}
-use Rattle.machines.specs.Fetched.{decode, no_template, no_linear, linear_at}
+use Rattle.machines.specs.Fetched.{Fetched, jumps, plainly}
+use Rattle.machines.specs.Fetched.{no_template, no_linear, linear_at}
 use Rattle.machines.specs.Machine.{linear_program}
 use Rattle.machines.specs.Runs.{Memory, linear_run}
-use Rattle.agree.specs.laws.Suits.{is_true, Only, Shut, Open, either, Ok}
+use Rattle.agree.specs.laws.Suits.{Only, Shut, Open, either, Ok}
 use Rattle.agree.specs.laws.Layout.{At, at_skip, at_take}
 use Rattle.agree.specs.laws.Decoded.{lin, lin_neutral, lin_return, lin_call, lin_branch, lin_save, lin_jump}
 use Rattle.agree.specs.laws.Places as places

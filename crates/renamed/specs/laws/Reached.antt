@@ -1,13 +1,12 @@
 -- The templates that closures lead to from template 0 on: of an accepted tree file they may stay alone (request 5). Assumes nothing.
-use Rattle.std.specs.Prelude.{◌≡◌, refl, Bool, true, false, cond, ◌&&◌, ◌||◌, List, [], ◌∷◌, ℕ, zero, suc, ◌+◌, ◌<◌, ◌≤◌, length, get_or}
+use Rattle.std.specs.Prelude.{◌≡◌, refl, Bool, true, ◌&&◌, ◌||◌, List, ℕ, ◌+◌, ◌<◌, ◌≤◌, length, get_or}
 use Rattle.std.proofs.Math.Bool.{and-eq-true_iff}
-use Rattle.std.proofs.Math.Option.{Option, none, some}
-use Rattle.std.proofs.Common.{arith, le-leb, eq-eqb, eqb-true}
+use Rattle.std.proofs.Math.Option.{some}
+use Rattle.std.proofs.Common.{arith, le-leb, eq-eqb}
 use Rattle.std.proofs.Math.Dec.{eqb}
 use Rattle.files.specs.Code.{Code, done, neutral, return, call, unless_false, make_cont}
-use Rattle.files.specs.Entries.{Entry, constant, global, template}
-use Rattle.files.specs.laws.EntriesLaws.{EntriesOk}
-use Rattle.files.specs.Grammar.{entry_of, suits, index_fits, indices_fit, lowest, indexed_template, each_neutral}
+use Rattle.files.specs.Entries.{Entry, template}
+use Rattle.files.specs.Grammar.{entry_of, suits, index_fits, indices_fit, indexed_template, each_neutral}
 use Rattle.files.specs.Tree.{Template}
 use Rattle.files.specs.Reading.{got}
 use Rattle.files.specs.laws.AllGot.{Each, each_at, each_weaker}
@@ -18,7 +17,7 @@ use Rattle.files.specs.Valid.{Bytes}
 use Rattle.readback.specs.laws.TreeFacts.{TreeFacts, tree_facts}
 use Rattle.files.specs.laws.AcceptedLaws.{none_refused}
 use Rattle.files.specs.laws.AcceptedLaws.{checked, checked_read, flat_checked_lem}
-use Rattle.trim.specs.Reached.{marked, reached}
+use Rattle.trim.specs.Reached.{reached}
 use Rattle.trim.specs.Standing.{Leads}
 use Rattle.trim.specs.laws.ReachedLaws.{or_left, or_right, Up, closes_up, marked_more}
 use Rattle.trim.proofs.theorems.RoundsLaws.{reached_leads}

@@ -1,6 +1,6 @@
 -- Templates trimmed (request 5; definitions in the crate trim). Where template 0 stays and what the templates that stay name stays too,
 -- the trimmed file ends alike. Assumes nothing.
-use Rattle.std.specs.Prelude.{◌≡◌, Bool, true, false, cond, ◌&&◌, ◌||◌, leb, eqb}
+use Rattle.std.specs.Prelude.{◌≡◌, Bool, true, ◌&&◌, ◌||◌, leb, eqb}
 use Rattle.std.proofs.Math.Path.{refl, ap}
 use Rattle.std.proofs.Common.{sym, ◌∙◌, le-leb, eq-eqb}
 use mathlib.Core.List.{List, [], ◌∷◌, map}

@@ -1,7 +1,6 @@
 -- THE THEOREM of request 5 on ends: each machine ends alike on a file that passes 1 to 7 and on its trimmed file, the linear machine where the file flattens.
 -- Assumes nothing.
 use Rattle.std.specs.Prelude.{ℕ, zero, suc, ◌+◌, ◌*◌, ◌≡◌, refl, List, [], ◌∷◌, length, get_or}
-use Rattle.std.proofs.Common.{sym, ◌∙◌}
 use Rattle.files.specs.Accepted.{tree_checked, flat_checked}
 use Rattle.files.specs.Linear.{linear_file}
 use Rattle.files.specs.Reading.{got}

@@ -1,9 +1,5 @@
 -- `rewrite::put_code` meets its contract: a code and none, one or two operand bytes, one after the other. Assumes nothing.
 use native.Mathlib.Omega.{arith}
-use mathlib.Core.Path.{◌∙◌, ap}
-use lib.ListN.{length}
-use Rattle.fields.specs.laws.Laws.{field_small}
-use Rattle.bit_writer.proofs.theorems.Laws.{put_length}
 use Rattle.rewrite.specs.laws.Steps.{put_none, put_one, put_two}
 use Rattle.rewrite.proofs.put_code.Goals as goal
 
@@ -22,19 +18,6 @@ returns-then-count-eq1 c =
     let z = c.if-count-eq1.true in
     record { result_value = omega (arith, e.0, g.0); out_after = put_one _ _ _ _ _ _ _ _ e.1 e.0 _ _ g.1 (rw (c.bits_at-first.ensures.0, c.past.ensures) at x) _ z (omega (arith, p.count_bound.1)) }
 
-pub put_field-requires : goal.put_field-requires
-put_field-requires c =
-    let p = c.requires in
-    let e = c.put_field-second.ensures in
-    let g = c.put_field-third.ensures in
-    let m₁ = ap length e.1 ∙ put_length _ _ _ in
-    let m₂ = ap length g.1 ∙ put_length _ _ _ in (
-      omega (arith, m₁, m₂, p.s_len_bound.1),
-      omega arith,
-      rw c.bits_at.ensures.0 (field_small _ _ _),
-      omega (arith, m₁, m₂, e.0, g.0, p.count_bound.1, c.if-count-eq0.false, c.if-count-eq1.false),
-    )
-
 pub returns : goal.returns
 returns c =
     let p = c.requires in
@@ -44,7 +27,7 @@ returns c =
     let x = c.new_operand.ensures.0 in
     let n = c.if-count-eq0.false in
     let m = c.if-count-eq1.false in record {
-      result_value = omega (arith, e.0, g.0, k.0, p.s_len_bound.4);
+      result_value = omega (arith, e.0, g.0, k.0, p.s_len_bound.3);
       out_after = put_two _ _ _ _ _ _ _ _ e.1 e.0 _ _ g.1 (rw (c.bits_at-first.ensures.0, c.past.ensures) at x) _ _ _ k.1 g.0
-          (rw c.past-2.ensures at c.bits_at.ensures.0) _ (omega (arith, p.s_len_bound.4)) (omega (arith, p.count_bound.1, p.s_len_bound.4));
+          (rw c.past-2.ensures at c.bits_at.ensures.0) _ (omega (arith, p.s_len_bound.3)) (omega (arith, p.count_bound.1, p.s_len_bound.3));
     }

@@ -4,7 +4,6 @@ use native.Mathlib.Omega.{arith}
 use mathlib.Core.Path.{refl, ap, ◌∙◌}
 use lib.ListN.{length}
 use Rattle.bit_writer.proofs.theorems.Laws.{put_length}
-use Rattle.rewrite.specs.Tokens.{operand_count}
 use Rattle.rewrite.specs.laws.Steps.{left_all, left_code, left_small, left_operands, left_next, left_none, cleared_then, cleared_still}
 use Rattle.rewrite.proofs.rewrite.Goals as goal
 
@@ -12,7 +11,7 @@ pub loop-left-init : goal.loop-left-init
 loop-left-init c =
     let p = c.requires in
     let e = c.put_field-there.ensures in
-    (refl, refl, λ w. left_all _ _ _ _ w (cleared_still _ _ _ _ e.1 e.0 (omega (arith, p.s_len_bound.3))))
+    (refl, refl, λ w. left_all _ _ _ _ w (cleared_still _ _ _ _ e.1 e.0 (omega (arith, p.s_len_bound.2))))
 
 pub bits_at-code-requires : goal.bits_at-code-requires
 bits_at-code-requires c =
@@ -36,10 +35,10 @@ put_code-there-requires c =
     let v = c.loop-left.invariant in
     let l = v.2 p.tokens_at in
     let k = left_code _ _ _ _ l c.loop-left-test.true in
-    let counted = c.operand_count-count.ensures ∙ ap operand_count c.shape_of.ensures in
+    let counted = c.operand_count-count.ensures _ c.shape_of.ensures in
     let m = left_operands _ _ _ _ l c.loop-left-test.true _ _ c.bits_at-code.ensures.0 counted in
     let e = c.put_field-there.ensures in
-    let g = ap length e.1 ∙ put_length _ _ _ in record { s_len_bound = (p.s_len_bound.0, omega (arith, g, v.0, p.s_len_bound.1), p.s_len_bound.2, left_small _ _ _ _ l c.loop-left-test.true _ 0 c.bits_at-code.ensures.0, m.1); count_bound = (omega (arith, k, m), omega (arith, m, v.0, v.1, g, e.0, p.s_len_bound.3)) }
+    let g = ap length e.1 ∙ put_length _ _ _ in record { s_len_bound = (p.s_len_bound.0, omega (arith, g, v.0, p.s_len_bound.1), left_small _ _ _ _ l c.loop-left-test.true _ 0 c.bits_at-code.ensures.0, m.1); count_bound = (omega (arith, k, m), omega (arith, m, v.0, v.1, g, e.0, p.s_len_bound.2)) }
 
 pub past-here-requires : goal.past-here-requires
 past-here-requires c =
@@ -47,7 +46,7 @@ past-here-requires c =
     let v = c.loop-left.invariant in
     let l = v.2 p.tokens_at in
     let k = left_code _ _ _ _ l c.loop-left-test.true in
-    let counted = c.operand_count-count.ensures ∙ ap operand_count c.shape_of.ensures in
+    let counted = c.operand_count-count.ensures _ c.shape_of.ensures in
     let m = left_operands _ _ _ _ l c.loop-left-test.true _ _ c.bits_at-code.ensures.0 counted in
     omega (arith, k, m, p.s_len_bound.0)
 
@@ -57,7 +56,7 @@ overflow_sub-left c =
     let v = c.loop-left.invariant in
     let l = v.2 p.tokens_at in
     let k = left_code _ _ _ _ l c.loop-left-test.true in
-    let counted = c.operand_count-count.ensures ∙ ap operand_count c.shape_of.ensures in
+    let counted = c.operand_count-count.ensures _ c.shape_of.ensures in
     let m = left_operands _ _ _ _ l c.loop-left-test.true _ _ c.bits_at-code.ensures.0 counted in
     omega (arith, k, m, p.s_len_bound.0)
 
@@ -67,14 +66,14 @@ loop-left-preserved c =
     let v = c.loop-left.invariant in
     let l = v.2 p.tokens_at in
     let k = left_code _ _ _ _ l c.loop-left-test.true in
-    let counted = c.operand_count-count.ensures ∙ ap operand_count c.shape_of.ensures in
+    let counted = c.operand_count-count.ensures _ c.shape_of.ensures in
     let m = left_operands _ _ _ _ l c.loop-left-test.true _ _ c.bits_at-code.ensures.0 counted in
     let e = c.put_field-there.ensures in
     let g = ap length e.1 ∙ put_length _ _ _ in
     let d = c.put_code-there.ensures in (
       ap length d.out_after ∙ put_length _ _ _ ∙ v.0,
       omega (arith, m, d.result_value, v.1),
-      λ w. rw c.past-here.ensures (left_next _ _ _ _ (v.2 w) c.loop-left-test.true _ _ c.bits_at-code.ensures.0 counted _ _ (omega (arith, v.1, e.0, g, p.s_len_bound.3))
+      λ w. rw c.past-here.ensures (left_next _ _ _ _ (v.2 w) c.loop-left-test.true _ _ c.bits_at-code.ensures.0 counted _ _ (omega (arith, v.1, e.0, g, p.s_len_bound.2))
           d.out_after d.result_value),
     )
 
@@ -83,4 +82,4 @@ returns c =
     let p = c.requires in
     let v = c.loop-left.invariant in
     let e = c.put_field-there.ensures in
-    let z = c.loop-left-test.false in record { result_value = omega (arith, v.1, e.0); out_after = λ w. cleared_then _ _ _ _ e.1 e.0 (omega (arith, p.s_len_bound.3)) _ _ (left_none _ _ _ _ (v.2 w) (omega arith)) }
+    let z = c.loop-left-test.false in record { result_value = omega (arith, v.1, e.0); out_after = λ w. cleared_then _ _ _ _ e.1 e.0 (omega (arith, p.s_len_bound.2)) _ _ (left_none _ _ _ _ (v.2 w) (omega arith)) }

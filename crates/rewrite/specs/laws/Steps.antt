@@ -1,5 +1,5 @@
 -- What the loop over codes does at each of them. Assumes nothing.
-use Rattle.std.specs.Prelude.{ℕ, zero, suc, ◌+◌, ◌*◌, ◌-◌, ◌^◌, ◌≤◌, ◌<◌, ◌≡◌, Bool, ◌||◌}
+use Rattle.std.specs.Prelude.{ℕ, ◌+◌, ◌*◌, ◌-◌, ◌^◌, ◌≤◌, ◌<◌, ◌≡◌, Bool, ◌||◌}
 use native.Mathlib.Omega.{arith}
 use Rattle.std.proofs.Math.Path.{refl, sym, ap}
 use Rattle.std.proofs.Common.{◌∙◌}
@@ -19,7 +19,7 @@ use Rattle.readback.specs.laws.Lists.{none_are, bits_are, append_are}
 use Rattle.bit_writer.proofs.theorems.Laws.{put_next}
 use Rattle.tree_file.specs.File.{operands_bits}
 use Rattle.lists.specs.Pass.{operands_at}
-use Rattle.rewrite.specs.Tokens.{Token, token, token_bits, tokens_bits, operand_count, TokenOk, TokensOk, TokensAt}
+use Rattle.rewrite.specs.Tokens.{Token, token_bits, tokens_bits, operand_count, TokenOk, TokensOk, TokensAt}
 use Rattle.rewrite.specs.Tokens.{new_operand, new_operands, renewed_one, renewed}
 use Rattle.rewrite.specs.laws.TokensLaws.{token_length, token_are, new_length}
 

@@ -1,8 +1,6 @@
 -- `rules::cons` meets its contract. Assumes nothing.
 use borrow.Author.Tests.{le-leb, lt-leb}
 use native.Mathlib.Numerals.{add-one}
-use native.Mathlib.Omega.{arith}
-use lib.ListN.{length-set}
 use Rattle.rules.specs.Rules.{cons_rule}
 use Rattle.rules.specs.State.{told}
 use Rattle.rules.proofs.cons.Goals as goal
@@ -10,9 +8,6 @@ use Rattle.rules.proofs.cons.Goals as goal
 pub returns-then-sp-lt2 : goal.returns-then-sp-lt2
 unfolding told cons_rule
 returns-then-sp-lt2 c = λ g. rw (lt-leb _ _ c.if-sp-lt2.true)
-
-pub bounds-store-st-then-st-le2048 : goal.bounds-store-st-then-st-le2048
-bounds-store-st-then-st-le2048 c = simp length-set (omega arith)
 
 pub returns-then-st-le2048 : goal.returns-then-st-le2048
 unfolding told cons_rule

@@ -10,4 +10,4 @@ returns-then-c-eq-UNDEFINED c = λ m. rw (eq-eqb _ _ c.if-c-eq-UNDEFINED.true)
 
 pub returns-else-c-eq-UNDEFINED : goal.returns-else-c-eq-UNDEFINED
 unfolding told held_rule
-returns-else-c-eq-UNDEFINED c = λ m. rw (ne_eqb _ _ c.if-c-eq-UNDEFINED.false, c.valued.ensures)
+returns-else-c-eq-UNDEFINED c = λ m. rw (ne_eqb _ _ c.if-c-eq-UNDEFINED.false)

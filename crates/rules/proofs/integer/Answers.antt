@@ -4,12 +4,12 @@ use Rattle.rules.specs.State.{told}
 use Rattle.rules.proofs.integer.Goals as goal
 
 pub int_cell-requires : goal.int_cell-requires
-int_cell-requires c = rw c.in-Within.is at c.requires.2
+int_cell-requires c = rw c.in-Some.is at c.requires.1
 
-pub returns-in-Within : goal.returns-in-Within
+pub returns-in-Some : goal.returns-in-Some
 unfolding told integer_by
-returns-in-Within c = λ g t. rw (c.in-Within.is, c.emptied.ensures.value, c.emptied.ensures.stack, c.int_cell.ensures)
+returns-in-Some c = λ g t. rw (c.in-Some.is, c.emptied.ensures.value, c.emptied.ensures.stack, c.int_cell.ensures)
 
-pub returns-in-Over : goal.returns-in-Over
+pub returns-in-None : goal.returns-in-None
 unfolding told integer_by
-returns-in-Over c = λ g t. rw c.in-Over.is
+returns-in-None c = λ g t. rw c.in-None.is

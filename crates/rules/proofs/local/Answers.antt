@@ -2,13 +2,13 @@
 use mathlib.Core.Path.{sym, ◌∙◌}
 use Rattle.rules.specs.Rules.{local_rule}
 use Rattle.rules.specs.State.{told}
-use Rattle.rules.proofs.Laws.{found_beyond, found_cell}
+use Rattle.rules.proofs.Laws.{passed, found_beyond, found_cell}
 use Rattle.rules.proofs.local.Goals as goal
 
-pub returns-in-Beyond : goal.returns-in-Beyond
+pub returns-in_err-l : goal.returns-in_err-l
 unfolding told local_rule
-returns-in-Beyond c = λ g s. rw (found_beyond _ _ _ (sym c.find_local.ensures ∙ c.in-Beyond.is))
+returns-in_err-l c = λ g s. rw (passed _ _ c.from_residual.ensures, found_beyond _ _ _ (sym c.find_local.ensures ∙ c.in_err-l.was))
 
-pub returns-in-Cell : goal.returns-in-Cell
+pub returns : goal.returns
 unfolding local_rule
-returns-in-Cell c = λ g s. rw (found_cell _ _ _ (sym c.find_local.ensures ∙ c.in-Cell.is), ← c.fetch.ensures) (c.held.ensures _)
+returns c = λ g s. rw (found_cell _ _ _ (sym c.find_local.ensures ∙ c.in_ok-l.was), ← c.fetch.ensures) (c.held.ensures _)

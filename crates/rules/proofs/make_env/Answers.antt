@@ -1,9 +1,7 @@
 -- `rules::make_env` meets its contract. Assumes nothing.
 use borrow.Author.Tests.{le-leb, lt-leb, eq-eqb, ne_eqb}
-use mathlib.Core.Path.{◌∙◌, refl}
+use mathlib.Core.Path.{refl}
 use native.Mathlib.Numerals.{add-one}
-use native.Mathlib.Omega.{arith}
-use lib.ListN.{length-set}
 use Rattle.rules.specs.Rules.{make_env_rule}
 use Rattle.rules.specs.State.{told}
 use Rattle.rules.proofs.make_env.Goals as goal
@@ -11,12 +9,6 @@ use Rattle.rules.proofs.make_env.Goals as goal
 pub returns-then-sp-n : goal.returns-then-sp-n
 unfolding told make_env_rule
 returns-then-sp-n c = λ g. rw (ne_eqb _ _ c.if-sp-n.true)
-
-pub copy_down-requires : goal.copy_down-requires
-copy_down-requires c = simp length-set (omega arith)
-
-pub shape_of-store : goal.shape_of-store
-shape_of-store c = c.copy_down.auto.dst ∙ simp length-set
 
 pub returns-then-st-sp-le2048 : goal.returns-then-st-sp-le2048
 unfolding told make_env_rule

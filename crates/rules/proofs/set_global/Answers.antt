@@ -12,4 +12,4 @@ returns-then-not-may_set c = λ s t. ap (told _) (barred _ _ _ _ _ c.may_set.ens
 
 pub returns : goal.returns
 unfolding told may_do plain_rule set_global_rule
-returns c = λ s t. rw c.valued.ensures (ap (told _) (allowed _ _ _ _ _ c.may_set.ensures c.if-not-may_set.false))
+returns c = λ s t. ap (told _) (allowed _ _ _ _ _ c.may_set.ensures c.if-not-may_set.false)

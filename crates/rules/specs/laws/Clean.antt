@@ -9,7 +9,7 @@ use Rattle.std.proofs.Math.Seq.{length-sets}
 use Rattle.std.proofs.lemmas.Bool.{eqb-false}
 use Rattle.runs.specs.Runs.{zeroed, part}
 use Rattle.cells.specs.Cells.{tag_of, closure_template, closure_env, layer_cell, frame_cell, frame_count, frame_template, frame_place}
-use Rattle.rules.specs.State.{Mem, mem, regs, Held, ok}
+use Rattle.rules.specs.State.{Mem, regs, Held, ok}
 use Rattle.rules.specs.Fit.{Fit}
 use Rattle.rules.specs.laws.Lists.{by_lt, sets_above, zeros_at}
 use Rattle.rules.specs.Rules.{Data, applied, called, Back, no_frame, back_to, walk, last_frame, frame_base, with_frame, without_frame, plain_rule, call_rule}

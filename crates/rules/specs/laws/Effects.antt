@@ -1,5 +1,5 @@
 -- What the plain rules leave, in eight cases: what holds in each of them holds of every plain rule that goes on. Assumes nothing.
-use Rattle.std.specs.Prelude.{◌≡◌, Bool, true, false, cond, not, ◌&&◌, [], ◌∷◌, reverse, ◌⊎◌, ℕ, ◌+◌, ◌-◌, ◌<◌, ◌≤◌, ◌^◌, ℤ, ◌-ℤ◌, get_or, set, take, ltb}
+use Rattle.std.specs.Prelude.{◌≡◌, Bool, true, false, cond, not, ◌&&◌, [], ◌∷◌, reverse, ◌⊎◌, ℕ, ◌+◌, ◌<◌, ◌≤◌, ℤ, ◌-ℤ◌, get_or, set, take, ltb}
 use Rattle.std.specs.Prelude.{leb, eqb}
 use Rattle.std.proofs.Math.Path.{refl}
 use Rattle.std.proofs.Math.Option.{Option, none, some}
@@ -11,7 +11,7 @@ use Rattle.runs.specs.Runs.{zeroed}
 use Rattle.cells.specs.Cells.{full, tag_of, true_cell, false_cell, unspecified_cell, undefined_cell, int_cell, closure_cell, pair_cell, pair_first, pair_second}
 use Rattle.cells.specs.Cells.{layer_cell, ValueCell, cell_of, Fits}
 use Rattle.cells.specs.declared.Value.{Value}
-use Rattle.integers.specs.Integers.{within, int_bits, total_of, all_integers, is_zero, floor_quotient}
+use Rattle.integers.specs.Integers.{within, int_bits, all_integers, is_zero, floor_quotient}
 use Rattle.integers.specs.laws.Laws.{bits_fit}
 use Rattle.rules.specs.State.{Mem, mem, regs, Held, Res, ok, wrong, need}
 use Rattle.rules.specs.Rules.{value, found, walk, top, under, part_rule, integer_rule, two_integers, subtracted, compared, divided, plain_rule}

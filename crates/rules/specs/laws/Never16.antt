@@ -4,7 +4,7 @@ use Rattle.std.proofs.Common.{arith}
 use Rattle.std.proofs.Math.Option.{Option, none, some}
 use Rattle.cells.specs.Cells.{tag_of, undefined_cell}
 use Rattle.rules.specs.State.{Mem, Held, Res, ok, wrong, need}
-use Rattle.integers.specs.Integers.{within, all_integers, total_of, is_zero, floor_quotient}
+use Rattle.integers.specs.Integers.{within, all_integers, is_zero, floor_quotient}
 use Rattle.rules.specs.Rules.{Data, plain_rule, literal_rule, closure_rule, held_rule, global_rule, set_global_rule, walk, found, local_rule, set_local_rule}
 use Rattle.rules.specs.Rules.{push_rule, make_env_rule, check_args_rule, top, cons_rule, car_rule, cdr_rule, eqv_rule, add_rule}
 use Rattle.rules.specs.Rules.{under, integer_rule, two_integers, subtracted, compared, divided, sub_rule, less_rule, floor_div_rule, call_rule, make_cont_rule}

@@ -1,12 +1,13 @@
 -- `runs::copy_down` meets its contract. Assumes nothing.
-use borrow.Author.Rules.{rules}
-use mathlib.Core.Path.{refl}
-use Prim.Native.Nat.{◌-◌}
-use Rattle.runs.proofs.Laws.{sets_on, down_on, down_done}
+use Rattle.std.specs.Prelude.{◌≡◌, ◌+◌, ◌-◌, reverse}
+use Rattle.std.proofs.Common.{arith, ◌∙◌, ap}
+use Rattle.std.proofs.lemmas.List.{length-take-le, length-reverse}
+use Rattle.runs.proofs.Laws.{put_back}
 use Rattle.runs.proofs.copy_down.Goals as goal
 
-pub loop-k-preserved : goal.loop-k-preserved
-loop-k-preserved c = (search rules, search rules, search rules, sets_on _ _ _ _ _ _ c.loop-k.invariant.3 (down_on _ _ _ c.loop-k-test.true c.loop-k.invariant.0 c.requires.0) refl)
-
 pub returns : goal.returns
-returns c = down_done _ _ _ _ c.loop-k.invariant.3 c.loop-k-test.false
+returns c =
+    let count : c.args.at + c.args.n - c.args.at ≡ c.args.n = omega arith in
+    let long = length-reverse _ ∙ length-take-le c.args.n c.args.src.now c.requires.source in
+    let turned = c.reverse.ensures.after ∙ ap reverse c.copy_from_slice.ensures.after in
+    rw count (put_back _ _ _ _ _ turned long c.requires.target)

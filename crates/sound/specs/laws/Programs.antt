@@ -2,7 +2,7 @@
 -- operands and places are such as reading gives. Assumes nothing.
 use Prim.Native.Nat.{ℕ, zero, suc, ◌+◌, ◌*◌, ◌≤◌, ◌<◌, ◌^◌}
 use native.Mathlib.Omega.{arith}
-use Rattle.std.specs.Prelude.{refl, Bool, cond, ltb, leb, eqb, length, take, drop}
+use Rattle.std.specs.Prelude.{refl, cond, ltb, leb, eqb, length, take, drop}
 use mathlib.Core.List.{List, [], ◌∷◌}
 use Rattle.std.proofs.Math.Option.{Option, none, some}
 use Rattle.std.proofs.Math.ListN.{get_or, get_or-eq_default}

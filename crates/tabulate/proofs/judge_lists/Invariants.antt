@@ -6,9 +6,9 @@ use mathlib.Core.Path.{◌≡◌}
 use Prim.Native.Nat.{◌-◌}
 use Rattle.tabulate.proofs.judge_lists.Given as goal
 
-abbrev pub invariant-loop-here : goal.invariant-loop-here
-invariant-loop-here l = (w : ListIn l.s l.end.0)
+abbrev pub invariant-loop-end : goal.invariant-loop-end
+invariant-loop-end l = (w : ListIn l.s l.end.0)
     → (f : From l.s l.end.0 l.own l.here.0 (inside w.list)) × (lowest closed_template 0 (tabulated w.list) ≡ lowest closed_template l.own (templates_from f))
 
-abbrev pub decreases-loop-here : goal.decreases-loop-here
-decreases-loop-here l = 200000 - l.own
+abbrev pub decreases-loop-end : goal.decreases-loop-end
+decreases-loop-end l = 200000 - l.own

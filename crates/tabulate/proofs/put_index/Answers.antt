@@ -10,7 +10,7 @@ pub put_field-requires : goal.put_field-requires
 put_field-requires c =
     let pre = c.requires in
     let m = ap length c.put_field-next.ensures.1 ∙ put_length _ _ _ in
-    (omega (arith, m, pre.2), omega arith, omega (arith, c.find-i.ensures, pre.3, pre.1), omega (arith, m, c.put_field-next.ensures.0, pre.5))
+    (omega (arith, m, pre.1), omega arith, omega (arith, c.find-i.ensures, pre.2, pre.0), omega (arith, m, c.put_field-next.ensures.0, pre.4))
 
 pub shape_of-out : goal.shape_of-out
 shape_of-out c =
@@ -20,5 +20,5 @@ shape_of-out c =
 pub returns : goal.returns
 returns c =
     let pre = c.requires in
-    put_code_index _ _ _ _ _ _ _ _ _ (omega (arith, c.find-i.ensures)) pre.5 c.put_field-next.ensures.0 c.put_field-next.ensures.1 c.put_field.ensures.0
+    put_code_index _ _ _ _ _ _ _ _ _ (omega (arith, c.find-i.ensures)) pre.4 c.put_field-next.ensures.0 c.put_field-next.ensures.1 c.put_field.ensures.0
     c.put_field.ensures.1

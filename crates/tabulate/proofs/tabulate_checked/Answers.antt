@@ -7,7 +7,7 @@ use Rattle.tabulate.proofs.tabulate_checked.Goals as goal
 
 pub returns-then-out-size : goal.returns-then-out-size
 returns-then-out-size c =
-    let all = short_output_lem c.requires.1 _ c.if-out-size.true in
+    let all = short_output_lem c.requires _ c.if-out-size.true in
     record { value = all.0; out_after = all.1 }
 
 pub slice_bounds-write_tabulated-end-2 : goal.slice_bounds-write_tabulated-end-2
@@ -16,12 +16,12 @@ slice_bounds-write_tabulated-end-2 c = sym (length-take-le _ _ c.if-out-size.fal
 pub write_tabulated-requires : goal.write_tabulated-requires
 write_tabulated-requires c =
     let pre = c.requires in
-    let f = checked_short pre.1 in
+    let f = checked_short pre in
     let m = length-take-le _ c.args.out.now c.if-out-size.false in
-    (f.0, pre.0, rw m (omega (arith, f.1)), whole_in pre.1 _ m)
+    (f.0, rw m (omega (arith, f.1)), whole_in pre _ m)
 
 pub returns : goal.returns
 returns c =
     let pre = c.requires in
-    let all = file_written pre.1 _ c.if-out-size.false _ _ c.write_tabulated.ensures refl in
+    let all = file_written pre _ c.if-out-size.false _ _ c.write_tabulated.ensures refl in
     record { value = all.0; out_after = all.1 }

@@ -1,9 +1,8 @@
 -- How many bits entries have, by their slots. Assumes nothing.
-use Rattle.std.specs.Prelude.{ℕ, zero, suc, ◌+◌, ◌*◌, ◌/◌, ◌^◌, ◌≤◌, ◌<◌, ◌≡◌, refl, Bool, true, false, cond, List, [], ◌∷◌, ◌++◌, length, get_or, take, eqb}
-use Rattle.std.proofs.Common.{arith, sym, ap, ◌∙◌, eq-eqb, ne_eqb, length-append}
+use Rattle.std.specs.Prelude.{ℕ, zero, suc, ◌+◌, ◌*◌, ◌/◌, ◌≤◌, ◌<◌, ◌≡◌, refl, Bool, true, false, cond, List, [], ◌∷◌, length, get_or, take, eqb}
+use Rattle.std.proofs.Common.{arith, sym, ◌∙◌, ne_eqb, length-append}
 use Rattle.files.specs.Entries.{Entry, constant, global, template, tag_width}
 use Rattle.files.specs.Linear.{entry_bits, entries_bits}
-use Rattle.files.specs.laws.EntriesLaws.{width_none, width_narrow, width_wide}
 use Rattle.tree_file.proofs.theorems.Written.{constant_length}
 use Rattle.tabulate.specs.Slots.{slot_of, Fits, AllFit, slots_of}
 use Rattle.tabulate.specs.Collect.{slot_bits, slots_bits}

@@ -1,30 +1,27 @@
 -- Collecting the entries of one template, code by code. Assumes nothing.
-use Prim.Native.Nat.{ℕ, zero, suc, ◌+◌, ◌*◌, ◌-◌, ◌^◌, ◌≤◌, ◌<◌}
-use Rattle.std.proofs.Common.{add-zero, arith, sym, ◌∙◌, eq-eqb, ne_eqb, lt-ltb, le-ltb, length-append}
-use Rattle.std.specs.Prelude.{◌≡◌, refl, Bool, true, false, cond, ◌||◌, get_or, take, set, eqb}
+use Prim.Native.Nat.{ℕ, suc, ◌+◌, ◌*◌, ◌-◌, ◌≤◌, ◌<◌}
+use Rattle.std.proofs.Common.{arith, sym, ◌∙◌}
+use Rattle.std.specs.Prelude.{◌≡◌, refl, take, Some}
 use Rattle.std.proofs.Math.Path.{ap}
-use mathlib.Core.List.{List, [], ◌∷◌, ◌++◌, append-nil}
+use mathlib.Core.List.{List, [], ◌∷◌, append-nil}
 use Rattle.std.proofs.Math.ListN.{length}
 use Rattle.cells.specs.declared.BitPlace.{BitPlace}
-use Rattle.files.specs.Reading.{Got, got, refused}
-use Rattle.files.specs.Entries.{Entry, constant, global, template, tag_width}
-use Rattle.files.specs.laws.AllGot.{got_value, refused_got}
+use Rattle.files.specs.Reading.{got}
+use Rattle.files.specs.Entries.{Entry, constant, global, template}
+use Rattle.files.specs.laws.AllGot.{got_value}
 use Rattle.basic.specs.declared.Facts.{Facts}
-use Rattle.basic.specs.Basic.{Basic, ended, plain, carries, closure, branch, save, carries_t, bits, carried_bits}
+use Rattle.basic.specs.Basic.{Basic, ended, plain, carries, closure, branch, save, bits, carried_bits}
 use Rattle.basic.specs.Reading.{list_at}
-use Rattle.basic.specs.Tabulated.{inside, uses, among, with_entry, with_all, entries_of}
+use Rattle.basic.specs.Tabulated.{inside, uses, with_entry, with_all, entries_of}
 use Rattle.basic.specs.Valid.{CarriesOk, literal_ok, global_ok, set_global_ok, TokenOk}
 use Rattle.basic.specs.Forest.{Lists, no_lists, next_list, inside_all, uses_all, own_bits, own_all}
 use Rattle.basic.specs.laws.ReadLaws.{list_facts, list_least}
 use Rattle.basic.specs.laws.StepLaws.{ListIs}
-use Rattle.basic.specs.laws.ForestLaws.{Passing, Carrying, Closing, none_left, lists_end}
-use Rattle.tabulate.specs.declared.Step.{Step}
+use Rattle.basic.specs.laws.ForestLaws.{none_left, lists_end}
 use Rattle.tabulate.specs.declared.Step.TheVariants.{Copy, Entry as EntryStep, Closure}
-use Rattle.tabulate.specs.declared.Collected.{Collected}
-use Rattle.tabulate.specs.declared.Collected.TheVariants.{Many, Entries}
 use Rattle.tabulate.specs.Slots.{slot_of, Fits, AllFit, slots_of, placed, Added}
 use Rattle.tabulate.specs.Walk.{StepIs, is_copy, is_entry, is_closure}
-use Rattle.tabulate.specs.Collect.{OwnList, CollectedIs, many_entries, few_entries, Collecting}
+use Rattle.tabulate.specs.Collect.{OwnList, CollectedIs, few_entries, Collecting}
 use Rattle.tabulate.specs.laws.SlotLaws.{slots_length, placed_with, fit_with, all_longer}
 
 -- ---- bounds
@@ -166,7 +163,7 @@ module _ {s : List ℕ} {e : ℕ} {c : Basic} {n : ℕ} where
                 with_entry_lem (template next) closure_number count' table' slot is d.put d.many z.0 next' size' y.left
                 (rw v.1 y.lists) (y.uses next ∙ ap (λ (i : ℕ). template next ∷ uses_all i y.left) m) (omega (arith, y.size)) (omega (arith, y.count))
 
-    pub collect_end : e ≤ p → count ≤ 255 → CollectedIs (entries_of n c) (own_bits c) table (Entries count size)
+    pub collect_end : e ≤ p → count ≤ 255 → CollectedIs (entries_of n c) (own_bits c) table (Some (count, size))
     unfolding uses_all with_all own_all
     collect_end h few =
         let z = none_left s e k.left p h k.stand in

@@ -1,5 +1,5 @@
 -- Judging and measuring all templates. Assumes nothing.
-use Rattle.std.specs.Prelude.{ℕ, suc, ◌+◌, ◌*◌, ◌≤◌, ◌<◌, ◌≡◌, refl, Bool, true, false, take, eqb, leb}
+use Rattle.std.specs.Prelude.{ℕ, suc, ◌+◌, ◌*◌, ◌≤◌, ◌<◌, ◌≡◌, refl, Bool, true, false, take, leb, Option, Some, None, Ok, Err, Result}
 use Rattle.std.proofs.Common.{zero-add, arith, sym, ◌∙◌, le-leb}
 use Rattle.std.proofs.Math.Path.{ap}
 use mathlib.Core.List.{List, [], ◌∷◌, append-nil}
@@ -11,11 +11,9 @@ use Rattle.files.specs.Linear.{entries_bits}
 use Rattle.tree_file.specs.File.{template_bits, templates_bits}
 use Rattle.tree_file.specs.laws.Lengths.{template_length}
 use Rattle.basic.specs.Checked.{entries_fit}
-use Rattle.basic.specs.Valid.{Ok}
+use Rattle.basic.specs.Valid.{Ok as Valid}
 use Rattle.basic.specs.Forest.{own_bits}
 use Rattle.basic.specs.laws.ForestLaws.{plain_long}
-use Rattle.tabulate.specs.declared.Measured.TheVariants.{Large, Bits}
-use Rattle.tabulate.specs.declared.Collected.TheVariants.{Many, Entries}
 use Rattle.tabulate.specs.Collect.{CollectedIs, many_entries, few_entries, slots_bits}
 use Rattle.tabulate.specs.Judge.{MeasuredIs, too_large, measured}
 use Rattle.tabulate.specs.laws.BitsLaws.{slots_bits_lem}
@@ -31,21 +29,17 @@ use Rattle.basic.specs.laws.ReadLaws.{list_facts, list_least}
 use Rattle.basic.specs.laws.StepLaws.{inside_bits}
 use Rattle.basic.specs.laws.ClassLaws.{closed_is}
 use Rattle.basic.specs.Told.{class_of}
+use Rattle.lists.specs.Facts.{says_closed}
 use Rattle.basic.specs.laws.ForestLaws.{lists_end}
 use Rattle.basic.specs.declared.Facts.{Facts}
-use Rattle.basic.specs.declared.Listed.{Listed}
-use Rattle.basic.specs.declared.Listed.TheVariants.{Refused as RefusedList}
 use Rattle.basic.specs.Told.{list_told}
 use Rattle.basic.specs.laws.StepLaws.{ListIs, list_refused}
 use Rattle.basic.proofs.theorems.WrittenLaws.{closures_length}
 use Rattle.files.specs.laws.AllGot.{got_value, refused_got}
-use Rattle.tabulate.specs.declared.Collected.{Collected}
-use Rattle.tabulate.specs.declared.Next.{Next}
 use Rattle.tabulate.specs.Collect.{OwnList}
-use Rattle.tabulate.specs.declared.Next.TheVariants.{Nothing as NoNext, List as ListNext}
-use Rattle.tabulate.specs.declared.Closed.TheVariants.{All, But}
 use Rattle.tabulate.specs.Walk.{Walk, NextIs, no_next, next_is}
 use Rattle.tabulate.specs.Judge.{ListIn, ClosedIs, all_closed, but_one, From, templates_from}
+use Rattle.files.specs.declared.Refusal.{Refusal}
 
 -- ---- closures are as many as are inside
 pub all_length : (cs : List Basic) (n : ℕ) → length (closures_all n cs) ≡ inside_all cs
@@ -66,10 +60,10 @@ module _ {s : List ℕ} {e own p m : ℕ} (f : From s e own p m) where
   abbrev pub from_walk : Walk s p e
   from_walk = record { lists = f.first ∷ f.others; stand = f.stand }
 
-  pub from_end : NextIs s e (own + 1) (f.first ∷ f.others) NoNext → (closures_all (own + 1) (f.first ∷ f.others) ≡ []) × (m ≡ own)
+  pub from_end : NextIs s e (own + 1) (f.first ∷ f.others) None → (closures_all (own + 1) (f.first ∷ f.others) ≡ []) × (m ≡ own)
   from_end (no_next h) = (h, let k = sym (all_length (f.first ∷ f.others) (own + 1)) ∙ ap length h in omega (arith, f.number, k))
 
-  pub from_next : (q : BitPlace) → NextIs s e (own + 1) (f.first ∷ f.others) (ListNext q)
+  pub from_next : (q : BitPlace) → NextIs s e (own + 1) (f.first ∷ f.others) (Some q)
       → (g : From s e (own + 1) q.0 m) × (closures_all (own + 1) (f.first ∷ f.others) ≡ templates_from g)
   from_next q (next_is q' x ds h w) =
       let k = sym (all_length (f.first ∷ f.others) (own + 1)) ∙ ap length h in
@@ -88,19 +82,19 @@ module _ {s : List ℕ} {e own p m : ℕ} (f : From s e own p m) where
 -- ---- 6
 module _ (c : Basic) {s : List ℕ} {e own p : ℕ} (f : From s e own p (inside c))
     (rest : lowest closed_template 0 (tabulated c) ≡ lowest closed_template own (templates_from f)) (b : Bool)
-    (told : (x : Basic) (q : ℕ) → list_at s 15 p ≡ got x q → b ≡ eqb (class_of x) 2) where
+    (told : (x : Basic) (q : ℕ) → list_at s 15 p ≡ got x q → b ≡ says_closed (class_of x)) where
   first_closed : closed_template (template_of (own + 1) f.first) ≡ b
   first_closed = let r = from_read f in closed_is s p f.first r.0 (own + 1) r.1 ∙ sym (told f.first r.0 r.1)
 
-  pub judge_but : b ≡ false → ClosedIs c (But own)
+  pub judge_but : b ≡ false → ClosedIs c (Err own)
   unfolding lowest
   judge_but h = but_one own (rest ∙ rw (first_closed ∙ h) refl)
 
-  pub judge_end : b ≡ true → NextIs s e (own + 1) (f.first ∷ f.others) NoNext → ClosedIs c (All (own + 1))
+  pub judge_end : b ≡ true → NextIs s e (own + 1) (f.first ∷ f.others) None → ClosedIs c (Ok (own + 1))
   unfolding lowest
   judge_end h n = let k = from_end f n in all_closed (own + 1) (rest ∙ rw (first_closed ∙ h, k.0) refl) (omega (arith, k.1))
 
-  pub judge_next : b ≡ true → (q : BitPlace) → NextIs s e (own + 1) (f.first ∷ f.others) (ListNext q)
+  pub judge_next : b ≡ true → (q : BitPlace) → NextIs s e (own + 1) (f.first ∷ f.others) (Some q)
       → (g : From s e (own + 1) q.0 (inside c)) × (lowest closed_template 0 (tabulated c) ≡ lowest closed_template (own + 1) (templates_from g))
   unfolding lowest
   judge_next h q n =
@@ -117,8 +111,8 @@ from_low {s} {e} {own} {p} {m} f = go f.stand
         let k = list_facts s 15 p' h in (omega (arith, f.number), omega (arith, k.0, list_least s x, lists_end s e' q xs w))
 
 -- ---- entries and bits
-pub own_length : (c : Basic) → Ok c → (es : List Entry) (n : ℕ) → code_bits (indexed es n c) ≡ own_bits c
-unfolding indexed own_bits code_bits Ok
+pub own_length : (c : Basic) → Valid c → (es : List Entry) (n : ℕ) → code_bits (indexed es n c) ≡ own_bits c
+unfolding indexed own_bits code_bits Valid
 own_length ended ok es n = refl
 own_length (plain v ns r) ok es n = plain_long v ns ok.0 (indexed es n r) ∙ ap (λ (k : ℕ). 5 + 8 * length ns + k) (own_length r ok.1 es n)
 own_length (carries v e r) ok es n = omega (arith, own_length r ok.1 es n)
@@ -156,16 +150,16 @@ measure_begin w =
 
 module _ {s : List ℕ} {e own p b : ℕ} {c : Basic} (k : Measuring s e own p b c) where
   module _ (table : List ℕ) where
-    pub measure_large : CollectedIs (entries_of (own + 1) k.from.first) (own_bits k.from.first) table Many → MeasuredIs (tabulated c) Large
+    pub measure_large : CollectedIs (entries_of (own + 1) k.from.first) (own_bits k.from.first) table None → MeasuredIs (tabulated c) None
     unfolding entries_fit template_of
     measure_large (many_entries h) =
         too_large (k.fit ∙ rw (lt-leb (length (entries_of (own + 1) k.from.first)) 255 h) refl)
 
-    module _ (count size : ℕ) (is : CollectedIs (entries_of (own + 1) k.from.first) (own_bits k.from.first) table (Entries count size)) where
+    module _ (count size : ℕ) (is : CollectedIs (entries_of (own + 1) k.from.first) (own_bits k.from.first) table (Some (count, size))) where
       pub collected_few : (count ≤ 255) × (size ≡ own_bits k.from.first)
       collected_few = go is
         where
-          go : CollectedIs (entries_of (own + 1) k.from.first) (own_bits k.from.first) table (Entries count size)
+          go : CollectedIs (entries_of (own + 1) k.from.first) (own_bits k.from.first) table (Some (count, size))
               → (count ≤ 255) × (size ≡ own_bits k.from.first)
           go (few_entries count' size' h i j t a) = (omega arith, j)
 
@@ -174,7 +168,7 @@ module _ {s : List ℕ} {e own p b : ℕ} {c : Basic} (k : Measuring s e own p b
             × (leb (length (entries_of (own + 1) k.from.first)) 255 ≡ true)
         first_sum = go is
           where
-            go : CollectedIs (entries_of (own + 1) k.from.first) (own_bits k.from.first) table (Entries count size)
+            go : CollectedIs (entries_of (own + 1) k.from.first) (own_bits k.from.first) table (Some (count, size))
                 → (8 + d + size ≡ length (template_bits (template_of (own + 1) k.from.first)))
                 × (leb (length (entries_of (own + 1) k.from.first)) 255 ≡ true)
             go (few_entries count' size' h i j t a) =
@@ -182,8 +176,8 @@ module _ {s : List ℕ} {e own p b : ℕ} {c : Basic} (k : Measuring s e own p b
                 let x : d ≡ length (entries_bits es) = told ∙ ap slots_bits t ∙ slots_bits_lem es a in
                 (omega (arith, first_bits k.from, x, j), le-leb (length es) 255 h)
 
-        pub measure_end : b + (8 + d + size) ≤ 134217728 → NextIs s e (own + 1) (k.from.first ∷ k.from.others) NoNext
-            → MeasuredIs (tabulated c) (Bits (b + (8 + d + size)))
+        pub measure_end : b + (8 + d + size) ≤ 134217728 → NextIs s e (own + 1) (k.from.first ∷ k.from.others) None
+            → MeasuredIs (tabulated c) (Some (b + (8 + d + size)))
         unfolding entries_fit templates_bits template_of
         measure_end small n =
             let z = from_end k.from n in
@@ -191,7 +185,7 @@ module _ {s : List ℕ} {e own p b : ℕ} {c : Basic} (k : Measuring s e own p b
             measured (b + (8 + d + size)) (k.fit ∙ rw (q.1, z.0) refl)
             (sym (k.sum ∙ rw (z.0, append-nil (template_bits (template_of (own + 1) k.from.first))) (ap (λ (x : ℕ). b + x) (sym q.0)))) small
 
-        pub measure_next : (q : BitPlace) → NextIs s e (own + 1) (k.from.first ∷ k.from.others) (ListNext q)
+        pub measure_next : (q : BitPlace) → NextIs s e (own + 1) (k.from.first ∷ k.from.others) (Some q)
             → Measuring s e (own + 1) q.0 (b + (8 + d + size)) c
         unfolding entries_fit templates_bits template_of
         measure_next q n =
@@ -206,18 +200,18 @@ module _ {s : List ℕ} {e own p b : ℕ} {c : Basic} (k : Measuring s e own p b
 
 -- ---- what was told
 pub told_class : {s : List ℕ} {p : ℕ} {z : BitPlace} {x : Facts} → ListIs s 15 p z x → (c : Basic) (q : ℕ) → list_at s 15 p ≡ got c q
-    → eqb x.class 2 ≡ eqb (class_of c) 2
+    → says_closed x.class ≡ says_closed (class_of c)
 told_class w c q e = let v = got_value (sym w.read ∙ e) in rw (← w.class, v.0) refl
 
-pub told_none : {A : Type 0} (s : List ℕ) (p : ℕ) (n : ℕ) (z : BitPlace) {r : Listed} → r ≡ RefusedList n z → r ≡ list_told (list_at s 15 p)
-    → (c : Basic) (q : ℕ)
+pub told_none : {A : Type 0} (s : List ℕ) (p : ℕ) (x : Refusal BitPlace) {r : Result (BitPlace × Facts) (Refusal BitPlace)} → r ≡ Err x
+    → r ≡ list_told (list_at s 15 p) → (c : Basic) (q : ℕ)
     → list_at s 15 p ≡ got c q → A
-told_none s p n z e f c q g = refused_got (sym (list_refused s 15 p n z (sym e ∙ f)) ∙ g)
+told_none s p x e f c q g = refused_got (sym (list_refused s 15 p x (sym e ∙ f)) ∙ g)
 
-pub next_as : {s : List ℕ} {e n : ℕ} {cs : List Basic} {r r' : Next} → r ≡ r' → NextIs s e n cs r → NextIs s e n cs r'
+pub next_as : {s : List ℕ} {e n : ℕ} {cs : List Basic} {r r' : Option BitPlace} → r ≡ r' → NextIs s e n cs r → NextIs s e n cs r'
 next_as e x = rw (← e) x
 
-pub collected_as : {es : List Entry} {b : ℕ} {table : List ℕ} {r r' : Collected} → r ≡ r' → CollectedIs es b table r → CollectedIs es b table r'
+pub collected_as : {es : List Entry} {b : ℕ} {table : List ℕ} {r r' : Option (ℕ × ℕ)} → r ≡ r' → CollectedIs es b table r → CollectedIs es b table r'
 collected_as e x = rw (← e) x
 
 -- a template's own list

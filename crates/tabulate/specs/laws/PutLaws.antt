@@ -1,5 +1,5 @@
 -- Writing templates, bit after bit. Assumes nothing.
-use Rattle.std.specs.Prelude.{ℕ, zero, suc, ◌+◌, ◌*◌, ◌-◌, ◌/◌, ◌%◌, ◌^◌, ◌≤◌, ◌<◌, ◌≡◌, refl, Bool, true, false, cond, List, [], ◌∷◌, ◌++◌, get_or, take, drop}
+use Rattle.std.specs.Prelude.{ℕ, zero, suc, ◌+◌, ◌*◌, ◌-◌, ◌/◌, ◌%◌, ◌^◌, ◌≤◌, ◌<◌, ◌≡◌, refl, List, [], ◌∷◌, ◌++◌, get_or, take, drop}
 use native.Mathlib.Omega.{arith}
 use Rattle.std.proofs.Common.{sym, ◌∙◌, append-nil}
 use Rattle.std.proofs.Math.Path.{ap}
@@ -9,12 +9,13 @@ use Rattle.files.specs.Entries.{Entry, constant, global, template, tag_width}
 use Rattle.files.specs.Linear.{bits_of, entry_bits, entries_bits}
 use Rattle.readback.specs.laws.Bits.{AreBits, length_bits}
 use Rattle.readback.specs.laws.Entries.{entries_are}
-use Rattle.readback.specs.laws.Lists.{bits_are, append_are}
+use Rattle.readback.specs.laws.Lists.{bits_are}
 use Rattle.tree_file.proofs.theorems.Written.{constant_length}
 use Rattle.bit_writer.specs.Put.{put_bits}
 use Rattle.bit_writer.proofs.theorems.Laws.{put_length, put_next}
 use Rattle.tabulate.specs.Slots.{slot_of, Fits, AllFit, slots_of}
 use Rattle.tabulate.specs.Collect.{SlotAt, slot_bits}
+use Rattle.std.proofs.lemmas.List.{take_all}
 use Rattle.tabulate.specs.Put.{PutAt, EntriesIn, Putting}
 use Rattle.tabulate.specs.laws.WalkLaws.{width_48}
 use Rattle.tabulate.specs.laws.BitsLaws.{slot_bits_lem, tag_bits}
@@ -133,6 +134,18 @@ listing_begin {table} {count} w =
       held = ap (λ (n : ℕ). take n table) z ∙ w.held;
       fit = w.fit;
       put = put_begin (entries_bits w.entries) w.room w.settled;
+    }
+
+-- the first slots alone
+abbrev pub in_first : {table : List ℕ} {count : ℕ} {o : List ℕ} {a : ℕ} → EntriesIn table count o a
+    → EntriesIn (take count table) (length (take count table)) o a
+in_first {table} {count} w =
+    record {
+      entries = w.entries;
+      held = take_all (length (take count table)) (take count table) (omega arith) ∙ w.held;
+      fit = w.fit;
+      room = w.room;
+      settled = w.settled;
     }
 
 no_slots : (l : List Entry) → [] ≡ slots_of l → l ≡ []

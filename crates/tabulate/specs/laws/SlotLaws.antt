@@ -1,5 +1,5 @@
 -- Slots of a table: finding one, adding one, and that entries that fit are told by theirs. Assumes nothing.
-use Prim.Native.Nat.{ℕ, zero, suc, ◌+◌, ◌*◌, ◌-◌, ◌^◌, ◌≤◌, ◌<◌}
+use Prim.Native.Nat.{ℕ, zero, suc, ◌+◌, ◌*◌, ◌≤◌, ◌<◌}
 use native.Mathlib.Omega.{arith}
 use Rattle.std.specs.Prelude.{◌≡◌, Bool, ◌&&◌, ◌||◌, length, get_or, take, set, eqb}
 use Rattle.std.proofs.Math.Path.{refl, sym, ap}
@@ -8,7 +8,7 @@ use Rattle.std.proofs.Math.Bool.{true, false, cond}
 use mathlib.Core.List.{List, [], ◌∷◌, ◌++◌}
 use borrow.Author.Tests.{eq-eqb, ne_eqb, eqb-true, eqb-false, lt-ltb, le-ltb, ltb-true, ltb-false}
 use Rattle.std.proofs.Math.Dec.{ltb}
-use Rattle.files.specs.Entries.{Entry, constant, global, template, tag_width}
+use Rattle.files.specs.Entries.{Entry, constant, global, template}
 use Rattle.basic.specs.Tabulated.{same_entry, index_of, among, with_entry, with_all}
 use Rattle.tabulate.specs.Slots.{slot_of, Fits, AllFit, slots_of, position, placed, Added}
 use Rattle.tabulate.specs.laws.WalkLaws.{width_48}

@@ -1,5 +1,5 @@
 -- The tabulator: 9, the file, and what the output holds. Assumes nothing.
-use Rattle.std.specs.Prelude.{ℕ, ◌+◌, ◌*◌, ◌/◌, ◌≤◌, ◌<◌, ◌≡◌, Bool, true, false, cond, ◌&&◌, List, [], ◌++◌, take, drop, leb}
+use Rattle.std.specs.Prelude.{ℕ, ◌+◌, ◌*◌, ◌/◌, ◌≤◌, ◌<◌, ◌≡◌, Bool, true, false, cond, ◌&&◌, List, [], ◌++◌, take, drop, leb, Result, Ok, Err}
 use Rattle.std.proofs.Common.{arith, sym, ◌∙◌, append-nil, drop_of_length-le, length-take-le}
 use Rattle.std.proofs.Math.Path.{refl, ap}
 use Rattle.std.proofs.Math.Option.{Option, none, some}
@@ -24,13 +24,12 @@ use Rattle.basic.specs.Reading.{list_at, basic_read}
 use Rattle.basic.specs.Tabulated.{tabulated}
 use Rattle.basic.specs.Checked.{entries_fit, within_limits, limited, basic_checked, tabulated_file}
 use Rattle.files.specs.Outcome.{into_bytes, answered, written}
-use Rattle.tabulate.specs.declared.CheckedFile.{CheckedFile}
-use Rattle.tabulate.specs.declared.CheckedFile.TheVariants.{Accepted, Refused as RefusedChecked}
-use Rattle.files.specs.declared.Outcome.TheVariants.{Written, Refused}
 use Rattle.tabulate.specs.Judge.{CheckedIs, accepted, refused_file}
 use Rattle.tabulate.specs.Put.{PutAt, TemplatesIn, WholeIn}
 use Rattle.tabulate.specs.laws.CheckLaws.{file_bits_lem}
 use Rattle.basic.proofs.theorems.WrittenLaws.{tabulated_length}
+use Rattle.files.specs.declared.Refusal.{Refusal}
+use Rattle.files.specs.Refusal.{refusal}
 
 -- ---- what was checked fits
 limits_led : (b c d : Bool) → (b && (c && d)) ≡ true → c ≡ true
@@ -101,11 +100,11 @@ record Checked (s : List ℕ) (e count size : ℕ) : Type 0 where
   bits : size ≡ length (file_bits (tabulated list))
   small : size ≤ 524288
 
-checked_is : {s : List ℕ} {q : BitPlace} {count size : ℕ} → CheckedIs s (Accepted q count size) → Checked s q.0 count size
+checked_is : {s : List ℕ} {q : BitPlace} {count size : ℕ} → CheckedIs s (Ok (q, count, size)) → Checked s q.0 count size
 checked_is (accepted q count size c z a b d e f g h) =
     record { list = c; past = z; short = a; checked = b; read = d; number = e; few = f; bits = g; small = h }
 
-module _ {s : List ℕ} {q : BitPlace} {count size : ℕ} (k : CheckedIs s (Accepted q count size)) where
+module _ {s : List ℕ} {q : BitPlace} {count size : ℕ} (k : CheckedIs s (Ok (q, count, size))) where
   pub checked_short : (length s ≤ 65536) × (size ≤ 524288)
   checked_short = ((checked_is k).short, (checked_is k).small)
 
@@ -128,25 +127,25 @@ module _ {s : List ℕ} {q : BitPlace} {count size : ℕ} (k : CheckedIs s (Acce
 
   module _ (old : List ℕ) where
     pub short_output_lem : length old < (size + 7) / 8
-        → (Refused 9 ((size + 7) / 8) ≡ answered (tabulated_file s (length old))) × (old ≡ written old (tabulated_file s (length old)))
+        → (Err (refusal 9 ((size + 7) / 8)) ≡ answered (tabulated_file s (length old))) × (old ≡ written old (tabulated_file s (length old)))
     unfolding into_bytes answered written
     short_output_lem h =
         rw (file_is (length old), lt-leb (length (tree_file (tabulated (checked_is k).list))) (length old) (omega (arith, size_is)), size_is) (refl, refl)
 
     pub file_written : (size + 7) / 8 ≤ length old → (o o' : List ℕ)
         → ((w : WholeIn s q.0 count (take ((size + 7) / 8) old)) → o ≡ tree_file (tabulated w.few.whole.list)) → o' ≡ o ++ drop ((size + 7) / 8) old
-        → (Written ((size + 7) / 8) ≡ answered (tabulated_file s (length old))) × (o' ≡ written old (tabulated_file s (length old)))
+        → (Ok ((size + 7) / 8) ≡ answered (tabulated_file s (length old))) × (o' ≡ written old (tabulated_file s (length old)))
     unfolding into_bytes answered written whole_in
     file_written h o o' f e =
         let w = whole_in (take ((size + 7) / 8) old) (length-take-le ((size + 7) / 8) old h) in
         let d : o ≡ tree_file (tabulated (checked_is k).list) = f w in
         rw (file_is (length old), le-leb (length (tree_file (tabulated (checked_is k).list))) (length old) (omega (arith, size_is)))
-        (sym (ap Written size_is), e ∙ rw (d, size_is) refl)
+        (sym (ap Ok size_is), e ∙ rw (d, size_is) refl)
 
-pub refused_checked : {s : List ℕ} {n p : ℕ} (old : List ℕ) → CheckedIs s (RefusedChecked n p)
-    → (Refused n p ≡ answered (tabulated_file s (length old))) × (old ≡ written old (tabulated_file s (length old)))
+pub refused_checked : {s : List ℕ} {x : Refusal ℕ} (old : List ℕ) → CheckedIs s (Err x)
+    → (Err x ≡ answered (tabulated_file s (length old))) × (old ≡ written old (tabulated_file s (length old)))
 unfolding tabulated_file then answered written
 refused_checked old (refused_file n p h) = rw h (refl, refl)
 
-pub checked_as : {s : List ℕ} {r r' : CheckedFile} → r ≡ r' → CheckedIs s r → CheckedIs s r'
+pub checked_as : {s : List ℕ} {r r' : Result (BitPlace × ℕ × ℕ) (Refusal ℕ)} → r ≡ r' → CheckedIs s r → CheckedIs s r'
 checked_as e x = rw (← e) x

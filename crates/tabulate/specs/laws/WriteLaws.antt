@@ -1,5 +1,5 @@
 -- Writing a template, and all of them. Assumes nothing.
-use Rattle.std.specs.Prelude.{ℕ, ◌+◌, ◌*◌, ◌≤◌, ◌≡◌, true, List, [], ◌∷◌, ◌++◌, length, leb}
+use Rattle.std.specs.Prelude.{ℕ, ◌+◌, ◌*◌, ◌≤◌, ◌≡◌, true, List, [], ◌∷◌, ◌++◌, length, leb, Some, None}
 use Rattle.std.proofs.Common.{arith, sym, ap, ◌∙◌, append-nil, leb-true, length-append}
 use Rattle.std.proofs.Math.Path.{refl}
 use Rattle.std.proofs.Math.Bool.{and-eq-true_iff}
@@ -18,8 +18,6 @@ use Rattle.basic.specs.Checked.{entries_fit}
 use Rattle.basic.specs.Forest.{closures_all, own_bits}
 use Rattle.basic.specs.laws.ReadLaws.{list_facts}
 use Rattle.basic.proofs.theorems.EntryLaws.{uses_in}
-use Rattle.tabulate.specs.declared.Collected.TheVariants.{Many, Entries}
-use Rattle.tabulate.specs.declared.Next.TheVariants.{Nothing as NoNext, List as ListNext}
 use Rattle.tabulate.specs.Walk.{NextIs}
 use Rattle.tabulate.specs.Collect.{OwnList, CollectedIs, many_entries, few_entries}
 use Rattle.tabulate.specs.Judge.{templates_from}
@@ -44,14 +42,14 @@ module _ {s : List ℕ} {p e n : ℕ} {o : List ℕ} {a : ℕ} (w : TemplateIn s
       ap length template_parts
       ∙ omega (arith, length-append (bits_of 8 (length es)) (entries_bits es ++ b), length-append (entries_bits es) b, length_bits 8 (length es), l)
 
-  pub no_many : {A : Type 0} {table : List ℕ} → CollectedIs (entries_of n w.own.list) (own_bits w.own.list) table Many → A
+  pub no_many : {A : Type 0} {table : List ℕ} → CollectedIs (entries_of n w.own.list) (own_bits w.own.list) table None → A
   no_many (many_entries h) = absurd (omega (arith, w.few))
 
-  module _ (table : List ℕ) (count size : ℕ) (is : CollectedIs (entries_of n w.own.list) (own_bits w.own.list) table (Entries count size)) where
+  module _ (table : List ℕ) (count size : ℕ) (is : CollectedIs (entries_of n w.own.list) (own_bits w.own.list) table (Some (count, size))) where
     pub held : Held table count (entries_of n w.own.list)
     held = go is
       where
-        go : CollectedIs (entries_of n w.own.list) (own_bits w.own.list) table (Entries count size) → Held table count (entries_of n w.own.list)
+        go : CollectedIs (entries_of n w.own.list) (own_bits w.own.list) table (Some (count, size)) → Held table count (entries_of n w.own.list)
         go (few_entries count' size' h i j t f) = record { slots = t; counted = i; fit = f }
 
     pub count_small : (count ≤ 255) × (a + 8 ≤ 8 * length o)
@@ -170,13 +168,13 @@ module _ {s : List ℕ} {e own p : ℕ} {c : Basic} {o₀ : List ℕ} {a₀ : �
         put_on (template_bits (template_of (own + 1) k.from.first)) (templates_bits (closures_all (own + 1) (k.from.first ∷ k.from.others)))
         (rw templates_cons at k.put) (template_are (template_of (own + 1) k.from.first)) put
 
-    pub writing_end : NextIs s e (own + 1) (k.from.first ∷ k.from.others) NoNext → PutAt o₀ a₀ (templates_bits (tabulated c)) a' o'
+    pub writing_end : NextIs s e (own + 1) (k.from.first ∷ k.from.others) None → PutAt o₀ a₀ (templates_bits (tabulated c)) a' o'
     unfolding templates_bits
     writing_end n =
         let z = from_end k.from n in
         put_done (templates_bits (closures_all (own + 1) (k.from.first ∷ k.from.others))) (ap templates_bits z.0) after_one
 
-    pub writing_next : (q : BitPlace) → NextIs s e (own + 1) (k.from.first ∷ k.from.others) (ListNext q) → Writing s e (own + 1) q.0 c o₀ a₀ o' a'
+    pub writing_next : (q : BitPlace) → NextIs s e (own + 1) (k.from.first ∷ k.from.others) (Some q) → Writing s e (own + 1) q.0 c o₀ a₀ o' a'
     writing_next q n =
         let z = from_next k.from q n in
         record { from = z.0; fit = sym (ap entries_fit z.1) ∙ first_fits.1; put = rw z.1 at after_one }

@@ -1,7 +1,7 @@
 -- Bytes put one after the other. Assumes nothing.
-use Rattle.std.specs.Prelude.{ℕ, suc, ◌+◌, ◌≤◌, ◌≡◌, refl, List, [], ◌∷◌, ◌++◌, length, set, take}
-use Rattle.std.proofs.Common.{add-zero, add-suc, suc-add, arith, ap, ◌∙◌, append_assoc, length-append, take_at}
-use Rattle.std.proofs.lemmas.List.Edits.{sets, sets-eq}
+use Rattle.std.specs.Prelude.{ℕ, ◌≤◌, ◌≡◌, List, [], ◌∷◌, ◌++◌, length, take}
+use Rattle.std.proofs.Common.{arith, ap, ◌∙◌, append_assoc, length-append, take_at}
+use Rattle.std.proofs.lemmas.List.Edits.{sets-eq}
 use Rattle.std.proofs.Math.Seq.{length-sets}
 use Rattle.cells.specs.laws.Lists.{sets_append}
 use Rattle.text.specs.Put.{Put}

@@ -1,5 +1,5 @@
 -- How long numbers are. Assumes nothing.
-use Rattle.std.specs.Prelude.{ℕ, zero, suc, ◌+◌, ◌-◌, ◌*◌, ◌/◌, ◌^◌, ◌≤◌, ◌<◌, ◌≡◌, refl, ◌∷◌, Bool, true, false, cond, ltb, length}
+use Rattle.std.specs.Prelude.{ℕ, zero, suc, ◌-◌, ◌*◌, ◌/◌, ◌^◌, ◌≤◌, ◌<◌, ◌≡◌, refl, ◌∷◌, Bool, true, false, cond, ltb, length}
 use Rattle.std.proofs.Common.{arith, pow-suc, ltb-true, ltb-false, length-append}
 use Rattle.text.specs.Text.{digits_within, decimal, integer}
 

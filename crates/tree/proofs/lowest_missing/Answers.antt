@@ -1,5 +1,4 @@
 -- `tree::lowest_missing` meets its contract. The invariant: what is found from here on is what is found from 1 on. Assumes nothing.
-use Prim.Native.Nat.{◌-◌}
 use native.Mathlib.Omega.{arith}
 use mathlib.Core.Path.{refl, sym, ◌∙◌}
 use Rattle.tree.specs.laws.Judged.{missing_here, missing_on, missing_none}

@@ -6,6 +6,3 @@ use Rattle.tree.proofs.lowest_missing.Given as goal
 
 abbrev pub invariant-loop-own : goal.invariant-loop-own
 invariant-loop-own l = (1 ≤ l.own) × (lowest_missing (l.set / 2) 1 (l.count - 1) ≡ lowest_missing l.rest l.own (l.count - l.own))
-
-abbrev pub decreases-loop-own : goal.decreases-loop-own
-decreases-loop-own l = l.count - l.own

@@ -1,6 +1,5 @@
 -- `tree::read_templates` meets its contract. Assumes nothing.
 use Rattle.tree.specs.Summary.{summary_after, begun}
-use Prim.Native.Nat.{◌-◌}
 use native.Mathlib.Nat.{sub-zero}
 use native.Mathlib.Omega.{arith}
 use mathlib.Core.Path.{refl, sym, ◌∙◌}
@@ -8,6 +7,7 @@ use Rattle.tree.specs.Summary.{summary_after}
 use Rattle.tree.specs.laws.TemplateSteps.{templates_none, templates_stop, templates_on, next_unfilled, next_small, this, told_all}
 use Rattle.tree.specs.laws.MarkedSteps.{also_by, templates_unmarked, marking_begun, marking_more, marking_done}
 use borrow.Author.Rules.{rules}
+use Rattle.files.specs.laws.RefusalLaws.{handed_on}
 use Rattle.tree.proofs.read_templates.Goals as goal
 
 pub loop-own-init : goal.loop-own-init
@@ -26,15 +26,15 @@ pub summary_after-sum-requires : goal.summary_after-sum-requires
 summary_after-sum-requires c =
     let k = c.requires in
     let i = c.loop-own.invariant in
-    let small = next_small _ _ _ _ _ k.1.0 (c.read_template.ensures.value, c.read_template.ensures.table_after) c.in-Done.is k.0 in
+    let small = next_small _ _ _ _ _ k.1.0 (c.read_template.ensures.value, c.read_template.ensures.table_after) c.in_ok-past.was k.0 in
     (small, omega arith)
 
-pub returns-in-Refused : goal.returns-in-Refused
-returns-in-Refused c =
+pub returns-in_err-past : goal.returns-in_err-past
+returns-in_err-past c =
     let i = c.loop-own.invariant in
-    let d = templates_stop _ _ _ _ _ _ c.loop-own-test.true (c.read_template.ensures.value, c.read_template.ensures.table_after) c.in-Refused.is in
+    let d = templates_stop _ _ _ _ _ _ c.loop-own-test.true (c.read_template.ensures.value, c.read_template.ensures.table_after) c.in_err-past.was in
     let all = also_by (d.0 ∙ sym i.3, d.1 ∙ sym i.4) (templates_unmarked _ _ _ _) in
-    record { value = all.0; table_after = all.1.0; templates_marked = all.1.1 }
+    record { value = handed_on c.from_residual.ensures ∙ all.0; table_after = all.1.0; templates_marked = all.1.1 }
 
 pub loop-own-preserved : goal.loop-own-preserved
 unfolding summary_after
@@ -42,14 +42,14 @@ loop-own-preserved c =
     let k = c.requires in
     let i = c.loop-own.invariant in
     let less = c.loop-own-test.true in
-    let d = templates_on _ _ _ _ _ _ less (c.read_template.ensures.value, c.read_template.ensures.table_after) k.1.0 c.in-Done.is c.summary_after-sum.ensures in
-    let small = next_small _ _ _ _ _ k.1.0 (c.read_template.ensures.value, c.read_template.ensures.table_after) c.in-Done.is k.0 in (
+    let d = templates_on _ _ _ _ _ _ less (c.read_template.ensures.value, c.read_template.ensures.table_after) k.1.0 c.in_ok-past.was c.summary_after-sum.ensures in
+    let small = next_small _ _ _ _ _ k.1.0 (c.read_template.ensures.value, c.read_template.ensures.table_after) c.in_ok-past.was k.0 in (
       search rules,
-      next_unfilled _ _ _ _ _ k.1.0 (c.read_template.ensures.value, c.read_template.ensures.table_after) c.in-Done.is less i.1,
+      next_unfilled _ _ _ _ _ k.1.0 (c.read_template.ensures.value, c.read_template.ensures.table_after) c.in_ok-past.was less i.1,
       rw c.summary_after-sum.ensures (omega arith),
       i.3 ∙ d.0,
       i.4 ∙ d.1,
-      marking_more _ _ _ _ _ i.5 _ less (this _ _ _ _ _ k.1.0 (c.read_template.ensures.value, c.read_template.ensures.table_after) c.in-Done.is).is
+      marking_more _ _ _ _ _ i.5 _ less (this _ _ _ _ _ k.1.0 (c.read_template.ensures.value, c.read_template.ensures.table_after) c.in_ok-past.was).is
           c.read_template.ensures.template_marked,
       c.read_template.auto.marks ∙ i.6,
       c.read_template.auto.table ∙ i.7,

@@ -15,6 +15,3 @@ invariant-loop-own l = (l.own ≤ l.count) × Unfilled l.count l.own l.table × 
     × (templates_told (templates_at l.s l.count 0 l.count l.initial.here.0) ≡ told_from l.own l.sum (templates_at l.s l.count l.own (l.count - l.own) l.here.0))
     × (templates_filled l.s l.count 0 l.count l.initial.here.0 l.initial.table ≡ templates_filled l.s l.count l.own (l.count - l.own) l.here.0 l.table)
     × Marking l.keep l.s l.count l.initial.marks l.initial.here.0 l.marks l.own l.here.0 × (length l.marks ≡ length l.initial.marks) × (length l.table ≡ length l.initial.table)
-
-abbrev pub decreases-loop-own : goal.decreases-loop-own
-decreases-loop-own l = l.count - l.own

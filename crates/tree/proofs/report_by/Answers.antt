@@ -5,4 +5,4 @@ use Rattle.tree.proofs.report_by.Goals as goal
 
 pub returns : goal.returns
 unfolding report_by
-returns c = refl
+returns c = rw c.is_closed.ensures refl

@@ -1,7 +1,7 @@
 -- What a tree file is refused for, or accepted as, by what its reader answers: 1 to 7, and with 24. Assumes nothing.
 use Prim.Native.Nat.{ℕ, zero, suc, ◌+◌, ◌-◌, ◌/◌, ◌%◌, ◌≤◌, ◌<◌}
 use native.Mathlib.Omega.{arith}
-use Rattle.std.specs.Prelude.{◌≡◌, Bool, true, false, cond, ◌||◌, List, [], ◌∷◌, eqb, length}
+use Rattle.std.specs.Prelude.{◌≡◌, Bool, true, false, cond, ◌||◌, List, [], ◌∷◌, eqb, length, Ok, Err}
 use Rattle.std.proofs.Math.Path.{refl, sym, ap}
 use Rattle.std.proofs.Common.{ap₂, ◌∙◌}
 use Rattle.std.proofs.Math.Option.{Option, none, some}
@@ -20,10 +20,9 @@ use Rattle.lists.specs.Sets.{has}
 use Rattle.lists.specs.laws.SetsLaws.{has_none, has_unite}
 use Rattle.lists.specs.laws.SlotLaws.{closes_has}
 use Rattle.tree.specs.declared.Summary.{Summary}
-use Rattle.tree.specs.declared.TreeFile.TheVariants.{Read, Refused}
-use Rattle.tree.specs.declared.Judged.{Judged}
-use Rattle.tree.specs.declared.Judged.TheVariants.{Accepted, Refused as RefusedJudged}
 use Rattle.tree.specs.Summary.{number_or64, closes_of, summary_of, tree_told, lowest_missing, judged_told}
+use Rattle.files.specs.Refusal.{refusal}
+use Rattle.files.specs.laws.RefusalLaws.{err_number, err_place}
 
 -- ---- what was told was read
 pub record ReadAs (g : Got (List Template)) (m : Summary) : Type 0 where
@@ -32,28 +31,28 @@ pub record ReadAs (g : Got (List Template)) (m : Summary) : Type 0 where
   pub is : g ≡ got templates past
   pub summary : summary_of templates ≡ m
 
-pub tree_told_lem : (g : Got (List Template)) {m : Summary} → tree_told g ≡ Read m → ReadAs g m
+pub tree_told_lem : (g : Got (List Template)) {m : Summary} → tree_told g ≡ Ok m → ReadAs g m
 unfolding tree_told
 tree_told_lem (got ts q) h = record { templates = ts; past = q; is = refl; summary = cc }
 tree_told_lem (refused n z) h = clash (cc)
 
-pub judged_told_lem : (g : Got (List Template)) {m : Summary} → judged_told g ≡ Accepted m → ReadAs g m
+pub judged_told_lem : (g : Got (List Template)) {m : Summary} → judged_told g ≡ Ok m → ReadAs g m
 unfolding judged_told
 judged_told_lem (got ts q) h = record { templates = ts; past = q; is = refl; summary = cc }
 judged_told_lem (refused n z) h = clash (cc)
 
-pub judged_refused : (g : Got (List Template)) {n p : ℕ} → judged_told g ≡ RefusedJudged n p → g ≡ refused n p
+pub judged_refused : (g : Got (List Template)) {n p : ℕ} → judged_told g ≡ Err (refusal n p) → g ≡ refused n p
 unfolding judged_told
 judged_refused (got ts z) h = clash (cc)
-judged_refused (refused m z) {n} {p} h = let k : z ≡ p = cc in let i : m ≡ n = cc in rw (i, k)
+judged_refused (refused m z) {n} {p} h = rw (err_number h, err_place h)
 
 -- ---- refused 1 to 5
-tree_refused : (g : Got (List Template)) {n : ℕ} {p : BitPlace} → tree_told g ≡ Refused n p → g ≡ refused n p.0
+tree_refused : (g : Got (List Template)) {n : ℕ} {p : BitPlace} → tree_told g ≡ Err (refusal n p) → g ≡ refused n p.0
 unfolding tree_told
 tree_refused (got ts z) h = clash (cc)
-tree_refused (refused m z) {n} {p} h = let k : ◌≡◌ {A = BitPlace} (record { 0 = z }) p = cc in let i : m ≡ n = cc in rw (i, ← k)
+tree_refused (refused m z) {n} {p} h = rw (err_number h, ← (err_place h))
 
-pub checked_refused : (s : List ℕ) {n : ℕ} {p : BitPlace} → tree_told (tree_read s) ≡ Refused n p → tree_checked s ≡ refused n p.0
+pub checked_refused : (s : List ℕ) {n : ℕ} {p : BitPlace} → tree_told (tree_read s) ≡ Err (refusal n p) → tree_checked s ≡ refused n p.0
 unfolding tree_checked then
 checked_refused s e = rw (tree_refused (tree_read s) e)
 
@@ -84,7 +83,7 @@ all_numbers ok u (suc n) l h = go (ok u) (all_numbers ok (u + 1) n (omega arith)
     go false f h = absurd (omega arith)
 
 -- ---- a file that was read, by its summary m: 6 and 7
-module _ (s : List ℕ) {m : Summary} (told : tree_told (tree_read s) ≡ Read m) where
+module _ (s : List ℕ) {m : Summary} (told : tree_told (tree_read s) ≡ Ok m) where
   file : ReadAs (tree_read s) m
   file = tree_told_lem (tree_read s) told
 
@@ -114,14 +113,14 @@ module _ (s : List ℕ) {m : Summary} (told : tree_told (tree_read s) ≡ Read m
           misnamed_is,
         ) refl
 
-    pub judged_good : 64 ≤ m.misnamed → judged_told (tree_checked s) ≡ Accepted m
+    pub judged_good : 64 ≤ m.misnamed → judged_told (tree_checked s) ≡ Ok m
     unfolding tree_checked then or_lowest judged_told
     judged_good named =
         rw (
           file.is,
           number_none closed_template 0 file.templates few (rw unclosed_is closed),
           number_none indexed_template 0 file.templates few (rw misnamed_is named),
-        ) (ap Accepted file.summary)
+        ) (ap Ok file.summary)
 
 -- ---- 24
 -- what is in the set of all templates is what their closures name
@@ -157,7 +156,7 @@ missing_is ok set u (suc n) h =
     by true = refl
     by false = refl
 
-module _ (s : List ℕ) {m : Summary} (told : judged_told (tree_checked s) ≡ Accepted m) where
+module _ (s : List ℕ) {m : Summary} (told : judged_told (tree_checked s) ≡ Ok m) where
   checked_file : ReadAs (tree_checked s) m
   checked_file = judged_told_lem (tree_checked s) told
 
@@ -178,12 +177,12 @@ module _ (s : List ℕ) {m : Summary} (told : judged_told (tree_checked s) ≡ A
         let k : number_or64 (lowest_orphan templates) ≡ low = sym (is ∙ orphan_is) in
         rw (checked_file.is, number_some (lowest_orphan templates) (rw k h), k) refl
 
-    pub judged_accepted : 64 ≤ low → judged_told (tree_accepted s) ≡ Accepted m
+    pub judged_accepted : 64 ≤ low → judged_told (tree_accepted s) ≡ Ok m
     unfolding tree_accepted then or_lowest judged_told lowest_orphan
     judged_accepted h =
         let few = tree_read_lem s (checked_read s templates checked_file.past checked_file.is) in
         let k : number_or64 (lowest_orphan templates) ≡ low = sym (is ∙ orphan_is) in
-        rw (checked_file.is, all_numbers (closure_names templates) 1 (length templates - 1) (omega (arith, few)) (rw k h)) (ap Accepted checked_file.summary)
+        rw (checked_file.is, all_numbers (closure_names templates) 1 (length templates - 1) (omega (arith, few)) (rw k h)) (ap Ok checked_file.summary)
 
 -- what is refused without 24 is refused with it
 pub accepted_refused : (s : List ℕ) {n p : ℕ} → tree_checked s ≡ refused n p → tree_accepted s ≡ refused n p

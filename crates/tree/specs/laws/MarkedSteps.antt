@@ -1,11 +1,11 @@
 -- What the readers of a tree file leave in the marks at each step, by what is read there. Assumes nothing.
-use Prim.Native.Nat.{ℕ, zero, suc, ◌+◌, ◌-◌, ◌≤◌, ◌<◌}
+use Prim.Native.Nat.{ℕ, suc, ◌+◌, ◌-◌, ◌≤◌, ◌<◌}
 use Rattle.std.proofs.Math.Nat.{sub-zero}
 use native.Mathlib.Omega.{arith}
-use Rattle.std.specs.Prelude.{◌≡◌}
+use Rattle.std.specs.Prelude.{◌≡◌, Err}
 use Rattle.std.proofs.Math.Path.{refl, sym, ap}
 use Rattle.std.proofs.Common.{◌∙◌}
-use mathlib.Core.List.{List, [], ◌∷◌}
+use mathlib.Core.List.{List, []}
 use Rattle.cells.specs.laws.Laws.{clash}
 use Rattle.cells.specs.declared.BitPlace.{BitPlace}
 use Rattle.files.specs.Code.{Code}
@@ -15,12 +15,10 @@ use Rattle.files.specs.laws.AllGot.{got_value}
 use Rattle.files.specs.Tree.{Template, template_at, templates_at, tree_read}
 use Rattle.lists.specs.declared.Keep.{Keep}
 use Rattle.lists.specs.Marks.{marked, list_marked}
-use Rattle.tree.specs.declared.TemplateRead.TheVariants.{Refused as RefusedTemplate}
-use Rattle.tree.specs.declared.TemplatesRead.TheVariants.{Refused as RefusedTemplates}
-use Rattle.tree.specs.declared.TreeFile.TheVariants.{Refused}
 use Rattle.tree.specs.Summary.{template_told, templates_told, tree_told}
 use Rattle.tree.specs.Marked.{marked_all, template_marked, templates_marked}
 use Rattle.tree.specs.laws.Parts.{templates_parts, tree_parts}
+use Rattle.files.specs.Refusal.{refusal}
 
 -- one promise more, also by the first
 pub also : {A B C : Type 0} → A × B → C → A × (B × C)
@@ -31,17 +29,17 @@ also_by d f = (d.0, (d.1, f d.0))
 
 module _ (k : Keep) (M M' : List ℕ) where
   -- ---- where reading refuses
-  pub template_unmarked : (g : Got Template) {n : ℕ} {x : BitPlace} → RefusedTemplate n x ≡ template_told g → template_marked k M M' g
+  pub template_unmarked : (g : Got Template) {n : ℕ} {x : BitPlace} → Err (refusal n x) ≡ template_told g → template_marked k M M' g
   unfolding template_told template_marked
   template_unmarked (got t q) e = clash (cc)
   template_unmarked (refused n x) e = tt
 
-  pub templates_unmarked : (g : Got (List Template)) {n : ℕ} {x : BitPlace} → RefusedTemplates n x ≡ templates_told g → templates_marked k M M' g
+  pub templates_unmarked : (g : Got (List Template)) {n : ℕ} {x : BitPlace} → Err (refusal n x) ≡ templates_told g → templates_marked k M M' g
   unfolding templates_told templates_marked
   templates_unmarked (got ts q) e = clash (cc)
   templates_unmarked (refused n x) e = tt
 
-  pub tree_unmarked : (g : Got (List Template)) {n : ℕ} {x : BitPlace} → Refused n x ≡ tree_told g → templates_marked k M M' g
+  pub tree_unmarked : (g : Got (List Template)) {n : ℕ} {x : BitPlace} → Err (refusal n x) ≡ tree_told g → templates_marked k M M' g
   unfolding tree_told templates_marked
   tree_unmarked (got ts q) e = clash (cc)
   tree_unmarked (refused n x) e = tt

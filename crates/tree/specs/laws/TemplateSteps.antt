@@ -1,5 +1,5 @@
 -- What the readers of templates do at each step, by what was read there. Assumes nothing.
-use Rattle.std.specs.Prelude.{ℕ, suc, ◌+◌, ◌*◌, ◌-◌, ◌≤◌, ◌<◌, ◌≡◌, take, replicate}
+use Rattle.std.specs.Prelude.{ℕ, suc, ◌+◌, ◌*◌, ◌-◌, ◌≤◌, ◌<◌, ◌≡◌, take, replicate, Result, Ok, Err}
 use native.Mathlib.Omega.{arith}
 use Rattle.std.proofs.Math.Path.{refl, ap}
 use Rattle.std.proofs.Common.{sym, ◌∙◌}
@@ -25,34 +25,33 @@ use Rattle.lists.specs.laws.PassLaws.{closed_class}
 use Rattle.lists.specs.laws.SlotLaws.{Row, slots_named, slots_close_lem, row_among}
 use Rattle.files.specs.Filled.{filled_then, templates_by}
 use Rattle.tree.specs.declared.Report.{Report}
-use Rattle.tree.specs.declared.TemplateRead.{TemplateRead}
-use Rattle.tree.specs.declared.TemplateRead.TheVariants.{Done, Refused}
 use Rattle.tree.specs.declared.Summary.{Summary}
-use Rattle.tree.specs.declared.TemplatesRead.{TemplatesRead}
-use Rattle.tree.specs.declared.TemplatesRead.TheVariants.{Done as DoneTemplates, Refused as RefusedTemplates}
 use Rattle.tree.specs.Summary.{report_of, report_by, template_told, templates_told, summary_after, begun, summary_from, told_from}
 use Rattle.tree.specs.laws.SummaryLaws.{template_length, summary_all}
 use Rattle.tree.specs.Filled.{start_filled, row_filled, template_filled, templates_filled}
 use Rattle.tree.specs.laws.Parts.{template_parts, templates_count}
 use Rattle.tree.specs.laws.FilledLaws.{template_unfilled}
+use Rattle.files.specs.declared.Refusal.{Refusal}
+use Rattle.files.specs.Refusal.{refusal}
+use Rattle.files.specs.laws.RefusalLaws.{ok_first, ok_second, err_number, err_place}
 
 -- ---- template own of T at p
 module _ (s : List ℕ) (own T p : ℕ) (table : List ℕ) where
   -- the answer r and the table t that its reader leaves
-  abbrev pub TemplateDone : TemplateRead → List ℕ → Type 0
+  abbrev pub TemplateDone : Result (BitPlace × Report) (Refusal BitPlace) → List ℕ → Type 0
   TemplateDone r t = (r ≡ template_told (template_at s own T p)) × (t ≡ template_filled s own T p table)
 
-  pub count_cut : field s p 8 ≡ refused 2 p → TemplateDone (Refused 2 (record { 0 = p })) table
+  pub count_cut : {n m : ℕ} → field s p 8 ≡ refused n m → TemplateDone (Err (refusal n (record { 0 = m }))) table
   unfolding template_at then template_told template_filled row_filled
   count_cut e = rw e (refl, refl)
 
   module _ {n q : ℕ} {t : List ℕ} (number : field s p 8 ≡ got n q) (stored : t ≡ sets table (256 * own + 1) (slots_at s own T n q)) where
-    pub entries_stop : {m : ℕ} {x : BitPlace} → entries_at s own T n q ≡ refused m x.0 → TemplateDone (Refused m x) t
+    pub entries_stop : {m : ℕ} {x : BitPlace} → entries_at s own T n q ≡ refused m x.0 → TemplateDone (Err (refusal m x)) t
     unfolding template_at then template_told template_filled row_filled start_filled
     entries_stop e = rw (number, e) (refl, stored)
 
     module _ {es : List Entry} {r : ℕ} (entries : entries_at s own T n q ≡ got es r) where
-      pub list_stop : {m : ℕ} {x : BitPlace} → list_at s 15 r ≡ refused m x.0 → TemplateDone (Refused m x) (set t (256 * own) r)
+      pub list_stop : {m : ℕ} {x : BitPlace} → list_at s 15 r ≡ refused m x.0 → TemplateDone (Err (refusal m x)) (set t (256 * own) r)
       unfolding template_at then template_told template_filled row_filled start_filled
       list_stop e = rw (number, entries, e) (refl, ap (λ (l : List ℕ). set l (256 * own) r) stored)
 
@@ -80,7 +79,7 @@ module _ (s : List ℕ) (own T p : ℕ) (table : List ℕ) where
               closed_class c,
             ) refl
 
-        pub list_done : {o : Report} → o ≡ report_by f (r - q) → TemplateDone (Done z o) (set t (256 * own) r)
+        pub list_done : {o : Report} → o ≡ report_by f (r - q) → TemplateDone (Ok (z, o)) (set t (256 * own) r)
         unfolding template_at then template_told template_filled row_filled start_filled
         list_done e = rw (number, entries, list, e, report) (refl, ap (λ (l : List ℕ). set l (256 * own) r) stored)
 
@@ -90,16 +89,16 @@ pub record ReadTemplate (g : Got Template) (q : BitPlace) (o : Report) : Type 0 
   pub is : g ≡ got template q.0
   pub report : report_of template ≡ o
 
-pub template_told_lem : (g : Got Template) {q : BitPlace} {o : Report} → template_told g ≡ Done q o → ReadTemplate g q o
+pub template_told_lem : (g : Got Template) {q : BitPlace} {o : Report} → template_told g ≡ Ok (q, o) → ReadTemplate g q o
 unfolding template_told
 template_told_lem (got t z) {q} {o} h =
-    let k : ◌≡◌ {A = BitPlace} (record { 0 = z }) q = cc in record { template = t; is = ap (λ (b : BitPlace). got t b.0) k; report = cc }
+    record { template = t; is = ap (λ (b : BitPlace). got t b.0) (ok_first h); report = ok_second h }
 template_told_lem (refused n z) h = clash (cc)
 
-template_refused : (g : Got Template) {n : ℕ} {p : BitPlace} → template_told g ≡ Refused n p → g ≡ refused n p.0
+template_refused : (g : Got Template) {n : ℕ} {p : BitPlace} → template_told g ≡ Err (refusal n p) → g ≡ refused n p.0
 unfolding template_told
 template_refused (got t z) h = clash (cc)
-template_refused (refused m z) {n} {p} h = let k : ◌≡◌ {A = BitPlace} (record { 0 = z }) p = cc in let i : m ≡ n = cc in rw (i, ← k)
+template_refused (refused m z) {n} {p} h = rw (err_number h, ← (err_place h))
 
 -- a template takes few bytes
 template_small : (s : List ℕ) (own T p : ℕ) {t : Template} {q : ℕ} → length s ≤ 65536 → T ≤ 64 → template_at s own T p ≡ got t q
@@ -111,8 +110,8 @@ template_small s own T p {t} {q} h few e =
     omega (arith, template_length t, flat_bits t.code)
 
 -- ---- a template was read: r is the answer, t the table that its reader leaves
-module _ (s : List ℕ) (own T p : ℕ) (table : List ℕ) (few : T ≤ 64) {r : TemplateRead} {t : List ℕ}
-    (done : TemplateDone s own T p table r t) {q : BitPlace} {o : Report} (is : r ≡ Done q o) where
+module _ (s : List ℕ) (own T p : ℕ) (table : List ℕ) (few : T ≤ 64) {r : Result (BitPlace × Report) (Refusal BitPlace)} {t : List ℕ}
+    (done : TemplateDone s own T p table r t) {q : BitPlace} {o : Report} (is : r ≡ Ok (q, o)) where
   pub this : ReadTemplate (template_at s own T p) q o
   this = template_told_lem (template_at s own T p) (sym done.0 ∙ is)
 
@@ -125,18 +124,18 @@ module _ (s : List ℕ) (own T p : ℕ) (table : List ℕ) (few : T ≤ 64) {r :
 
 -- ---- templates own to T from p on, where m is the summary of those before
 module _ (s : List ℕ) (T own p : ℕ) (table : List ℕ) (m : Summary) where
-  abbrev pub TemplatesDone : TemplatesRead → List ℕ → Type 0
+  abbrev pub TemplatesDone : Result (BitPlace × Summary) (Refusal BitPlace) → List ℕ → Type 0
   TemplatesDone r t = (r ≡ told_from own m (templates_at s T own (T - own) p)) × (t ≡ templates_filled s T own (T - own) p table)
 
-  pub templates_none : T ≤ own → TemplatesDone (DoneTemplates (record { 0 = p }) m) table
+  pub templates_none : T ≤ own → TemplatesDone (Ok (record { 0 = p }, m)) table
   unfolding templates_at templates_by told_from summary_from
   templates_none h = let k : T - own ≡ 0 = omega arith in rw k (refl, refl)
 
-  module _ {r : TemplateRead} {t : List ℕ} (less : own < T) (done : TemplateDone s own T p table r t) where
+  module _ {r : Result (BitPlace × Report) (Refusal BitPlace)} {t : List ℕ} (less : own < T) (done : TemplateDone s own T p table r t) where
     one_left : T - own ≡ suc (T - (own + 1))
     one_left = omega arith
 
-    pub templates_stop : {n : ℕ} {x : BitPlace} → r ≡ Refused n x → TemplatesDone (RefusedTemplates n x) t
+    pub templates_stop : {n : ℕ} {x : BitPlace} → r ≡ Err (refusal n x) → TemplatesDone (Err (refusal n x)) t
     unfolding templates_at templates_by then filled_then told_from
     templates_stop e = rw (one_left, template_refused (template_at s own T p) (sym done.0 ∙ e)) (refl, done.1)
 
@@ -146,7 +145,7 @@ module _ (s : List ℕ) (T own p : ℕ) (table : List ℕ) (m : Summary) where
     told_more a (got ts q) = refl
     told_more a (refused n x) = refl
 
-    pub templates_on : {q : BitPlace} {o : Report} {m' : Summary} → T ≤ 64 → r ≡ Done q o → m' ≡ summary_after own o m
+    pub templates_on : {q : BitPlace} {o : Report} {m' : Summary} → T ≤ 64 → r ≡ Ok (q, o) → m' ≡ summary_after own o m
         → (told_from own m (templates_at s T own (T - own) p) ≡ told_from (own + 1) m' (templates_at s T (own + 1) (T - (own + 1)) q.0))
         × (templates_filled s T own (T - own) p table ≡ templates_filled s T (own + 1) (T - (own + 1)) q.0 t)
     unfolding templates_at templates_by then filled_then
@@ -163,5 +162,5 @@ told_all s T p h = go (templates_at s T 0 T p) refl
   where
     go : (g : Got (List Template)) → templates_at s T 0 T p ≡ g → templates_told g ≡ told_from 0 (begun T) g
     go (got ts q) e =
-        let k : length ts ≡ T = templates_count s T T 0 p e in ap (DoneTemplates (record { 0 = q })) (sym (rw k at (summary_all ts (omega arith))))
+        let k : length ts ≡ T = templates_count s T T 0 p e in ap (λ (m : Summary). Ok (record { 0 = q }, m)) (sym (rw k at (summary_all ts (omega arith))))
     go (refused n x) e = refl

@@ -1,11 +1,10 @@
 -- What `fetch` answers, by what the fields are read as: one law for each way through it. Assumes nothing.
 use Prim.Native.Nat.{ℕ, zero, suc, ◌-◌, ◌≤◌, ◌<◌, ◌^◌}
 use native.Mathlib.Omega.{arith}
-use Rattle.std.specs.Prelude.{◌≡◌, false, List, length}
+use Rattle.std.specs.Prelude.{◌≡◌, false, List, length, Some, None}
 use Rattle.std.proofs.Math.Path.{refl}
 use Rattle.std.proofs.Common.{ap, ◌∙◌, eq-eqb, ne_eqb}
 use Rattle.cells.specs.declared.BitPlace.{BitPlace}
-use Rattle.fields.specs.declared.Field.TheVariants.{Read, Cut}
 use Rattle.fields.specs.Field.{field_read}
 use Rattle.fields.specs.laws.Laws.{value_of}
 use Rattle.files.specs.Codes.{shape_of}
@@ -35,19 +34,19 @@ module _ (s L : List ℕ) (p n q : ℕ) (same : settled s L 17 p ≡ settled s L
     unfolding fetched_at
     there e = rw (ne_eqb p 0 away, same, e) refl
 
-    pub cut_fetched : field_read s q 5 ≡ Cut → fetched_as (slot_at table t) Bad ≡ fetched_at s L table t p
+    pub cut_fetched : field_read s q 5 ≡ None → fetched_as (slot_at table t) Bad ≡ fetched_at s L table t p
     unfolding instruction_at with_read fetched_as is_end
     cut_fetched e = (rw e refl) ∙ there (settled_here s L n q (rw e refl))
 
-    pub code_fetched : (v : ℕ) (r : BitPlace) → field_read s q 5 ≡ Read v r → (v ≡ 0 → ⊥) → instruction_at s L table t q ≡ fetched_at s L table t p
+    pub code_fetched : (v : ℕ) (r : BitPlace) → field_read s q 5 ≡ Some (v, r) → (v ≡ 0 → ⊥) → instruction_at s L table t q ≡ fetched_at s L table t p
     unfolding is_end
     code_fetched v r e h = there (settled_here s L n q (rw e (ne_eqb v 0 h)))
 
-    pub end_fetched : (v : ℕ) (r : BitPlace) → field_read s q 5 ≡ Read v r → v ≡ 0 → n ≡ 0 → fetched_as (slot_at table t) Bad ≡ fetched_at s L table t p
+    pub end_fetched : (v : ℕ) (r : BitPlace) → field_read s q 5 ≡ Some (v, r) → v ≡ 0 → n ≡ 0 → fetched_as (slot_at table t) Bad ≡ fetched_at s L table t p
     unfolding instruction_at with_read fetched_as shaped_as shape_of settled
     end_fetched v r e h z = (rw (e, h) refl) ∙ there (rw z refl)
 
-  pub end_followed : (v : ℕ) (r : BitPlace) → field_read s q 5 ≡ Read v r → v ≡ 0 → (n ≡ 0 → ⊥) → (u : ℕ) → u ≡ link_at L q
+  pub end_followed : (v : ℕ) (r : BitPlace) → field_read s q 5 ≡ Some (v, r) → v ≡ 0 → (n ≡ 0 → ⊥) → (u : ℕ) → u ≡ link_at L q
       → settled s L 17 p ≡ settled s L (n - 1) u
   unfolding settled is_end
   end_followed v r e h z u i = same ∙ (let m : n ≡ suc (n - 1) = omega arith in rw (ap (λ (k : ℕ). settled s L k q) m, e, h, i) refl)

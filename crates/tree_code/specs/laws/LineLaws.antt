@@ -1,7 +1,7 @@
 -- An instruction by the 21 bits at its place: its code, and what may be operands. Assumes nothing.
 use Prim.Native.Nat.{ℕ, zero, suc, ◌+◌, ◌*◌, ◌/◌, ◌%◌, ◌^◌, ◌≤◌, ◌<◌}
 use Rattle.std.proofs.Common.{arith, ◌∙◌, subst}
-use Rattle.std.specs.Prelude.{◌≡◌, Bool, true, cond, ◌&&◌, ◌||◌, List, [], ◌∷◌, map, get_or}
+use Rattle.std.specs.Prelude.{◌≡◌, Bool, true, cond, ◌&&◌, ◌||◌, List, [], ◌∷◌, map, get_or, Some}
 use Rattle.std.proofs.Math.Path.{refl, sym, ap}
 use Rattle.std.proofs.Math.Bool.{false, and-eq-true_iff}
 use Rattle.std.proofs.Math.Option.{none}
@@ -10,7 +10,6 @@ use Rattle.std.proofs.Math.ListN.{length}
 use Rattle.std.proofs.Math.Dec.{eqb}
 use Rattle.rules.specs.laws.Lists.{by_lt}
 use Rattle.cells.specs.declared.BitPlace.{BitPlace}
-use Rattle.fields.specs.declared.Field.TheVariants.{Read, Cut}
 use Rattle.fields.specs.Field.{field_at, field_read}
 use Rattle.fields.specs.laws.Laws.{cut, whole, field_small, line_code, line_first, line_second}
 use Rattle.files.specs.Codes.{CodeRow, codes, shape, shape_of}
@@ -114,7 +113,7 @@ kept slot v a b h l =
 -- ---- the line
 module _ (s : List ℕ) (p line : ℕ) (is : line ≡ field_at s p 21) where
   -- the code is read, and is that of a list's end or is not
-  pub line_read : p + 5 ≤ 8 * length s → field_read s p 5 ≡ Read (line / 65536) (record { 0 = p + 5 })
+  pub line_read : p + 5 ≤ 8 * length s → field_read s p 5 ≡ Some (line / 65536, record { 0 = p + 5 })
   line_read h = code_read s p line is h (record { 0 = p + 5 }) refl
 
   -- ---- an instruction of which the code v is whole
@@ -129,9 +128,9 @@ module _ (s : List ℕ) (p line : ℕ) (is : line ≡ field_at s p 21) where
     shaped_there : (x : Fetched) → p + 5 ≤ 8 * length s → x ≡ shaped_as s L table t p v (p + 5) (shape_of v) → x ≡ instruction_at s L table t p
     unfolding instruction_at with_read
     shaped_there x h e =
-        let f : field_read s p 5 ≡ Read v (record { 0 = p + 5 }) = line_read h ∙ ap (λ (u : ℕ). Read u (record { 0 = p + 5 })) (sym code) in rw f e
+        let f : field_read s p 5 ≡ Some (v, record { 0 = p + 5 }) = line_read h ∙ ap (λ (u : ℕ). Some (u, record { 0 = p + 5 })) (sym code) in rw f e
 
-    read_at : (q : ℕ) → q + 8 ≤ 8 * length s → field_read s q 8 ≡ Read (field_at s q 8) (record { 0 = q + 8 })
+    read_at : (q : ℕ) → q + 8 ≤ 8 * length s → field_read s q 8 ≡ Some (field_at s q 8, record { 0 = q + 8 })
     read_at q h = sym (whole s q 8 h)
 
     pub line_cut : 8 * length s < p + (5 + 8 * n) → bad ≡ instruction_at s L table t p
@@ -151,8 +150,8 @@ module _ (s : List ℕ) (p line : ℕ) (is : line ≡ field_at s p 21) where
 
     -- it is whole, and q is the place past it
     module _ (q : ℕ) (fits : p + (5 + 8 * n) ≤ 8 * length s) (past : q ≡ p + (5 + 8 * n)) where
-      first_read : 1 ≤ n → field_read s (p + 5) 8 ≡ Read (line / 256 % 256) (record { 0 = p + 5 + 8 })
-      first_read h = read_at (p + 5) (omega arith) ∙ ap (λ (a : ℕ). Read a (record { 0 = p + 5 + 8 })) (sym (line_first s p line is))
+      first_read : 1 ≤ n → field_read s (p + 5) 8 ≡ Some (line / 256 % 256, record { 0 = p + 5 + 8 })
+      first_read h = read_at (p + 5) (omega arith) ∙ ap (λ (a : ℕ). Some (a, record { 0 = p + 5 + 8 })) (sym (line_first s p line is))
 
       pub line_transfer : v < 6 → (x : Fetched) → x ≡ transfer_as (link_at L p) v (line / 256 % 256) q → x ≡ instruction_at s L table t p
       unfolding transfer_as shaped_as shape_of bytes_by with_read
@@ -188,9 +187,9 @@ module _ (s : List ℕ) (p line : ℕ) (is : line ≡ field_at s p 21) where
           by k c two_kept =
               let z : q ≡ p + 5 + 8 + 8 = omega (arith, past, c) in
               let i : p + 13 ≡ p + 5 + 8 = omega arith in
-              let f : field_read s (p + 5 + 8) 8 ≡ Read (line % 256) (record { 0 = p + 5 + 8 + 8 }) =
+              let f : field_read s (p + 5 + 8) 8 ≡ Some (line % 256, record { 0 = p + 5 + 8 + 8 }) =
               read_at (p + 5 + 8) (omega (arith, c))
-              ∙ ap (λ (b : ℕ). Read b (record { 0 = p + 5 + 8 + 8 })) (sym (line_second s p line is ∙ ap (λ (x : ℕ). field_at s x 8) i))
+              ∙ ap (λ (b : ℕ). Some (b, record { 0 = p + 5 + 8 + 8 })) (sym (line_second s p line is ∙ ap (λ (x : ℕ). field_at s x 8) i))
               in
               rw (first_read (omega (arith, c)), f, z) refl
           by k c (not_kept e) = rw e refl

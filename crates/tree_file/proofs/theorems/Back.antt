@@ -1,13 +1,12 @@
 -- The tree file of templates that can be written is read back: each list, each template, the file. Assumes nothing.
 use Prim.Native.Nat.{ℕ, zero, suc, ◌+◌, ◌*◌, ◌^◌, ◌≤◌, ◌<◌}
 use native.Mathlib.Omega.{arith}
-use Rattle.std.specs.Prelude.{◌≡◌, Bool, true, false, get_or, leb}
+use Rattle.std.specs.Prelude.{◌≡◌, Bool, true, false, get_or, leb, Some}
 use Rattle.std.proofs.Math.Path.{refl, ap}
 use Rattle.std.proofs.Common.{sym, ◌∙◌, leb-true, leb-false, le-leb, eq-eqb, ne_eqb}
 use Rattle.std.proofs.Math.Bool.{and-eq-true_iff}
 use mathlib.Core.List.{List, [], ◌∷◌, ◌++◌, append-nil}
 use Rattle.std.proofs.Math.ListN.{length, length-append, get_or-eq_default}
-use Rattle.fields.specs.declared.Field.TheVariants.{Read}
 use Rattle.fields.specs.Field.{field_read}
 use Rattle.fields.specs.laws.Laws.{whole}
 use Rattle.files.specs.Codes.{shapes, shape_of, is_neutral, operands}
@@ -64,10 +63,10 @@ simple_neutral op ns h = rw (ne_eqb op 1 (λ e. omega arith), ne_eqb op 2 (λ e.
 
 -- ---- a field whose bits stand there
 module _ (s : List ℕ) where
-  read_back : (p w v : ℕ) → v < 2 ^ w → Stands s p (bits_of w v) → field_read s p w ≡ Read v (record { 0 = p + w })
+  read_back : (p w v : ℕ) → v < 2 ^ w → Stands s p (bits_of w v) → field_read s p w ≡ Some (v, record { 0 = p + w })
   read_back p w v lt h =
       let f = field_got_lem s p w (field_stands s p w v lt h) in
-      sym (whole s p w f.2) ∙ ap (λ (x : ℕ). Read x (record { 0 = p + w })) (sym f.0)
+      sym (whole s p w f.2) ∙ ap (λ (x : ℕ). Some (x, record { 0 = p + w })) (sym f.0)
 
   module _ (l p : ℕ) where
     -- an instruction, and then the rest

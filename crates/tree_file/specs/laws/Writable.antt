@@ -3,7 +3,6 @@ use Prim.Native.Nat.{◌<◌}
 use Prim.Native.Nat.{ℕ}
 use Rattle.std.proofs.Math.ListN.{length}
 use Rattle.files.specs.Valid.{Valid}
-use Rattle.files.specs.Reading.{below}
 use Rattle.files.specs.laws.EntriesLaws.{EntriesOk}
 use Rattle.files.specs.Tree.{Template}
 use Rattle.tree_file.specs.File.{levels}

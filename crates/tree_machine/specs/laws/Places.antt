@@ -1,5 +1,5 @@
 -- What is fetched in an accepted tree file, by its links and its table, is what stands there. Assumes nothing.
-use Rattle.std.specs.Prelude.{ℕ, ◌+◌, ◌*◌, ◌≤◌, ◌<◌, ◌≡◌, refl, true, List, length}
+use Rattle.std.specs.Prelude.{ℕ, ◌*◌, ◌≤◌, ◌<◌, ◌≡◌, refl, true, List, length}
 use Rattle.std.proofs.Common.{arith, ◌∙◌, ne_eqb}
 use Rattle.std.proofs.Math.Bool.{false}
 use Rattle.std.proofs.Math.ListN.{get_or, get_or-eq_default}

@@ -1,5 +1,4 @@
 -- `tree_steps::run_from` meets its contract. Assumes nothing.
-use Prim.Native.Nat.{◌-◌}
 use mathlib.Core.Path.{refl}
 use native.Mathlib.Omega.{arith}
 use Rattle.rules.specs.State.{regs}
@@ -27,7 +26,7 @@ returns-in-Halted c =
     c.ended.ensures
 
 pub returns-in-Wrong : goal.returns-in-Wrong
-returns-in-Wrong c = wrong_turn _ _ _ c.loop-left.left c.args.budget _ _ (regs c.loop-left.v c.loop-left.env c.loop-left.sp c.loop-left.st) (control c.loop-left.template (Tree c.loop-left.at) c.loop-left.fr) _ c.loop-left-test.true c.loop-left.invariant.1 c.take_step.ensures c.loop-left.invariant.2 _ _ c.in-Wrong.is c.ended-in-Wrong.ensures
+returns-in-Wrong c = wrong_turn _ _ _ c.loop-left.left c.args.budget _ _ (regs c.loop-left.v c.loop-left.env c.loop-left.sp c.loop-left.st) (control c.loop-left.template (Tree c.loop-left.at) c.loop-left.fr) _ c.loop-left-test.true c.loop-left.invariant.1 c.take_step.ensures c.loop-left.invariant.2 _ _ _ c.in-Wrong.is c.number.ensures c.ended-in-Wrong.ensures
 
 pub loop-left-smaller : goal.loop-left-smaller
 loop-left-smaller c = omega (arith, c.loop-left-test.true)
@@ -38,9 +37,8 @@ loop-left-preserved c =
     let q = c.in-Next.is in
     let step = c.take_step.ensures in
     let at = c.bit_place-at.ensures in (
-      ready_apart _ _ at _ _ _ _
-          (next_ready _ _ _ c.loop-left.left c.args.budget _ _ (regs c.loop-left.v c.loop-left.env c.loop-left.sp c.loop-left.st) (control c.loop-left.template (Tree c.loop-left.at) c.loop-left.fr) _ c.loop-left-test.true c.loop-left.invariant.1 step c.loop-left.invariant.2 _ _ _ _ q refl c.loop-left.invariant.0 (search rules) (search rules)
-          (search rules) (search rules)),
+      ready_apart _ _ at _ _ _
+          (next_ready _ _ _ c.loop-left.left c.args.budget _ _ (regs c.loop-left.v c.loop-left.env c.loop-left.sp c.loop-left.st) (control c.loop-left.template (Tree c.loop-left.at) c.loop-left.fr) _ c.loop-left-test.true c.loop-left.invariant.1 step c.loop-left.invariant.2 _ _ _ _ q refl c.loop-left.invariant.0),
       search rules,
       turn_apart _ _ at _ _ _ _ _ _ (next_turn _ _ _ c.loop-left.left c.args.budget _ _ (regs c.loop-left.v c.loop-left.env c.loop-left.sp c.loop-left.st) (control c.loop-left.template (Tree c.loop-left.at) c.loop-left.fr) _ c.loop-left-test.true c.loop-left.invariant.1 step c.loop-left.invariant.2 _ _ q),
     )

@@ -11,7 +11,7 @@ use Rattle.tree_steps.specs.Ready.{first_regs, beginning}
 use Rattle.tree_steps.proofs.run_from.Given as goal
 
 abbrev pub invariant-loop-left : goal.invariant-loop-left
-invariant-loop-left l = StepReady l.file l.table (memory l.globals l.stack l.store l.frames) (regs l.v l.env l.sp l.st) (control l.template (Tree l.at) l.fr) × (l.left ≤ l.budget)
+invariant-loop-left l = StepReady l.file l.table (regs l.v l.env l.sp l.st) (control l.template (Tree l.at) l.fr) × (l.left ≤ l.budget)
     × (ran_from l.owner (linked_program l.file l.links l.table) l.left (l.budget - l.left)
     (state_of (regs l.v l.env l.sp l.st) (control l.template (Tree l.at) l.fr) (memory l.globals l.stack l.store l.frames))
     ≡ ran_from l.owner (linked_program l.file l.links l.table) l.budget 0 (state_of first_regs (beginning l.initial.at) (memory l.initial.globals l.initial.stack l.initial.store l.initial.frames)))

@@ -11,7 +11,7 @@ use Rattle.tree_steps.proofs.take_coded.Goals as goal
 pub fetch_coded-requires : goal.fetch_coded-requires
 fetch_coded-requires c =
     let pre = c.requires in
-    (short _ _ _ _ _ pre.0.in_tree pre.0.ready, pre.0.code_whole, pre.0.line_is, pre.0.line_low, pre.1)
+    (short _ _ _ _ pre.0.in_tree pre.0.ready, pre.0.code_whole, pre.0.line_is, pre.0.line_low, pre.1)
 
 pub act_branch-requires : goal.act_branch-requires
 act_branch-requires c =
@@ -20,7 +20,7 @@ act_branch-requires c =
     (pre.0.ready.fit, pre.0.ready.frames_fit, p.1 ∙ sym p.0)
 
 pub act_save-requires : goal.act_save-requires
-act_save-requires c = (search rules, search rules, search rules, search rules, (save_places _ _ c.fetch_coded.ensures.1 _ _ _ c.in-Save.is).2)
+act_save-requires c = (search rules, search rules, (save_places _ _ c.fetch_coded.ensures.1 _ _ _ c.in-Save.is).2)
 
 pub returns-in-Neutral : goal.returns-in-Neutral
 unfolding fetched_as

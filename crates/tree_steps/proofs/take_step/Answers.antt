@@ -8,7 +8,7 @@ use Rattle.tree_code.specs.Fetch.{linked_program}
 use Rattle.tree_code.specs.laws.FetchSteps.{nowhere_fetched, cut_fetched, code_fetched, end_fetched, end_followed}
 use Rattle.tree_code.specs.laws.LineLaws.{line_read}
 use Rattle.steps.proofs.StepLaws.{tree_number, stays, bad_stops}
-use Rattle.tree_steps.proofs.StepLaws.{short, steps_as, same_memory, ready_still}
+use Rattle.tree_steps.proofs.StepLaws.{short, steps_as, same_memory}
 use Rattle.tree_steps.proofs.take_step.Goals as goal
 
 pub returns-then-is_first : goal.returns-then-is_first
@@ -23,24 +23,23 @@ returns-then-is_first c =
 pub within-requires : goal.within-requires
 within-requires c =
     let pre = c.requires in
-    let few = short _ _ _ _ _ pre.0 pre.1 in
+    let few = short _ _ _ _ pre.0 pre.1 in
     omega (arith, few)
 
 pub line_at-line-requires : goal.line_at-line-requires
 line_at-line-requires c =
     let pre = c.requires in
     let fits = lies c.args.file.now c.loop-owner.here.0 5 c.within.ensures c.loop-owner-test.true in
-    let few = short _ _ _ _ _ pre.0 pre.1 in
+    let few = short _ _ _ _ pre.0 pre.1 in
     (omega (arith, few), omega (arith, fits))
 
 pub take_line-requires : goal.take_line-requires
 take_line-requires c =
     let pre = c.requires in
-    let i = c.loop-owner.invariant in
     let line = c.line_at-line.ensures in
     record {
       in_tree = pre.0;
-      ready = ready_still (same_memory i.2 i.3 i.4 i.5) pre.1;
+      ready = pre.1;
       code_whole = leb-true _ _ (sym c.within.ensures ∙ c.loop-owner-test.true);
       line_is = line.0;
       line_low = line.1;

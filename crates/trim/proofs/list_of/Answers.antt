@@ -3,8 +3,8 @@ use mathlib.Core.Path.{sym, ◌∙◌}
 use Rattle.trim.specs.laws.StandLaws.{span_done, span_refused}
 use Rattle.trim.proofs.list_of.Goals as goal
 
-pub returns-in-Done : goal.returns-in-Done
-returns-in-Done c = λ here w. span_done w _ c.from_slot-start.ensures _ _ (sym c.read_list.ensures.value ∙ c.in-Done.is)
+pub returns-in-Ok : goal.returns-in-Ok
+returns-in-Ok c = λ here w. span_done w _ c.from_slot-start.ensures _ _ (sym c.read_list.ensures.value ∙ c.in-Ok.is)
 
-pub returns-in-Refused : goal.returns-in-Refused
-returns-in-Refused c = λ here w. span_refused w _ c.from_slot-start.ensures _ _ (sym c.read_list.ensures.value ∙ c.in-Refused.is)
+pub returns-in-Err : goal.returns-in-Err
+returns-in-Err c = λ here w. span_refused w _ c.from_slot-start.ensures _ _ (sym c.read_list.ensures.value ∙ c.in-Err.is)

@@ -12,13 +12,13 @@ returns-then-code-gt9 c = mark_high _ _ _ c.if-code-gt9.true
 pub past-requires : goal.past-requires
 past-requires c =
     let pre = c.requires in
-    let h = pre.2 c.if-code-lt6.false c.if-code-gt9.false in
+    let h = pre.1 c.if-code-lt6.false c.if-code-gt9.false in
     omega (arith, pre.0)
 
 pub bits_at-requires : goal.bits_at-requires
 bits_at-requires c =
     let pre = c.requires in
-    let h = pre.2 c.if-code-lt6.false c.if-code-gt9.false in
+    let h = pre.1 c.if-code-lt6.false c.if-code-gt9.false in
     (pre.0, (omega arith, omega (arith, c.past.ensures)))
 
 pub returns : goal.returns

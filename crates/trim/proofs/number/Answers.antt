@@ -1,26 +1,31 @@
 -- `trim::number` meets its contract. Assumes nothing.
-use Prim.Native.Nat.{◌-◌}
-use native.Mathlib.Omega.{arith}
-use Rattle.trim.proofs.theorems.MarkLaws.{numbering_none, numbering_fits, numbering_on, numbering_all}
+use Rattle.std.proofs.Common.{◌<◌, ◌≤◌, length, take, arith, ◌∙◌}
+use Rattle.std.proofs.lemmas.List.{set-get_or}
+use Rattle.trim.specs.Kept.{rank}
+use Rattle.trim.specs.Standing.{is_marked}
+use Rattle.trim.proofs.theorems.MarkLaws.{one_unset, one_set, one_fits, front_length, front_rank, numbering_none, numbering_fits, numbering_on, numbering_front}
 use Rattle.trim.proofs.number.Goals as goal
+use Rattle.trim.proofs.number.Goals.{then-mark-gt0, else-mark-gt0}
 
-pub loop-i-init : goal.loop-i-init
-loop-i-init c = (omega arith, numbering_none _)
+pub loop-mark-init : goal.loop-mark-init
+loop-mark-init c = numbering_none _
 
-pub number_one-count-requires : goal.number_one-count-requires
-number_one-count-requires c =
-    let p = c.requires in
-    let v = c.loop-i.invariant in
-    let l = c.loop-i-test.true in
-    (omega (arith, v.1.same, p.0), numbering_fits v.1 (omega (arith, p.0)) _ l p.1)
+pub overflow_add-count : goal.overflow_add-count
+overflow_add-count c =
+    let v = c.loop-mark.invariant in
+    let m = front_length c.args.marks.now c.args.n c.requires.0 in
+    let few : rank (is_marked (take c.args.n c.args.marks.now)) 0 c.args.n ≤ 255 = rw (front_rank c.args.marks.now c.args.n c.requires.0) c.requires.1 in
+    let k = numbering_fits v (omega (arith, v.same)) c.args.n (omega (arith, m, v.same)) few in
+    let h = one_fits _ _ _ (omega (arith, c.if-mark-gt0.true)) k in omega arith
 
-pub loop-i-preserved : goal.loop-i-preserved
-loop-i-preserved c =
-    let p = c.requires in
-    let v = c.loop-i.invariant in
-    let l = c.loop-i-test.true in
-    let e = c.number_one-count.ensures in
-    (omega arith, numbering_on v.1 (omega (arith, p.0)) _ _ e.value e.marks_after)
+pub loop-mark-preserved : goal.loop-mark-preserved
+loop-mark-preserved c =
+    let v = c.loop-mark.invariant in
+    let lt : c.loop-mark.mark-index < length (take c.args.n c.args.marks.now) = omega (arith, v.same) in
+    elim c.if-mark-gt0.branch [
+      | then-mark-gt0 w ↦ let e = one_set _ _ _ (omega (arith, w.if-mark-gt0.true)) in numbering_on v lt _ _ (w.count-is ∙ e.0) (w.mark-items-is ∙ e.1)
+      | else-mark-gt0 w ↦ let e = one_unset _ _ _ (omega (arith, w.if-mark-gt0.false)) in numbering_on v lt _ _ (w.count-is ∙ e.0) (w.mark-items-is ∙ set-get_or _ _ _ ∙ e.1)
+    ]
 
 pub returns : goal.returns
-returns c = numbering_all c.loop-i.invariant.1 c.loop-i.invariant.0 (omega (arith, c.loop-i-test.false))
+returns c = numbering_front _ _ c.requires.0 c.loop-mark.invariant (omega (arith, c.loop-mark-test.false, front_length c.args.marks.now c.args.n c.requires.0)) (omega (arith, c.loop-mark.auto.mark-index-end, front_length c.args.marks.now c.args.n c.requires.0))

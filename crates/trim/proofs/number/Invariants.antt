@@ -1,10 +1,6 @@
 -- `trim::number` meets its contract. Assumes nothing.
-use Prim.Native.Nat.{◌-◌, ◌≤◌}
 use Rattle.trim.proofs.theorems.MarkLaws.{Numbering}
 use Rattle.trim.proofs.number.Given as goal
 
-abbrev pub invariant-loop-i : goal.invariant-loop-i
-invariant-loop-i l = (l.i ≤ l.n) × Numbering l.initial.marks l.i l.count l.marks
-
-abbrev pub decreases-loop-i : goal.decreases-loop-i
-decreases-loop-i l = l.n - l.i
+abbrev pub invariant-loop-mark : goal.invariant-loop-mark
+invariant-loop-mark l = Numbering l.initial.mark-items l.mark-index l.count l.mark-items

@@ -1,6 +1,5 @@
 -- `trim::number_names` meets its contract. Assumes nothing.
 use native.Mathlib.Omega.{arith}
-use Rattle.trim.specs.laws.ReachedLaws.{zeros_length}
 use Rattle.trim.proofs.theorems.MarkLaws.{span_tokens, names_fit, names_numbered}
 use Rattle.trim.proofs.theorems.TemplateLaws.{span_places}
 use Rattle.trim.proofs.number_names.Goals as goal
@@ -12,7 +11,7 @@ pub mark_names-requires : goal.mark_names-requires
 mark_names-requires c =
     let pre = c.requires in
     let w = pre.2 in
-    (omega (arith, pre.0), zeros_length 256 _ pre.1, rw c.since.ensures (span_tokens w))
+    (omega (arith, pre.0), rw c.since.ensures (span_tokens w))
 
 pub number-requires : goal.number-requires
 number-requires c =

@@ -7,10 +7,10 @@ pub returns-then-mark-lt1 : goal.returns-then-mark-lt1
 returns-then-mark-lt1 c =
     let pre = c.requires in
     let l = line_gone _ _ _ _ c.put_number-second.ensures.put c.put_number-third.ensures.put c.if-mark-lt1.true c.put_bytes.ensures in
-    record { put = l; upper_bound = put_short _ 12 l (line_short _ _ _ _ pre.1 pre.2 (omega (arith, c.ranges.mark))) }
+    record { put = l; short = put_short _ 12 l (line_short _ _ _ _ pre.1 pre.2 (omega (arith, c.ranges.mark))) }
 
 pub returns : goal.returns
 returns c =
     let pre = c.requires in
     let l = line_new _ _ _ _ c.put_number-second.ensures.put c.put_number-third.ensures.put c.if-mark-lt1.false c.put_number.ensures.put in
-    record { put = l; upper_bound = put_short _ 12 l (line_short _ _ _ _ pre.1 pre.2 (omega (arith, c.ranges.mark))) }
+    record { put = l; short = put_short _ 12 l (line_short _ _ _ _ pre.1 pre.2 (omega (arith, c.ranges.mark))) }

@@ -4,10 +4,10 @@ use Rattle.trim.proofs.theorems.EntryLaws.{marked_gone, marked_put}
 use Rattle.trim.proofs.put_marked.Goals as goal
 
 pub returns-then-mark-lt1 : goal.returns-then-mark-lt1
-returns-then-mark-lt1 c = record { result_bound = omega arith; put_more = λ w. marked_gone _ _ _ _ _ c.if-mark-lt1.true }
+returns-then-mark-lt1 c = record { short = omega arith; put_more = λ w. marked_gone _ _ _ _ _ c.if-mark-lt1.true }
 
 pub returns : goal.returns
 returns c =
     let pre = c.requires in
     let d = c.put_entry.ensures in
-    record { result_bound = omega (arith, d.result_value); put_more = λ w. marked_put _ _ _ _ _ _ _ _ c.if-mark-lt1.false pre.s_len_bound.3 w.size_is (d.out_after w) d.result_value }
+    record { short = omega (arith, d.place_after); put_more = λ w. marked_put _ _ _ _ _ _ _ _ c.if-mark-lt1.false pre.room w.size_is (d.out_after w) d.place_after }

@@ -1,6 +1,7 @@
 -- Entries that stand in a file: their sizes, and each put with the new number of the template that it names. Assumes nothing.
 use Prim.Native.Nat.{ℕ, suc, ◌+◌, ◌*◌, ◌-◌, ◌^◌, ◌≤◌, ◌<◌}
-use Rattle.std.proofs.Common.{arith, ◌∙◌, lt-ltb, le-ltb}
+use Rattle.std.proofs.Common.{arith, ◌∙◌, lt-ltb, le-ltb, take, drop, length-drop}
+use Rattle.std.proofs.lemmas.List.{length-take-le, get_or-take, get_or-drop}
 use Rattle.std.specs.Prelude.{◌≡◌, Bool, true, false, cond, ltb}
 use Rattle.std.proofs.Math.Path.{refl, sym, ap, subst}
 use mathlib.Core.List.{List, [], ◌∷◌, ◌++◌, map, append-nil, append_assoc}
@@ -173,6 +174,25 @@ module _ (f : ℕ → ℕ) (o : List ℕ) (p mark : ℕ) (e : Entry) where
       → PutMore o p o' q (cond (ltb 0 mark) (entry_bits (renumber f e)) [])
   marked_put o' size q h room s g r =
       rw (lt-ltb 0 mark (omega arith)) (more_put (entry_bits (renumber f e)) (entry_are (renumber f e)) (omega arith) g (rw (renumber_length f e, ← s) r))
+
+-- the marks of so many entries, from the first on, lent alone
+module _ (row : List ℕ) (count i : ℕ) (long : length row ≡ 256) (few : count ≤ 255) where
+  marks_length : length (take (count + 1 - 1) (drop 1 row)) ≡ count
+  marks_length =
+      let e : count + 1 - 1 ≡ count = omega arith in
+      rw e (length-take-le count (drop 1 row) (omega (arith, length-drop 1 row)))
+
+  module _ (h : i < length (take (count + 1 - 1) (drop 1 row))) where
+    pub marks_more : i + 1 ≤ count
+    marks_more = omega (arith, marks_length)
+
+    pub marks_mark : get_or (take (count + 1 - 1) (drop 1 row)) i 0 ≡ get_or row (i + 1) 0
+    marks_mark =
+        let e : 1 + i ≡ i + 1 = omega arith in
+        get_or-take (count + 1 - 1) (drop 1 row) i 0 (omega (arith, marks_length)) ∙ get_or-drop 1 row i 0 ∙ ap (λ (n : ℕ). get_or row n 0) e
+
+  pub marks_end : length (take (count + 1 - 1) (drop 1 row)) ≤ i → count < i + 1
+  marks_end h = omega (arith, marks_length)
 
 -- ---- the entries that a row keeps, up to entry n
 pub record Entering (s numbers row : List ℕ) (es : List Entry) (o₀ : List ℕ) (at n here : ℕ) (o : List ℕ) (there : ℕ) : Type 0 where

@@ -1,18 +1,18 @@
 -- Marks: those of the entries that code names, and their numbers. Assumes nothing.
 use Prim.Native.Nat.{ℕ, zero, suc, ◌+◌, ◌*◌, ◌-◌, ◌≤◌, ◌<◌}
-use Rattle.std.proofs.Common.{zero-add, add-one, arith, sym, ap₂, ◌∙◌, length-set, get_or-set_same, get_or-set_other}
+use Rattle.std.proofs.Common.{zero-add, add-one, arith, sym, ap₂, ◌∙◌, take, drop, length-drop, length-set, get_or-set_same, get_or-set_other}
 use Rattle.std.specs.Prelude.{◌≡◌, Bool, ◌&&◌, ◌||◌, eqb, leb, set, replicate}
 use Rattle.std.proofs.Math.Path.{refl, ap, subst}
 use Rattle.std.proofs.Math.Bool.{true, false, cond, and-eq-true_iff}
 use mathlib.Core.List.{List, [], ◌∷◌, ◌++◌}
-use Rattle.std.proofs.Math.Option.{none, some}
 use borrow.Author.Tests.{eqb-true, eq-eqb, lt-ltb, le-ltb, ltb-false, leb-true, leb-false}
 use Rattle.std.proofs.Math.Dec.{ltb}
-use Rattle.std.proofs.Math.ListN.{length, get_or, length-append}
+use Rattle.std.proofs.Math.ListN.{length, get_or, length-append, get_or-append}
+use Rattle.std.proofs.lemmas.List.{length-take-le, get_or-take}
 use Rattle.fields.specs.Field.{field_at}
 use Rattle.files.specs.Codes.{shape_of, is_neutral, operands}
 use Rattle.files.specs.Code.{Code, done, neutral, return, call, unless_false, make_cont, bits}
-use Rattle.files.specs.Entries.{Entry, template}
+use Rattle.files.specs.Entries.{Entry}
 use Rattle.files.specs.Grammar.{entry_of, suits, index_fits, each_neutral, indices_fit}
 use Rattle.files.specs.Valid.{Bytes, Valid}
 use Rattle.files.specs.laws.TableLaws.{zeros_at}
@@ -141,6 +141,33 @@ numbering_all {i = i} {n = n} r h k =
       r.counted ∙ rw e refl,
       record { same = r.same; each = λ j l. r.below j (omega arith) },
     )
+
+-- the first n of some marks, lent alone
+module _ (l : List ℕ) (n : ℕ) (h : n ≤ length l) where
+  pub front_length : length (take n l) ≡ n
+  front_length = length-take-le n l h
+
+  front_mark : (i : ℕ) → i < n → is_marked (take n l) i ≡ is_marked l i
+  unfolding is_marked
+  front_mark i k = rw (get_or-take n l i 0 k) refl
+
+  front_below : (i : ℕ) → i ≤ n → rank (is_marked (take n l)) 0 i ≡ rank (is_marked l) 0 i
+  front_below i k = rank_same _ _ 0 i (λ j m. let z : 0 + j ≡ j = zero-add j in rw z (front_mark j (omega arith)))
+
+  pub front_rank : rank (is_marked (take n l)) 0 n ≡ rank (is_marked l) 0 n
+  front_rank = front_below n (omega arith)
+
+  pub numbering_front : {now : List ℕ} {i count : ℕ} → Numbering (take n l) i count now → n ≤ i → i ≤ n
+      → (count ≡ rank (is_marked l) 0 n) × Numbered n l (now ++ drop n l)
+  numbering_front {now} {i} {count} r a b =
+      let all = numbering_all r b a in
+      let same = all.1.same ∙ front_length in (
+        all.0 ∙ front_rank,
+        record {
+          same = simp (length-append, length-drop) (omega (arith, same, h));
+          each = λ j k. get_or-append now (drop n l) 0 j (omega (arith, same)) ∙ all.1.each j k ∙ rw (front_mark j k, front_below j (omega arith)) refl;
+        },
+      )
 
 -- ---- codes that name an entry
 module _ (code n : ℕ) (row : List ℕ) where

@@ -1,5 +1,5 @@
 -- All templates, and the function as the file was judged. Assumes nothing.
-use Rattle.std.specs.Prelude.{ℕ, suc, ◌+◌, ◌*◌, ◌-◌, ◌/◌, ◌%◌, ◌≤◌, ◌<◌, ◌≡◌, Bool, leb}
+use Rattle.std.specs.Prelude.{ℕ, suc, ◌+◌, ◌*◌, ◌-◌, ◌/◌, ◌%◌, ◌≤◌, ◌<◌, ◌≡◌, Bool, leb, Result, Ok, Err}
 use Rattle.std.proofs.Common.{zero-add, arith, ◌∙◌, take_at, length-take-le}
 use Rattle.std.proofs.Math.Numerals.{add-one}
 use Rattle.std.proofs.Math.Path.{refl, sym, ap, subst}
@@ -23,7 +23,6 @@ use Rattle.readback.specs.laws.Lists.{bits_are}
 use Rattle.bit_writer.specs.Put.{put_bits}
 use Rattle.bit_writer.specs.laws.Wrote.{Wrote}
 use Rattle.tree.specs.declared.Summary.{Summary}
-use Rattle.tree.specs.declared.Judged.TheVariants.{Accepted}
 use Rattle.tree.specs.Summary.{summary_of, judged_told}
 use Rattle.files.specs.Room.{ZerosFor}
 use Rattle.tree.specs.Filled.{tree_filled}
@@ -33,8 +32,6 @@ use Rattle.tree_file.specs.File.{template_bits, templates_bits, file_bits, tree_
 use Rattle.tree_file.proofs.theorems.Written.{file_length, wrote_tree}
 use Rattle.text.specs.Put.{Put}
 use Rattle.text.specs.laws.Laws.{put_then, put_taken}
-use Rattle.trim.specs.declared.Trimmed.{Trimmed}
-use Rattle.trim.specs.declared.Trimmed.TheVariants.{Written, Refused}
 use Rattle.trim.specs.Kept.{sift, rank}
 use Rattle.trim.specs.Trim.{trim_template, trim, stays, trimmed}
 use Rattle.trim.specs.Lines.{template_lines, lines_from, trim_list}
@@ -46,6 +43,8 @@ use Rattle.trim.specs.laws.ReachedLaws.{up_each}
 use Rattle.trim.proofs.theorems.EntryLaws.{more_then, more_none}
 use Rattle.trim.proofs.theorems.RoundsLaws.{stays_reached, stays_leads}
 use Rattle.trim.specs.laws.StandLaws.{Walk, walk_first, walk_next, walk_all}
+use Rattle.files.specs.declared.Refusal.{Refusal}
+use Rattle.files.specs.Refusal.{refusal}
 
 -- ---- the templates from own on are left
 pub record Passing (s table : List ℕ) (T own here : ℕ) : Type 0 where
@@ -231,7 +230,7 @@ module _ (f l out list : List ℕ) (size bytes : ℕ) (inside : size ≤ length 
   abbrev g : Got Outputs
   g = both_into (length out) (length list) f size l bytes
 
-  abbrev Done : Trimmed → List ℕ → List ℕ → Type 0
+  abbrev Done : Result (ℕ × ℕ) (Refusal ℕ) → List ℕ → List ℕ → Type 0
   Done r o k = (r ≡ answered g) × ((o ≡ file_left out g) × (k ≡ list_left list g))
 
   file_size : length (take size f) ≡ size
@@ -240,16 +239,16 @@ module _ (f l out list : List ℕ) (size bytes : ℕ) (inside : size ≤ length 
   list_size : length (take bytes l) ≡ bytes
   list_size = length-take-le bytes l within
 
-  pub short_file : length out < size → Done (Refused 9 size) out list
+  pub short_file : length out < size → Done (Err (refusal 9 size)) out list
   unfolding into_both answered file_left list_left
   short_file h = rw (file_size, lt-leb size (length out) h) (refl, (refl, refl))
 
-  pub short_list_lem : size ≤ length out → length list < bytes → Done (Refused 9 bytes) out list
+  pub short_list_lem : size ≤ length out → length list < bytes → Done (Err (refusal 9 bytes)) out list
   unfolding into_both answered file_left list_left
   short_list_lem k h = rw (file_size, le-leb size (length out) k, list_size, lt-leb bytes (length list) h) (refl, (refl, refl))
 
   pub both_put : size ≤ length out → bytes ≤ length list → (o k : List ℕ) (r q : ℕ) → Put out 0 o r (take size f) → Put list 0 k q (take bytes l)
-      → Done (Written size bytes) o k
+      → Done (Ok (size, bytes)) o k
   unfolding into_both answered file_left list_left
   both_put h i o k r q p p' =
       rw (le-leb (length (take size f)) (length out) (omega (arith, file_size)), le-leb (length (take bytes l)) (length list) (omega (arith, list_size))) (
@@ -264,7 +263,7 @@ pub byte_size : (end gap past size : ℕ) → gap ≡ (8 - end % 8) % 8 → past
 byte_size end gap past size e f g = omega arith
 
 -- ---- a file that was judged
-pub judged_file : (s : List ℕ) {m : Summary} {table table' : List ℕ} → judged_told (tree_checked s) ≡ Accepted m → ZerosFor s table → table' ≡ tree_filled s table
+pub judged_file : (s : List ℕ) {m : Summary} {table table' : List ℕ} → judged_told (tree_checked s) ≡ Ok m → ZerosFor s table → table' ≡ tree_filled s table
     → FileIn s table' m.count
 unfolding summary_of
 judged_file s told z e =
@@ -282,10 +281,10 @@ module _ (s out list : List ℕ) where
   abbrev h : Got Outputs
   h = trimmed_into s (length out) (length list)
 
-  abbrev All : Trimmed → List ℕ → List ℕ → Type 0
+  abbrev All : Result (ℕ × ℕ) (Refusal ℕ) → List ℕ → List ℕ → Type 0
   All r o k = (r ≡ answered h) × ((o ≡ file_left out h) × (k ≡ list_left list h))
 
-  pub all_refused : {n p : ℕ} → tree_checked s ≡ refused n p → All (Refused n p) out list
+  pub all_refused : {n p : ℕ} → tree_checked s ≡ refused n p → All (Err (refusal n p)) out list
   unfolding trimmed_into then answered file_left list_left
   all_refused e = rw e (refl, (refl, refl))
 
@@ -316,7 +315,7 @@ module _ (s out list : List ℕ) where
     list_taken = put_taken (lines_from (stays w.templates) 0 w.templates) lined (omega arith)
 
     -- as the lists that were made have it
-    pub all_into : {r : Trimmed} {o k : List ℕ} → r ≡ answered (both_into (length out) (length list) file size lines bytes)
+    pub all_into : {r : Result (ℕ × ℕ) (Refusal ℕ)} {o k : List ℕ} → r ≡ answered (both_into (length out) (length list) file size lines bytes)
         → o ≡ file_left out (both_into (length out) (length list) file size lines bytes)
         → k ≡ list_left list (both_into (length out) (length list) file size lines bytes)
         → All r o k

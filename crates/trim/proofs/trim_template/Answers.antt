@@ -8,7 +8,7 @@ use Rattle.trim.proofs.theorems.BothLaws.{head_inside, span_next, with_list_lem,
 use Rattle.trim.proofs.trim_template.Goals as goal
 
 pub bits_at-entries-requires : goal.bits_at-entries-requires
-bits_at-entries-requires c = let p = c.requires in (omega (arith, p.s_len_bound.0), (omega arith, head_inside p.template_in))
+bits_at-entries-requires c = let p = c.requires in (omega (arith, p.sizes.0), (omega arith, head_inside p.template_in))
 
 pub put_lines-requires : goal.put_lines-requires
 put_lines-requires c =
@@ -17,7 +17,7 @@ put_lines-requires c =
     let cn = c.bits_at-entries.ensures.0 ∙ count_in w in
     let ls = c.list_of-list.ensures _ w in
     let f = count_few (with_list_lem w _ _ ls cn) in
-    (omega (arith, p.file_len.1, p.file_len.3, p.s_len_bound.3), p.s_len_bound.3, f, refl)
+    (omega (arith, p.written_so_far.1, p.sizes.1), p.sizes.1, f)
 
 pub returns-then-mark-eq0 : goal.returns-then-mark-eq0
 returns-then-mark-eq0 c =
@@ -26,8 +26,8 @@ returns-then-mark-eq0 c =
     let cn = c.bits_at-entries.ensures.0 ∙ count_in w in
     let ls = c.list_of-list.ensures _ w in
     let d = c.put_lines.ensures in record {
-      list_bound = (d.upper_bound, omega (arith, p.file_len.2, span_next w _ ls));
-      next_value = (λ y. span_next y _ (c.list_of-list.ensures _ y));
+      written = (d.short, omega (arith, p.written_so_far.0, span_next w _ ls));
+      next_is = (λ y. span_next y _ (c.list_of-list.ensures _ y));
       put = (λ y keep are leads. let g = gone_both y keep _ are leads _ _ _ _ _ refl c.if-mark-eq0.true refl (c.bits_at-entries.ensures.0 ∙ count_in y) in
           (put_same d.put g.0, g.1));
     }
@@ -37,7 +37,7 @@ number_names-left-requires c =
     let p = c.requires in
     let w = p.template_in in
     let cn = c.bits_at-entries.ensures.0 ∙ count_in w in
-    let ls = c.list_of-list.ensures _ w in (p.s_len_bound.0, refl, with_list_lem w _ _ ls cn)
+    let ls = c.list_of-list.ensures _ w in (p.sizes.0, refl, with_list_lem w _ _ ls cn)
 
 pub put_template-requires : goal.put_template-requires
 put_template-requires c =
@@ -45,7 +45,7 @@ put_template-requires c =
     let w = p.template_in in
     let cn = c.bits_at-entries.ensures.0 ∙ count_in w in
     let ls = c.list_of-list.ensures _ w in
-    record { s_len_bound = (p.s_len_bound.0, p.s_len_bound.2, c.number_names-left.auto.row, p.file_len.0, p.file_len.2); list_in = with_list_lem w _ _ ls cn }
+    record { size = p.sizes.0; at_behind = p.written_so_far.0; list_in = with_list_lem w _ _ ls cn }
 
 pub put_lines-requires-2 : goal.put_lines-requires-2
 put_lines-requires-2 c =
@@ -54,7 +54,7 @@ put_lines-requires-2 c =
     let cn = c.bits_at-entries.ensures.0 ∙ count_in w in
     let ls = c.list_of-list.ensures _ w in
     let f = count_few (with_list_lem w _ _ ls cn) in
-    (omega (arith, p.file_len.1, p.file_len.3, p.s_len_bound.3), p.s_len_bound.3, f, c.number_names-left.auto.row)
+    (omega (arith, p.written_so_far.1, p.sizes.1), p.sizes.1, f)
 
 pub returns : goal.returns
 returns c =
@@ -65,8 +65,8 @@ returns c =
     let d = c.put_lines-2.ensures in
     let n = c.number_names-left.ensures (with_list_lem w _ _ ls cn) in
     let k = c.put_template.ensures (with_list_lem w _ _ ls cn) n.0 n.1 in record {
-      list_bound = (d.upper_bound, omega (arith, p.file_len.2, k.0, span_next w _ ls));
-      next_value = (λ y. span_next y _ (c.list_of-list.ensures _ y));
+      written = (d.short, omega (arith, p.written_so_far.0, k.0, span_next w _ ls));
+      next_is = (λ y. span_next y _ (c.list_of-list.ensures _ y));
       put = (λ y keep are leads. let z = with_list_lem y _ _ (c.list_of-list.ensures _ y) (c.bits_at-entries.ensures.0 ∙ count_in y) in let m = c.number_names-left.ensures z in let t =
           c.put_template.ensures z m.0 m.1 in let g = kept_both y keep _ are leads _ _ _ _ _ _ _ refl c.if-mark-eq0.false m.0 (c.bits_at-entries.ensures.0 ∙ count_in y)
           t.1 in (put_same d.put g.0, g.1));

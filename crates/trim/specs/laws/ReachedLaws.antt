@@ -1,12 +1,11 @@
 -- The templates that are reached: one pass in order marks them, and those that a template names are above it. Assumes nothing.
-use Prim.Native.Nat.{ℕ, zero, suc, ◌+◌, ◌*◌, ◌/◌, ◌%◌, ◌^◌, ◌≤◌, ◌<◌}
-use Rattle.std.proofs.Common.{pow-suc, sym, ap₂, subst, ◌∙◌, length-set, get_or-set_same, shr-shr}
+use Prim.Native.Nat.{ℕ, zero, suc, ◌+◌, ◌/◌, ◌%◌, ◌^◌, ◌≤◌, ◌<◌}
+use Rattle.std.proofs.Common.{sym, subst, ◌∙◌, length-set, get_or-set_same, shr-shr}
 use native.Mathlib.Omega.{arith}
 use Rattle.std.proofs.Math.Path.{◌≡◌, refl, ap}
 use Rattle.std.specs.Prelude.{Bool, ◌&&◌, ◌||◌, set, replicate}
 use Rattle.std.proofs.Math.Bool.{true, false, cond, and-eq-true_iff}
 use mathlib.Core.List.{List, [], ◌∷◌}
-use Rattle.std.proofs.Math.Option.{Option, none, some}
 use Rattle.std.proofs.Math.Dec.{eqb}
 use Rattle.std.proofs.Math.ListN.{length, get_or}
 use Rattle.std.proofs.lemmas.List.{length-replicate}
@@ -20,7 +19,6 @@ use Rattle.files.specs.Tree.{Template}
 use Rattle.files.specs.laws.AllGot.{Each, each_weaker}
 use Rattle.files.specs.laws.TableLaws.{zeros_at}
 use Rattle.files.specs.Orphans.{is_template, closes}
-use Rattle.cells.specs.laws.Laws.{clash}
 use Rattle.lists.specs.Facts.{indices_close}
 use Rattle.lists.specs.Sets.{unite, has}
 use Rattle.lists.specs.laws.SetsLaws.{has_unite, has_one}

@@ -1,40 +1,39 @@
 -- Where the parts of a template stand, and the templates of a file one after the other. Assumes nothing.
-use Prim.Native.Nat.{ℕ, zero, suc, ◌+◌, ◌*◌, ◌-◌, ◌≤◌, ◌<◌}
-use Rattle.std.proofs.Common.{add-zero, arith, ◌∙◌, length-append}
+use Prim.Native.Nat.{ℕ, suc, ◌+◌, ◌*◌, ◌≤◌, ◌<◌}
+use Rattle.std.proofs.Common.{add-zero, arith, ◌∙◌}
 use Rattle.std.proofs.Math.Nat.{zero-add}
-use Rattle.std.specs.Prelude.{◌≡◌, refl, Bool, true, false, get_or}
+use Rattle.std.specs.Prelude.{◌≡◌, refl, true, get_or, Ok, Err}
 use Rattle.std.proofs.Math.Path.{sym, ap, subst}
 use mathlib.Core.List.{List, [], ◌∷◌, ◌++◌}
 use Rattle.std.proofs.Math.Option.{none}
 use Rattle.std.proofs.Math.ListN.{length}
 use Rattle.cells.specs.declared.BitPlace.{BitPlace}
 use Rattle.fields.specs.Field.{field_at}
-use Rattle.files.specs.Code.{Code, bits}
-use Rattle.files.specs.Reading.{Got, got, refused, list_at}
+use Rattle.files.specs.Code.{bits}
+use Rattle.files.specs.Reading.{got, list_at}
 use Rattle.files.specs.Grammar.{lowest, indexed_template, indices_fit}
 use Rattle.files.specs.Linear.{bits_of, entries_bits}
 use Rattle.files.specs.Tree.{Template, tree_read}
-use Rattle.files.specs.Table.{tree_table}
 use Rattle.files.specs.laws.AcceptedLaws.{checked, checked_read, lowest_none}
-use Rattle.files.specs.laws.AllGot.{Each, got_value, refused_got, field_got_lem, tree_read_lem}
+use Rattle.files.specs.laws.AllGot.{Each, field_got_lem, refused_got, tree_read_lem}
 use Rattle.files.specs.laws.TableLaws.{row_start, row_entry, tree_slot}
 use Rattle.lists.specs.declared.Facts.{Facts}
-use Rattle.lists.specs.declared.Listed.{Listed}
-use Rattle.lists.specs.declared.Listed.TheVariants.{Done, Refused}
-use Rattle.lists.specs.Facts.{facts_of, listed, indices_close, slots_close}
+use Rattle.lists.specs.Facts.{facts_of, listed, indices_close}
+use Rattle.lists.specs.laws.ReadLaws.{listed_refused}
 use Rattle.lists.specs.laws.SlotLaws.{Row, slots_close_lem}
-use Rattle.cells.specs.laws.Laws.{clash}
 use Rattle.readback.specs.Bits.{Stands}
 use Rattle.readback.specs.laws.Bits.{length_bits, stands_left, stands_right, field_stands}
 use Rattle.tree.specs.laws.Parts.{tree_parts}
 use Rattle.tree_file.specs.File.{list_bits, template_bits, templates_bits, file_bits, starts_at, placed, levels}
-use Rattle.tree_file.specs.laws.Lengths.{list_length, template_length}
+use Rattle.tree_file.specs.laws.Lengths.{template_length}
 use Rattle.tree_file.proofs.theorems.Canonical.{tree_known}
 use Rattle.tree_file.specs.laws.Writable.{TreeWritable}
 use Rattle.tree_file.proofs.theorems.Back.{list_back_lem}
 use Rattle.tree_file.proofs.theorems.Written.{tree_writable}
 use Rattle.trim.specs.declared.Span.{Span}
-use Rattle.trim.specs.Standing.{FileIn, TemplateIn, ListIn, span_of}
+use Rattle.trim.specs.Standing.{FileIn, TemplateIn, span_of}
+use Rattle.files.specs.Refusal.{refusal}
+use Rattle.files.specs.laws.RefusalLaws.{ok_first, ok_second}
 
 -- ---- one template
 module _ {s table : List ℕ} {own here : ℕ} (w : TemplateIn s table own here) where
@@ -73,24 +72,24 @@ module _ {s table : List ℕ} {own here : ℕ} (w : TemplateIn s table own here)
   made a p n b q m e f g = rw (e, f, g) refl
 
   module _ (start : ℕ) (at : start ≡ get_or table (256 * own) 0) where
-    listed_is : listed table own (list_at s 15 start) ≡ Done (record { 0 = x.start + bits x.code }) (facts_of table own x.code)
+    listed_is : listed table own (list_at s 15 start) ≡ Ok (record { 0 = x.start + bits x.code }, facts_of table own x.code)
     unfolding listed
     listed_is = ap (λ (p : ℕ). listed table own (list_at s 15 p)) (at ∙ w.slot) ∙ ap (listed table own) list_read
 
-    pub span_done : (past : BitPlace) (facts : Facts) → listed table own (list_at s 15 start) ≡ Done past facts
+    pub span_done : (past : BitPlace) (facts : Facts) → listed table own (list_at s 15 start) ≡ Ok (past, facts)
         → record { start = record { 0 = start }; past = past; closes = facts.closes } ≡ span_of x
     unfolding span_of facts_of
     span_done past facts e =
-        let d : Done past facts ≡ Done (record { 0 = x.start + bits x.code }) (facts_of table own x.code) = sym e ∙ listed_is in
-        let p : past ≡ record { 0 = x.start + bits x.code } = cc in
-        let f : facts ≡ facts_of table own x.code = cc in
+        let d : Ok (past, facts) ≡ Ok (record { 0 = x.start + bits x.code }, facts_of table own x.code) = sym e ∙ listed_is in
+        let p : past ≡ record { 0 = x.start + bits x.code } = ok_first d in
+        let f : facts ≡ facts_of table own x.code = ok_second d in
         let k : facts.closes ≡ indices_close x.entries x.code =
         ap (λ (y : Facts). y.closes) f ∙ slots_close_lem table own w.total x.entries w.row w.ok.entries_ok x.code w.ok.valid_code in
         made start past facts.closes _ _ _ (at ∙ w.slot) p k
 
-    pub span_refused : {A : Type 0} (n : ℕ) (place : BitPlace) → listed table own (list_at s 15 start) ≡ Refused n place → A
-    span_refused n place e = let d : Refused n place ≡ Done (record { 0 = x.start + bits x.code }) (facts_of table own x.code) =
-        sym e ∙ listed_is in clash (cc)
+    pub span_refused : {A : Type 0} (n : ℕ) (place : BitPlace) → listed table own (list_at s 15 start) ≡ Err (refusal n place) → A
+    span_refused n place e =
+        refused_got (sym (listed_refused table own (list_at s 15 start) n place e) ∙ (ap (list_at s 15) (at ∙ w.slot) ∙ list_read))
 
 -- ---- templates one after the other
 -- the templates rest of a file of T, of numbers own on, which stand at a place

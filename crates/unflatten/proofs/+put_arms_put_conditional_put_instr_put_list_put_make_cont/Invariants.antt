@@ -20,8 +20,8 @@ decreases-put_list l = 4 * l.levels + 3
 abbrev pub decreases-put_make_cont : goal.decreases-put_make_cont
 decreases-put_make_cont l = 4 * l.levels + 1
 
-abbrev pub invariant-put_list-loop-p : goal.invariant-put_list-loop-p
-invariant-put_list-loop-p l = Going (slot_named l.table l.own) l.s l.levels l.initial.p l.initial.e l.initial.k l.initial.here.0 l.initial.out l.p l.e l.k l.here.0 l.out
+abbrev pub invariant-put_list-loop-left : goal.invariant-put_list-loop-left
+invariant-put_list-loop-left l = Going (slot_named l.source.table.now l.source.own) l.source.file.now l.levels l.initial.left.from l.initial.left.to l.initial.left.closed l.initial.here.0 l.initial.out l.left.from l.left.to l.left.closed l.here.0 l.out
 
-abbrev pub decreases-put_list-loop-p : goal.decreases-put_list-loop-p
-decreases-put_list-loop-p l = l.e - l.p
+abbrev pub decreases-put_list-loop-left : goal.decreases-put_list-loop-left
+decreases-put_list-loop-left l = l.left.to - l.left.from

@@ -1,30 +1,42 @@
--- `unflatten::after` meets its contract. Assumes nothing.
-use Rattle.unflatten.specs.laws.HeadLaws.{shape_some, after_other}
+-- `unflatten::after` meets its contract: by the code's shape. Assumes nothing.
+use Rattle.unflatten.specs.laws.HeadLaws.{shape_few, after_without, branch_code, save_code}
+use Rattle.lists.specs.Shapes.{Numbered}
 use Rattle.back.specs.Unflat.{after}
-use Rattle.files.specs.Codes.{shape_of, operands}
 use native.Mathlib.Omega.{arith}
-use mathlib.Core.Path.{refl, sym}
-use Prim.Native.Nat.{◌-◌}
+use mathlib.Core.Path.{refl}
 use Rattle.unflatten.proofs.after.Goals as goal
 
-pub overflow_sub-result : goal.overflow_sub-result
-overflow_sub-result c = omega (arith, shape_some c.args.code (omega arith), c.shape.ensures)
-
-pub returns-in-0 : goal.returns-in-0
-unfolding after operands shape_of
-returns-in-0 c = rw c.in-0.is refl
-
-pub returns-in-3 : goal.returns-in-3
+pub returns-then-code-eq5 : goal.returns-then-code-eq5
 unfolding after
-returns-in-3 c = rw c.in-3.is refl
+returns-then-code-eq5 c = rw c.if-code-eq5.true refl
 
-pub returns-in-4 : goal.returns-in-4
-unfolding after
-returns-in-4 c = rw c.in-4.is refl
+pub returns-in-End : goal.returns-in-End
+unfolding Numbered
+returns-in-End c =
+    let shape = rw c.in-End.is at c.shape.ensures in
+    omega (arith, shape, after_without c.args.code c.if-code-eq5.false (λ e. omega (arith, shape)) (λ e. omega (arith, shape)))
 
-pub returns-in-5 : goal.returns-in-5
-unfolding after
-returns-in-5 c = rw c.in-5.is refl
+pub returns-in-Plain : goal.returns-in-Plain
+unfolding Numbered
+returns-in-Plain c =
+    let shape = rw c.in-Plain.is at c.shape.ensures in
+    omega (arith, shape, after_without c.args.code c.if-code-eq5.false (λ e. omega (arith, shape)) (λ e. omega (arith, shape)))
 
-pub returns-in_default : goal.returns-in_default
-returns-in_default c = rw c.shape.ensures (sym (after_other _ (λ z. omega arith) (λ z. omega arith) (λ z. omega arith)))
+pub returns-in-Branch : goal.returns-in-Branch
+unfolding Numbered after
+returns-in-Branch c = rw (branch_code _ (rw c.in-Branch.is at c.shape.ensures)) refl
+
+pub returns-in-Save : goal.returns-in-Save
+unfolding Numbered after
+returns-in-Save c = rw (save_code _ (rw c.in-Save.is at c.shape.ensures)) refl
+
+pub returns-in-NoCode : goal.returns-in-NoCode
+unfolding Numbered
+returns-in-NoCode c =
+    let shape = rw c.in-NoCode.is at c.shape.ensures in
+    omega (
+      arith,
+      shape,
+      shape_few c.args.code,
+      after_without c.args.code c.if-code-eq5.false (λ e. omega (arith, shape)) (λ e. omega (arith, shape)),
+    )

@@ -15,14 +15,6 @@ returns-then-to-p c =
     let h = c.requires in
     levelled _ _ _ _ _ _ c.if-levels-eq0.false (cond_far _ _ _ _ _ _ h.2 (omega arith) h.3 c.offset_at-n.ensures (omega (arith, c.if-to-p.true)))
 
-pub ends_in_jump-requires : goal.ends_in_jump-requires
-ends_in_jump-requires c = let h = c.requires in (h.0, omega arith, omega (arith, h.2, c.if-to-p.false))
-
-pub open_arms-requires : goal.open_arms-requires
-open_arms-requires c =
-    let h = c.requires in
-    (h.0, omega arith, omega (arith, c.if-to-p.false), h.2)
-
 pub returns-then-ends_in_jump : goal.returns-then-ends_in_jump
 returns-then-ends_in_jump c =
     let h = c.requires in

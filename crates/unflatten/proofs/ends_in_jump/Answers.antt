@@ -3,7 +3,6 @@ use Rattle.unflatten.specs.laws.HeadLaws.{after_low}
 use Rattle.unflatten.specs.laws.Regions.{scan_begun, scan_on, scan_end}
 use native.Mathlib.Omega.{arith}
 use mathlib.Core.Path.{refl, sym}
-use Prim.Native.Nat.{◌-◌}
 use Rattle.unflatten.proofs.ends_in_jump.Goals as goal
 
 pub loop-p-init : goal.loop-p-init

@@ -5,12 +5,12 @@ use mathlib.Core.Path.{◌∙◌}
 use Rattle.unflatten.proofs.passes.Goals as goal
 
 pub returns-then-code-le5 : goal.returns-then-code-le5
-returns-then-code-le5 c = passes_low (slot_named c.args.table.now c.args.own) c.args.s.now c.args.p c.args.n c.if-code-le5.true
+returns-then-code-le5 c = passes_low (slot_named c.args.source.now.table.now c.args.source.now.own) c.args.source.now.file.now c.args.p c.args.n c.if-code-le5.true
 
 pub returns-then-n-eq0 : goal.returns-then-n-eq0
-returns-then-n-eq0 c = c.slot_named.ensures ∙ passes_none (slot_named c.args.table.now c.args.own) c.args.s.now c.args.p c.args.n c.if-code-le5.false c.if-n-eq0.true
+returns-then-n-eq0 c = c.slot_named.ensures ∙ passes_none (slot_named c.args.source.now.table.now c.args.source.now.own) c.args.source.now.file.now c.args.p c.args.n c.if-code-le5.false c.if-n-eq0.true
 
 pub returns : goal.returns
 returns c =
     let h = c.requires in
-    c.slot_named-2.ensures ∙ passes_first (slot_named c.args.table.now c.args.own) c.args.s.now c.args.p c.args.n c.if-code-le5.false c.if-n-eq0.false h.3
+    c.slot_named-2.ensures ∙ passes_first (slot_named c.args.source.now.table.now c.args.source.now.own) c.args.source.now.file.now c.args.p c.args.n c.if-code-le5.false c.if-n-eq0.false h

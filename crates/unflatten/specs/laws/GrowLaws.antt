@@ -1,30 +1,30 @@
 -- Templates put one after the other: what was read of each, its row of the table, and what the answers mean. Assumes nothing.
-use Prim.Native.Nat.{ℕ, zero, suc, ◌+◌, ◌*◌, ◌-◌, ◌/◌, ◌%◌, ◌^◌, ◌≤◌, ◌<◌}
+use Prim.Native.Nat.{ℕ, zero, suc, ◌+◌, ◌*◌, ◌-◌, ◌/◌, ◌≤◌, ◌<◌}
 use native.Mathlib.Omega.{arith}
 use Rattle.std.proofs.Math.Path.{◌≡◌, refl, sym, ap}
-use Rattle.std.proofs.Common.{◌∙◌, subst, length-take, length-take-le}
-use Rattle.std.specs.Prelude.{Bool, false, cond, ◌&&◌, get_or, set, replicate, leb, eqb}
+use Rattle.std.proofs.Common.{◌∙◌, subst, length-take-le}
+use Rattle.std.specs.Prelude.{Bool, ◌&&◌, get_or, replicate, leb, eqb}
 use Rattle.std.proofs.Math.Bool.{true, and-eq-true_iff}
 use mathlib.Core.List.{List, [], ◌∷◌, ◌++◌, map, append_assoc, append-nil}
 use Rattle.std.proofs.Math.Option.{Option, none, some}
+use Rattle.std.proofs.lemmas.Option.{some_pair_parts}
+use Rattle.std.specs.Prelude.{Option as OrNone, None, Some, Result, Ok, Err}
+use Rattle.std.specs.Result.{result_ok}
+use Rattle.std.specs.Option.{ok_or}
 use borrow.Author.Tests.{le-leb, lt-leb, leb-true, eqb-true}
 use Rattle.std.proofs.Math.ListN.{length, take, drop, length-append}
 use Rattle.std.proofs.lemmas.List.{length-map}
 use Rattle.std.proofs.lemmas.List.Edits.{sets, sets-eq}
-use Rattle.std.proofs.Math.Seq.{get_or-append-add, get_or-drop, take-nil, paste, paste-suc, take-append_seam}
+use Rattle.std.proofs.Math.Seq.{get_or-append-add, get_or-drop, take-nil, take-append_seam}
 use Rattle.cells.specs.declared.BitPlace.{BitPlace}
 use Rattle.cells.specs.laws.Laws.{clash}
 use Rattle.fields.specs.Field.{field_at, field_read}
 use Rattle.fields.specs.laws.Laws.{field_small}
-use Rattle.fields.specs.declared.Field.{Field}
-use Rattle.fields.specs.declared.Field.TheVariants.{Read, Cut}
-use Rattle.files.specs.declared.Entries.{Entries}
-use Rattle.files.specs.declared.Entries.TheVariants.{Read as ReadEntries, Refused as RefusedEntries}
-use Rattle.files.specs.Code.{Code, bits}
+use Rattle.files.specs.Code.{Code}
 use Rattle.files.specs.Reading.{Got, got, refused}
 use Rattle.files.specs.Entries.{Entry, then, field, field_got, entries_at, to_byte, zero_bits, nothing_more}
 use Rattle.files.specs.laws.EntriesLaws.{EntriesOk, entries_read}
-use Rattle.files.specs.EntriesRead.{entries_told, slots_at}
+use Rattle.files.specs.EntriesRead.{past_told, slots_at}
 use Rattle.files.specs.laws.EntriesRead.{slots_all}
 use Rattle.files.specs.Table.{slot_of, row_of}
 use Rattle.files.specs.laws.TableLaws.{row_entry}
@@ -43,63 +43,63 @@ use Rattle.bit_writer.specs.Put.{put_bits}
 use Rattle.bit_writer.proofs.theorems.Laws.{put_next, put_length}
 use Rattle.tree_file.specs.File.{list_bits, template_bits, templates_bits, file_bits, tree_file}
 use Rattle.tree_file.proofs.theorems.Written.{file_length, put_tree}
-use Rattle.tree_file.specs.laws.Lengths.{list_length, template_length, template_are}
-use Rattle.linear.specs.declared.Checked.{Checked}
-use Rattle.linear.specs.declared.Checked.TheVariants.{Accepted, Refused as RefusedFile}
+use Rattle.tree_file.specs.laws.Lengths.{template_length, template_are}
 use Rattle.linear.specs.Filled.{checked_told}
 use Rattle.lists.specs.Facts.{slot_named, slots_fit}
 use Rattle.lists.specs.laws.SlotLaws.{Row, slots_named}
 use Rattle.back.specs.Unflat.{on, test}
 use Rattle.back.specs.laws.ListBack.{back, list_back}
 use Rattle.back.proofs.theorems.Lists.{flat_back}
-use Rattle.unflatten.specs.declared.Found.{Found}
-use Rattle.unflatten.specs.declared.Found.TheVariants.{Nothing, Past}
-use Rattle.unflatten.specs.declared.Grown.{Grown}
-use Rattle.unflatten.specs.declared.Grown.TheVariants.{Stuck, On}
-use Rattle.unflatten.specs.declared.Sized.{Sized}
-use Rattle.unflatten.specs.declared.Sized.TheVariants.{Stuck as StuckAt, Past as PastAll}
-use Rattle.files.specs.declared.Outcome.TheVariants.{Written as WrittenTree, Refused as RefusedTree}
 use Rattle.unflatten.specs.Found.{part, kept, found}
-use Rattle.unflatten.specs.laws.Regions.{part_length}
 use Rattle.unflatten.specs.ToPut.{Puts}
 use Rattle.unflatten.specs.laws.PutLaws.{puts_none, puts_some}
 use Rattle.unflatten.specs.Back.{or_stuck, template_of, templates_back, given, backed}
-use Rattle.files.specs.Outcome.{into_bytes, answered, written}
-use Rattle.cells.specs.Numbers.{no_tree}
+use Rattle.files.specs.Outcome.{answered, written}
 use Rattle.unflatten.specs.ToGrow.{CodeIn, Grows, no_list, list_grown, TemplateIn, TemplateGrows, no_template_lem, template_grown}
 use Rattle.unflatten.specs.ToGrow.{TemplatesIn, TemplatesGrow, stuck_at, templates_grown, Growing, FileIn}
+use Rattle.files.specs.declared.Refusal.{Refusal}
+use Rattle.files.specs.Refusal.{refusal}
 
 -- ---- what readers tell of what is read
-module _ (s : List ℕ) (p w : ℕ) {n z : ℕ} (read : field s p w ≡ got n z) {f : Field} (told : f ≡ field_read s p w) where
-  pub told_cut : f ≡ Cut → ⊥
+module _ (s : List ℕ) (p w : ℕ) {n z : ℕ} (read : field s p w ≡ got n z) {f : OrNone (ℕ × BitPlace)} (told : f ≡ field_read s p w) where
+  pub told_cut : f ≡ None → ⊥
   unfolding field field_got
-  told_cut e = let i : field_got p Cut ≡ got n z = ap (field_got p) (sym e ∙ told) ∙ read in clash (cc)
+  told_cut e = let i : field_got p None ≡ got n z = ap (field_got p) (sym e ∙ told) ∙ read in clash (cc)
 
-  pub told_read : {v : ℕ} {q : BitPlace} → f ≡ Read v q → v ≡ n
+  pub told_read : {v : ℕ} {q : BitPlace} → f ≡ Some (v, q) → v ≡ n
   unfolding field field_got
-  told_read {v} {q} e = let i : field_got p (Read v q) ≡ got n z = ap (field_got p) (sym e ∙ told) ∙ read in (got_value i).0
+  told_read {v} {q} e = let i : field_got p (Some (v, q)) ≡ got n z = ap (field_got p) (sym e ∙ told) ∙ read in (got_value i).0
 
-module _ {g : Got (List Entry)} {es : List Entry} {z : ℕ} (read : g ≡ got es z) {f : Entries} (told : f ≡ entries_told g) where
-  pub entries_refused : {n : ℕ} {q : BitPlace} → f ≡ RefusedEntries n q → ⊥
-  unfolding entries_told
-  entries_refused {n} {q} e = let i : entries_told (got es z) ≡ RefusedEntries n q = ap entries_told (sym read) ∙ sym told ∙ e in clash (cc)
+module _ {g : Got (List Entry)} {es : List Entry} {z : ℕ} (read : g ≡ got es z) {f : Result BitPlace (Refusal BitPlace)} (told : f ≡ past_told g) where
+  pub entries_refused : result_ok f ≡ None → ⊥
+  unfolding past_told
+  entries_refused e =
+      let i : result_ok (past_told (got es z)) ≡ None =
+      ap (λ (x : Got (List Entry)). result_ok (past_told x)) (sym read) ∙ ap result_ok (sym told) ∙ e in
+      clash (cc)
 
-  pub entries_told_lem : {q : BitPlace} → f ≡ ReadEntries q → q.0 ≡ z
-  unfolding entries_told
+  pub entries_told_lem : {q : BitPlace} → result_ok f ≡ Some q → q.0 ≡ z
+  unfolding past_told
   entries_told_lem {q} e =
-      let i : entries_told (got es z) ≡ ReadEntries q = ap entries_told (sym read) ∙ sym told ∙ e in
+      let i : result_ok (past_told (got es z)) ≡ Some q =
+      ap (λ (x : Got (List Entry)). result_ok (past_told x)) (sym read) ∙ ap result_ok (sym told) ∙ e in
       let k : ◌≡◌ {A = BitPlace} (record { 0 = z }) q = cc in
       sym (ap (λ (x : BitPlace). x.0) k)
 
+-- ---- what is refused because nothing is there
+pub refused_where : {A E : Type 0} (r : OrNone A) {m : Result A E} {e f : E} → m ≡ ok_or r e → m ≡ Err f → (r ≡ None) × (f ≡ e)
+refused_where None {m} {e} {f} h i = let z : Err f ≡ ok_or None e = sym i ∙ h in (refl, cc)
+refused_where (Some x) {m} {e} {f} h i = let z : Err f ≡ ok_or (Some x) e = sym i ∙ h in clash (cc)
+
 -- ---- the code
 module _ (ok : ℕ → ℕ → Bool) (s : List ℕ) (size n m : ℕ) (o : List ℕ) (a : ℕ) (same : m ≡ n) where
-  abbrev Putting : Found → List ℕ → Type 0
+  abbrev Putting : OrNone BitPlace → List ℕ → Type 0
   Putting r o' = Puts (size + 3 + m - (size + 3)) o a (found ok 15 true (part (size + 3) (size + 3 + m) s)) r o'
 
-  pub grows_none : {r : Found} {o' : List ℕ} → Putting r o' → r ≡ Nothing → Grows ok s size n o a Stuck o'
+  pub grows_none : {r : OrNone BitPlace} {o' : List ℕ} → Putting r o' → r ≡ None → Grows ok s size n o a None o'
   grows_none p e = no_list (rw (← same) (puts_none p e))
 
-  pub grows_on : {r : Found} {o' : List ℕ} {q : BitPlace} → Putting r o' → r ≡ Past q → Grows ok s size n o a (On (size + 3 + m) q) o'
+  pub grows_on : {r : OrNone BitPlace} {o' : List ℕ} {q : BitPlace} → Putting r o' → r ≡ Some q → Grows ok s size n o a (Some (size + 3 + m, q)) o'
   grows_on {o' = o'} {q = q} p e =
       let w = puts_some p e in
       rw same (list_grown w.code {a' = q.0} (rw (← same) w.is) (omega (arith, w.small)) w.past w.out)
@@ -252,7 +252,7 @@ module _ (s table o : List ℕ) (own T k a : ℕ) (long : length table ≡ 16384
         found_by_entries table' own T w.linear.entries _ (part_bytes s _ _ w.bytes) row parts.entries_ok
         ∙ ap (list_back w.linear.entries) (sym parts.code_is)
 
-    template_grows : {o₁ o₂ : List ℕ} {q₁ : BitPlace} {r : Grown} → o₁ ≡ put_bits o a (bits_from s (8 * k) (parts.end - 8 * k))
+    template_grows : {o₁ o₂ : List ℕ} {q₁ : BitPlace} {r : OrNone (ℕ × BitPlace)} → o₁ ≡ put_bits o a (bits_from s (8 * k) (parts.end - 8 * k))
         → q₁.0 ≡ a + (parts.end - 8 * k)
         → Grows (slot_named table' own) s ((parts.end + 7) / 8) parts.long o₁ q₁.0 r o₂ → TemplateGrows w.linear k w.past o a r o₂
     unfolding template_bits
@@ -269,14 +269,15 @@ module _ (s table o : List ℕ) (own T k a : ℕ) (long : length table ≡ 16384
         ∙ ap (put_bits o a) (ap (λ (u : List ℕ). u ++ list_bits c) parts.copied ∙ append_assoc (bits_of 8 (length es)) (entries_bits es) (list_bits c)))
 
   -- by what the readers told: n is E and q where the entries begin, f what was told of them
-  module _ {n q : ℕ} {f : Entries} (count : n ≡ field_at s (8 * k) 8) (at : q ≡ 8 * k + 8) (told : f ≡ entries_told (entries_at s own T n q)) where
-    told_here : f ≡ entries_told (entries_at s own T (field_at s (8 * k) 8) (8 * k + 8))
+  module _ {n q : ℕ} {f : Result BitPlace (Refusal BitPlace)} (count : n ≡ field_at s (8 * k) 8) (at : q ≡ 8 * k + 8)
+      (told : f ≡ past_told (entries_at s own T n q)) where
+    told_here : f ≡ past_told (entries_at s own T (field_at s (8 * k) 8) (8 * k + 8))
     told_here = told ∙ rw (count, at) refl
 
-    pub not_refused : {m : ℕ} {z : BitPlace} → f ≡ RefusedEntries m z → ⊥
+    pub not_refused : result_ok f ≡ None → ⊥
     not_refused e = entries_refused parts.entries_at_lem told_here e
 
-    module _ {z : BitPlace} (read : f ≡ ReadEntries z) where
+    module _ {z : BitPlace} (read : result_ok f ≡ Some z) where
       pub ends_at : z.0 ≡ parts.end
       ends_at = entries_told_lem parts.entries_at_lem told_here read
 
@@ -291,8 +292,9 @@ module _ (s table o : List ℕ) (own T k a : ℕ) (long : length table ≡ 16384
             room = omega (arith, ends_at, parts.past_is, w.room, parts.end_is);
           }
 
-      pub template_put : {table' o₁ o₂ : List ℕ} {q₁ : BitPlace} {m size : ℕ} {r : Grown} → table' ≡ sets table (256 * own + 1) (slots_at s own T n q)
-          → m ≡ z.0 - 8 * k → o₁ ≡ put_bits o a (bits_from s (8 * k) m) → q₁.0 ≡ a + m → size ≡ (z.0 + 7) / 8
+      pub template_put : {table' o₁ o₂ : List ℕ} {q₁ : BitPlace} {m size : ℕ} {r : OrNone (ℕ × BitPlace)}
+          → table' ≡ sets table (256 * own + 1) (slots_at s own T n q) → m ≡ z.0 - 8 * k
+          → o₁ ≡ put_bits o a (bits_from s (8 * k) m) → q₁.0 ≡ a + m → size ≡ (z.0 + 7) / 8
           → ((n q : ℕ) → field s (8 * size) 24 ≡ got n q → Grows (slot_named table' own) s size n o₁ q₁.0 r o₂)
           → TemplateGrows w.linear k w.past o a r o₂
       template_put {table'} {o₁} {o₂} {q₁} {m} {size} {r} filled l e g i h =
@@ -359,14 +361,14 @@ module _ (s table₀ o₀ : List ℕ) (own₀ T byte₀ a₀ : ℕ) where
       }
 
   module _ (table o : List ℕ) (own byte a : ℕ) (g : Growing s table₀ o₀ own₀ T byte₀ a₀ table o own byte a) where
-    pub growing_end : {q : BitPlace} → T ≤ own → q.0 ≡ a → (w : TemplatesIn s table₀ o₀ own₀ T byte₀ a₀) → TemplatesGrow own₀ w.linears o₀ a₀ (PastAll q) o
+    pub growing_end : {q : BitPlace} → T ≤ own → q.0 ≡ a → (w : TemplatesIn s table₀ o₀ own₀ T byte₀ a₀) → TemplatesGrow own₀ w.linears o₀ a₀ (Ok q) o
     unfolding linear_templates_at templates_back templates_bits
     growing_end {q} h at w =
         let e : T - own ≡ 0 = omega arith in
         let v = got_value (rw e at g.now.read) in
         let z : [] ≡ g.now.linears = v.0 in
         let last : 8 * byte ≡ g.now.past = v.1 in
-        g.rest w (PastAll q) o (rw (← z) (templates_grown [] {m = own} {a' = q.0} refl (omega arith) (omega (arith, g.now.room, last)) g.now.settled))
+        g.rest w (Ok q) o (rw (← z) (templates_grown [] {m = own} {a' = q.0} refl (omega arith) (omega (arith, g.now.room, last)) g.now.settled))
 
     module _ (lt : own < T) (few : T ≤ 64) where
       abbrev here : This s table o own T byte a g.now
@@ -381,16 +383,16 @@ module _ (s table₀ o₀ : List ℕ) (own₀ T byte₀ a₀ : ℕ) where
       unfolding templates_back
       back_one = ap (templates_back own) here.are
 
-      pub growing_stuck : {r : Grown} {o' : List ℕ} → TemplateGrows this_one.linear byte this_one.past o a r o' → r ≡ Stuck
-          → (w : TemplatesIn s table₀ o₀ own₀ T byte₀ a₀) → TemplatesGrow own₀ w.linears o₀ a₀ (StuckAt own) o'
+      pub growing_stuck : {r : OrNone (ℕ × BitPlace)} {o' : List ℕ} → TemplateGrows this_one.linear byte this_one.past o a r o' → r ≡ None
+          → (w : TemplatesIn s table₀ o₀ own₀ T byte₀ a₀) → TemplatesGrow own₀ w.linears o₀ a₀ (Err (refusal 32 own)) o'
       unfolding or_stuck
-      growing_stuck {o' = o'} (no_template_lem h) e w = g.rest w (StuckAt own) o' (stuck_at own (back_one ∙ rw h refl))
+      growing_stuck {o' = o'} (no_template_lem h) e w = g.rest w (Err (refusal 32 own)) o' (stuck_at own (back_one ∙ rw h refl))
       growing_stuck (template_grown c h p s f i) e w = clash (cc)
 
       -- one template before those that follow it
       grown_on : (c : Code) (o₁ : List ℕ) (a₁ : ℕ) → list_back this_one.linear.entries this_one.linear.code ≡ some c
           → a₁ ≡ a + length (template_bits (template_of this_one.linear c)) → o₁ ≡ put_bits o a (template_bits (template_of this_one.linear c))
-          → a + length (template_bits (template_of this_one.linear c)) ≤ 8 * length o → (r : Sized) (o₂ : List ℕ)
+          → a + length (template_bits (template_of this_one.linear c)) ≤ 8 * length o → (r : Result BitPlace (Refusal ℕ)) (o₂ : List ℕ)
           → TemplatesGrow (own + 1) here.others o₁ a₁ r o₂
           → TemplatesGrow own g.now.linears o a r o₂
       unfolding or_stuck then templates_bits
@@ -401,15 +403,15 @@ module _ (s table₀ o₀ : List ℕ) (own₀ T byte₀ a₀ : ℕ) where
           (omega (arith, length-append u (templates_bits ts))) (omega (arith, ap length j ∙ put_length o a u))
           (put_next o o₁ o₂ a a₁ u (templates_bits ts) (template_are (template_of this_one.linear c)) k j i out)
 
-      pub growing_on : {r : Grown} {table' o' : List ℕ} {b : ℕ} {q : BitPlace} → TemplateGrows this_one.linear byte this_one.past o a r o' → r ≡ On b q
+      pub growing_on : {r : OrNone (ℕ × BitPlace)} {table' o' : List ℕ} {b : ℕ} {q : BitPlace}
+          → TemplateGrows this_one.linear byte this_one.past o a r o' → r ≡ Some (b, q)
           → ((i : ℕ) → 256 * (own + 1) ≤ i → get_or table' i 0 ≡ 0) → length table' ≡ length table → length o' ≡ length o
           → Growing s table₀ o₀ own₀ T byte₀ a₀ table' o' (own + 1) b q.0
       growing_on (no_template_lem h) e z x y = clash (cc)
       growing_on {table' = table'} {o' = o'} {b = b} {q = q} (template_grown c {b = b₁} {a' = a₁} h p m f i) e z x y =
-          let e₁ : b₁ ≡ b = cc in
-          let e₂ : ◌≡◌ {A = BitPlace} (record { 0 = a₁ }) q = cc in
-          let at : a₁ ≡ q.0 = ap (λ (x : BitPlace). x.0) e₂ in
-          let past : this_one.past ≡ 8 * b = p ∙ rw e₁ refl in
+          let same = some_pair_parts b₁ b (record { 0 = a₁ }) q e in
+          let at : a₁ ≡ q.0 = ap (λ (x : BitPlace). x.0) same.1 in
+          let past : this_one.past ≡ 8 * b = p ∙ rw same.0 refl in
           record {
             low = omega arith;
             rows = x ∙ g.rows;
@@ -433,21 +435,19 @@ module _ (tree o : List ℕ) (n : ℕ) (here : n ≤ length tree) where
   long_take : length (take n tree) ≡ n
   long_take = length-take-le n tree here
 
-  pub give_long : 65536 < n → (RefusedTree 32 0 ≡ answered (given (take n tree) (length o))) × (o ≡ written o (given (take n tree) (length o)))
+  pub give_long : 65536 < n → (Err (refusal 32 0) ≡ answered (given (take n tree) (length o))) × (o ≡ written o (given (take n tree) (length o)))
   unfolding given answered written
   give_long h = rw (long_take, lt-leb n 65536 h) (refl, refl)
 
   module _ (low : n ≤ 65536) where
-    pub give_short : length o < n → (RefusedTree 9 n ≡ answered (given (take n tree) (length o))) × (o ≡ written o (given (take n tree) (length o)))
+    pub give_short : length o < n → (Err (refusal 9 n) ≡ answered (given (take n tree) (length o))) × (o ≡ written o (given (take n tree) (length o)))
     unfolding given answered written
     give_short h = rw (long_take, le-leb n 65536 low, lt-leb n (length o) h) (refl, refl)
 
-    pub give_all : {o' : List ℕ} → n ≤ length o → o' ≡ paste o 0 tree n
-        → (WrittenTree n ≡ answered (given (take n tree) (length o))) × (o' ≡ written o (given (take n tree) (length o)))
+    pub give_all : {o' : List ℕ} → n ≤ length o → o' ≡ take n tree ++ drop n o
+        → (Ok n ≡ answered (given (take n tree) (length o))) × (o' ≡ written o (given (take n tree) (length o)))
     unfolding given answered written
-    give_all h e =
-        let z : 0 + n ≡ n = omega arith in
-        rw (long_take, le-leb n 65536 low, le-leb n (length o) h) (ap WrittenTree (sym long_take), e ∙ rw (z, long_take) refl)
+    give_all h e = rw (long_take, le-leb n 65536 low, le-leb n (length o) h) (ap Ok (sym long_take), e ∙ rw long_take refl)
 
 -- ---- the file
 pub bytes_all : (s : List ℕ) → ((i : ℕ) → get_or s i 0 < 256) → Bytes s
@@ -493,14 +493,6 @@ pub slots_same : (s : List ℕ) (own T k n q : ℕ) (table table' : List ℕ) �
     → table' ≡ sets table (256 * own + 1) (slots_at s own T n q) → table' ≡ sets table (256 * own + 1) (slots_at s own T (field_at s (8 * k) 8) (8 * k + 8))
 slots_same s own T k n q table table' e f g = g ∙ rw (e, f) refl
 
-pub copy_on : (tree o o' : List ℕ) (i : ℕ) → o' ≡ paste o 0 tree i → i < length o → i < length tree → set o' i (get_or tree i 0) ≡ paste o 0 tree (i + 1)
-copy_on tree o o' i e h k =
-    let z : 0 + i ≡ i = omega arith in
-    let y : suc i ≡ i + 1 = omega arith in
-    ap (λ (l : List ℕ). set l i (get_or tree i 0)) e ∙ ap (λ (j : ℕ). set (paste o 0 tree i) j (get_or tree i 0)) (sym z)
-    ∙ paste-suc o 0 tree i 0 (omega arith) k
-    ∙ ap (paste o 0 tree) y
-
 pub back_length : (n : ℕ) (ls : List Linear) {ts : List Template} {m : ℕ} → templates_back n ls ≡ got ts m → length ts ≡ length ls
 unfolding templates_back or_stuck
 back_length n [] e = sym (ap length (got_value e).0)
@@ -530,14 +522,14 @@ module _ (s : List ℕ) (w : FileIn s) where
         settled = settled_after tree₀ tree 0 a (bits_of 8 T) (bits_are 8 T) (omega (arith, length_bits 8 T)) p (omega (arith, length_bits 8 T));
       }
 
-  module _ {o tree : List ℕ} {a : ℕ} {r : Sized} (grown : TemplatesGrow 0 w.linears o a r tree) (m : ℕ) (out : List ℕ) where
-    pub back_stuck : {t : ℕ} → r ≡ StuckAt t → (RefusedTree 32 t ≡ answered (backed s m)) × (out ≡ written out (backed s m))
+  module _ {o tree : List ℕ} {a : ℕ} {r : Result BitPlace (Refusal ℕ)} (grown : TemplatesGrow 0 w.linears o a r tree) (m : ℕ) (out : List ℕ) where
+    pub back_stuck : {t : Refusal ℕ} → r ≡ Err t → (Err t ≡ answered (backed s m)) × (out ≡ written out (backed s m))
     unfolding backed then answered written
     back_stuck {t} e = go grown e
       where
-        go : {r : Sized} → TemplatesGrow 0 w.linears o a r tree → r ≡ StuckAt t
-            → (RefusedTree 32 t ≡ answered (backed s m)) × (out ≡ written out (backed s m))
-        go (stuck_at u f) e = let z : u ≡ t = cc in rw (w.read, f, z) (refl, refl)
+        go : {r : Result BitPlace (Refusal ℕ)} → TemplatesGrow 0 w.linears o a r tree → r ≡ Err t
+            → (Err t ≡ answered (backed s m)) × (out ≡ written out (backed s m))
+        go (stuck_at u f) e = let z : refusal 32 u ≡ t = cc in rw (w.read, f) (ap Err (sym z), refl)
         go (templates_grown ts f i j k) e = clash (cc)
 
     pub record Given (q : BitPlace) : Type 0 where
@@ -545,11 +537,11 @@ module _ (s : List ℕ) (w : FileIn s) where
       pub is : (n : ℕ) → n ≡ (q.0 + 7) / 8 → (T : ℕ) (tree₀ : List ℕ) → T ≡ field_at s 0 8 → o ≡ put_bits tree₀ 0 (bits_of 8 T) → a ≡ 0 + 8
           → backed s m ≡ given (take n tree) m
 
-    pub back_given : {q : BitPlace} → r ≡ PastAll q → Given q
+    pub back_given : {q : BitPlace} → r ≡ Ok q → Given q
     unfolding backed then file_bits
     back_given {q} e = go grown e
       where
-        go : {r : Sized} → TemplatesGrow 0 w.linears o a r tree → r ≡ PastAll q → Given q
+        go : {r : Result BitPlace (Refusal ℕ)} → TemplatesGrow 0 w.linears o a r tree → r ≡ Ok q → Given q
         go (stuck_at u f) e = clash (cc)
         go (templates_grown ts {m = j} {a' = a₁} f at near put) e =
             let z : ◌≡◌ {A = BitPlace} (record { 0 = a₁ }) q = cc in
@@ -574,23 +566,22 @@ module _ (s : List ℕ) (w : FileIn s) where
             }
 
 -- what is checked
-pub accepted_file : (s : List ℕ) {x : Checked} → x ≡ checked_told (linear_read s) → x ≡ Accepted → FileIn s
+pub accepted_file : (s : List ℕ) {x : Result Unit (Refusal ℕ)} {u : Unit} → x ≡ checked_told (linear_read s) → x ≡ Ok u → FileIn s
 unfolding checked_told
-accepted_file s {x} e f = go (linear_read s) refl
+accepted_file s {x} {u} e f = go (linear_read s) refl
   where
     go : (g : Got (List Linear)) → linear_read s ≡ g → FileIn s
     go (got ls q) h = record { linears = ls; past = q; read = h }
-    go (refused n p) h = let z : Accepted ≡ checked_told (refused n p) = sym f ∙ e ∙ ap checked_told h in clash (cc)
+    go (refused n p) h = let z : Ok u ≡ checked_told (refused n p) = sym f ∙ e ∙ ap checked_told h in clash (cc)
 
-pub refused_file : (s : List ℕ) {x : Checked} {n p : ℕ} → x ≡ checked_told (linear_read s) → x ≡ RefusedFile n p → (m : ℕ) (o : List ℕ)
-    → (RefusedTree n p ≡ answered (backed s m)) × (o ≡ written o (backed s m))
+pub refused_file : (s : List ℕ) {x : Result Unit (Refusal ℕ)} {n : Refusal ℕ} → x ≡ checked_told (linear_read s) → x ≡ Err n → (m : ℕ) (o : List ℕ)
+    → (Err n ≡ answered (backed s m)) × (o ≡ written o (backed s m))
 unfolding checked_told backed then answered written
-refused_file s {x} {n} {p} e f m o = go (linear_read s) refl
+refused_file s {x} {n} e f m o = go (linear_read s) refl
   where
-    go : (g : Got (List Linear)) → linear_read s ≡ g → (RefusedTree n p ≡ answered (backed s m)) × (o ≡ written o (backed s m))
-    go (got ls q) h = let z : RefusedFile n p ≡ checked_told (got ls q) = sym f ∙ e ∙ ap checked_told h in clash (cc)
+    go : (g : Got (List Linear)) → linear_read s ≡ g → (Err n ≡ answered (backed s m)) × (o ≡ written o (backed s m))
+    go (got ls q) h = let z : Err n ≡ checked_told (got ls q) = sym f ∙ e ∙ ap checked_told h in clash (cc)
     go (refused a b) h =
-        let z : RefusedFile n p ≡ RefusedFile a b = sym f ∙ e ∙ ap checked_told h in
-        let i : n ≡ a = cc in
-        let j : p ≡ b = cc in
-        rw (h, i, j) (refl, refl)
+        let z : Err n ≡ checked_told (refused a b) = sym f ∙ e ∙ ap checked_told h in
+        let i : n ≡ refusal a b = cc in
+        rw h (ap Err i, refl)

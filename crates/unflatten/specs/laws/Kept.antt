@@ -1,15 +1,15 @@
 -- What is found in a region, by its first instruction and by what its lists and its rest are found to be. Assumes nothing.
 use Prim.Native.Nat.{ℕ, zero, suc, ◌+◌, ◌*◌, ◌-◌, ◌≤◌, ◌<◌}
 use native.Mathlib.Omega.{arith}
-use Rattle.std.specs.Prelude.{◌≡◌, Bool, ◌&&◌, ◌||◌, length, get_or, take, drop, leb}
+use Rattle.std.specs.Prelude.{◌≡◌, Bool, ◌&&◌, length, get_or, take, drop}
 use Rattle.std.proofs.Math.Path.{refl}
-use Rattle.std.proofs.Common.{sym, ap, ◌∙◌}
+use Rattle.std.proofs.Common.{ap, ◌∙◌}
 use Rattle.std.proofs.Math.Bool.{true, false}
 use mathlib.Core.List.{List, [], ◌∷◌}
 use Rattle.std.proofs.Math.Option.{Option, none, some}
 use borrow.Author.Tests.{le-leb, lt-leb}
 use Rattle.files.specs.Codes.{is_neutral, operands}
-use Rattle.files.specs.Code.{Code, done, neutral, return, call, unless_false, make_cont, Instr, neutral_i, return_i, call_i, unless_i, cont_i, put, simple}
+use Rattle.files.specs.Code.{Code, done, neutral, unless_false, make_cont, neutral_i, unless_i, cont_i, put, simple}
 use Rattle.files.specs.Grammar.{each_neutral}
 use Rattle.back.specs.Unflat.{ends_in_jump, last_offset, before_jump, on, test, neutral_back, open_arms, closed_arms, arms_back, unless_back, cont_back}
 use Rattle.back.specs.Unflat.{end_back}

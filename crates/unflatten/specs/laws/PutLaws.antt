@@ -5,8 +5,10 @@ use Rattle.std.specs.Prelude.{◌≡◌, Bool, cond, not, ◌&&◌, get_or, leb,
 use Rattle.std.proofs.Math.Path.{refl, sym, ap}
 use Rattle.std.proofs.Common.{◌∙◌, subst, length-append}
 use Rattle.std.proofs.Math.Bool.{true, false}
-use mathlib.Core.List.{List, [], ◌∷◌, ◌++◌, append-nil, append_assoc}
+use mathlib.Core.List.{List, [], ◌∷◌, ◌++◌, append-nil}
 use Rattle.std.proofs.Math.Option.{Option, none, some}
+use Rattle.std.proofs.lemmas.Option.{some_pair_parts}
+use Rattle.std.specs.Prelude.{Option as OrNone, None, Some}
 use borrow.Author.Tests.{le-leb, lt-leb, eqb-true}
 use Rattle.std.proofs.Math.ListN.{length}
 use Rattle.cells.specs.declared.BitPlace.{BitPlace}
@@ -26,13 +28,9 @@ use Rattle.tree_file.specs.laws.Lengths.{operands_length, list_length, list_are,
 use Rattle.tree_file.specs.laws.Lengths.{list_put as list_bits_put}
 use Rattle.back.specs.Unflat.{on, test}
 use Rattle.unflatten.specs.declared.Arms.{Arms}
-use Rattle.unflatten.specs.declared.Left.{Left}
+use Rattle.unflatten.specs.declared.Region.{Region}
 use Rattle.unflatten.specs.declared.Head.{Head}
-use Rattle.unflatten.specs.declared.Head.TheVariants.{Nothing as NoHead, Plain, Split, Save}
-use Rattle.unflatten.specs.declared.Found.{Found}
-use Rattle.unflatten.specs.declared.Found.TheVariants.{Nothing, Past}
-use Rattle.unflatten.specs.declared.Item.{Item}
-use Rattle.unflatten.specs.declared.Item.TheVariants.{Nothing as NoItem, More}
+use Rattle.unflatten.specs.declared.Head.TheVariants.{Plain, Split, Save}
 use Rattle.unflatten.specs.Found.{part, found}
 use Rattle.unflatten.specs.Heads.{plain_passes, plain_item, head_item, head_rest, head_found, left_found, HeadIs}
 use Rattle.unflatten.specs.laws.Regions.{part_empty, part_cons, part_length}
@@ -105,7 +103,7 @@ operands_from s p (suc n) h =
     (ap (λ (u : List ℕ). u ++ operands_bits (part (p + 1) (p + 1 + n) s)) (byte_bits s p))
 
 -- ---- what the answers mean
-pub puts_none : {n a : ℕ} {o o' : List ℕ} {x : Option Code} {r : Found} → Puts n o a x r o' → r ≡ Nothing → x ≡ none
+pub puts_none : {n a : ℕ} {o o' : List ℕ} {x : Option Code} {r : OrNone BitPlace} → Puts n o a x r o' → r ≡ None → x ≡ none
 puts_none none_put e = refl
 puts_none (list_put b f g) e = clash (cc)
 
@@ -116,17 +114,17 @@ pub record PutSome (n a : ℕ) (o o' : List ℕ) (x : Option Code) (q : BitPlace
   pub past : q.0 ≡ a + bits code
   pub out : o' ≡ put_bits o a (list_bits code)
 
-pub puts_some : {n a : ℕ} {o o' : List ℕ} {x : Option Code} {r : Found} {q : BitPlace} → Puts n o a x r o' → r ≡ Past q → PutSome n a o o' x q
+pub puts_some : {n a : ℕ} {o o' : List ℕ} {x : Option Code} {r : OrNone BitPlace} {q : BitPlace} → Puts n o a x r o' → r ≡ Some q → PutSome n a o o' x q
 puts_some none_put e = clash (cc)
 puts_some {q = q} (list_put {c = c} {a' = a'} b f g) e =
     let z : ◌≡◌ {A = BitPlace} (record { 0 = a' }) q = cc in
     record { code = c; is = refl; small = b; past = sym (ap (λ (x : BitPlace). x.0) z) ∙ f; out = g }
 
 -- ---- two lists
-pub two_first : {n a : ℕ} {o o' : List ℕ} {x y : Option Code} → x ≡ none → TwoPut n o a x y Nothing o'
+pub two_first : {n a : ℕ} {o o' : List ℕ} {x y : Option Code} → x ≡ none → TwoPut n o a x y None o'
 two_first e = rw e no_first
 
-pub two_from : (m n : ℕ) {a : ℕ} {o o₁ o₂ : List ℕ} {x y : Option Code} {q : BitPlace} {r : Found} → a + 8 * m + 5 ≤ 8 * length o
+pub two_from : (m n : ℕ) {a : ℕ} {o o₁ o₂ : List ℕ} {x y : Option Code} {q : BitPlace} {r : OrNone BitPlace} → a + 8 * m + 5 ≤ 8 * length o
     → PutSome m a o o₁ x q → Puts n o₁ q.0 y r o₂ → TwoPut (m + n) o a x y r o₂
 two_from m n h p none_put = no_second
 two_from m n {a} {o} {o₁} {o₂} h p (list_put {c = c} {a' = a₂} b f g) =
@@ -139,7 +137,7 @@ two_from m n {a} {o} {o₁} {o₂} h p (list_put {c = c} {a' = a₂} b f g) =
 -- an instruction put before what the rest is
 module _ (n m a : ℕ) (o o₁ : List ℕ) (i : Instr) (a₁ : ℕ) (at : a₁ ≡ a + bits_i i) (is : o₁ ≡ put_bits o a (instr_bits i)) (small : bits_i i + 8 * m ≤ 8 * n)
     (room : a + 8 * n + 5 ≤ 8 * length o) where
-  puts_on : {x : Option Code} {r : Found} {o₂ : List ℕ} → Puts m o₁ a₁ x r o₂ → Puts n o a (on x (λ c. some (put i c))) r o₂
+  puts_on : {x : Option Code} {r : OrNone BitPlace} {o₂ : List ℕ} → Puts m o₁ a₁ x r o₂ → Puts n o a (on x (λ c. some (put i c))) r o₂
   unfolding on
   puts_on none_put = none_put
   puts_on (list_put {c = c} {a' = a₂} {o' = o₂} b f g) =
@@ -147,25 +145,26 @@ module _ (n m a : ℕ) (o o₁ : List ℕ) (i : Instr) (a₁ : ℕ) (at : a₁ �
       list_put {c = put i c} {a' = a₂} (omega (arith, bits_put i c)) (omega (arith, bits_put i c))
       (put_next o o₁ o₂ a a₁ (instr_bits i) (list_bits c) (instr_are i) (omega arith) is (omega arith) g ∙ ap (put_bits o a) (sym (list_bits_put i c)))
 
-pub stepped_none : {n end a : ℕ} {o o' : List ℕ} {whole : Option Code} {rest : Left → Option Code} {r : Item} → Stepped n end o a whole rest r o' → r ≡ NoItem
+pub stepped_none : {n end a : ℕ} {o o' : List ℕ} {whole : Option Code} {rest : Region → Option Code} {r : OrNone (Region × BitPlace)}
+    → Stepped n end o a whole rest r o' → r ≡ None
     → whole ≡ none
 stepped_none (no_item h) e = h
 stepped_none (item_put i h f g u v w t) e = clash (cc)
 
-pub record StepOn (n end a : ℕ) (o o' : List ℕ) (whole : Option Code) (rest : Left → Option Code) (x : Left) (q : BitPlace) : Type 0 where
-  pub goes_on : (r : Found) (o'' : List ℕ) → Puts (x.to - x.from) o' q.0 (rest x) r o'' → Puts n o a whole r o''
+pub record StepOn (n end a : ℕ) (o o' : List ℕ) (whole : Option Code) (rest : Region → Option Code) (x : Region) (q : BitPlace) : Type 0 where
+  pub goes_on : (r : OrNone BitPlace) (o'' : List ℕ) → Puts (x.to - x.from) o' q.0 (rest x) r o'' → Puts n o a whole r o''
   pub ordered : x.from ≤ x.to
   pub inside : x.to ≤ end
   pub shorter : x.to - x.from < n
   pub room : q.0 + 8 * (x.to - x.from) + 5 ≤ 8 * length o
 
-pub stepped_on : {n end a : ℕ} {o o' : List ℕ} {whole : Option Code} {rest : Left → Option Code} {r : Item} {x : Left} {q : BitPlace}
-    → a + 8 * n + 5 ≤ 8 * length o → Stepped n end o a whole rest r o' → r ≡ More x q → StepOn n end a o o' whole rest x q
+pub stepped_on : {n end a : ℕ} {o o' : List ℕ} {whole : Option Code} {rest : Region → Option Code} {r : OrNone (Region × BitPlace)} {x : Region} {q : BitPlace}
+    → a + 8 * n + 5 ≤ 8 * length o → Stepped n end o a whole rest r o' → r ≡ Some (x, q) → StepOn n end a o o' whole rest x q
 stepped_on h (no_item i) e = clash (cc)
 stepped_on {n} {end} {a} {o} {o'} {whole} {rest} {r} {x} {q} h (item_put i {x = x₁} {a' = a'} eq f g u v w t) e =
-    let z₁ : x₁ ≡ x = cc in
-    let z₂ : ◌≡◌ {A = BitPlace} (record { 0 = a' }) q = cc in
-    let at : a' ≡ q.0 = ap (λ (x : BitPlace). x.0) z₂ in
+    let z = some_pair_parts x₁ x (record { 0 = a' }) q e in
+    let z₁ = z.0 in
+    let at : a' ≡ q.0 = ap (λ (x : BitPlace). x.0) z.1 in
     rw (← z₁) (
     record {
       goes_on = λ r o'' k. rw eq (puts_on n (x₁.to - x₁.from) a o o' i q.0 (sym at ∙ f) g w h k);
@@ -177,7 +176,7 @@ stepped_on {n} {end} {a} {o} {o'} {whole} {rest} {r} {x} {q} h (item_put i {x = 
     )
 
 -- ---- arms
-pub two_none : {n a : ℕ} {o o' : List ℕ} {x y : Option Code} {r : Found} → TwoPut n o a x y r o' → r ≡ Nothing
+pub two_none : {n a : ℕ} {o o' : List ℕ} {x y : Option Code} {r : OrNone BitPlace} → TwoPut n o a x y r o' → r ≡ None
     → on x (λ x. on y (λ y. some (unless_i x y))) ≡ none
 unfolding on
 two_none no_first e = refl
@@ -193,7 +192,7 @@ pub record TwoSome (n a : ℕ) (o o' : List ℕ) (x y : Option Code) (q : BitPla
   pub past : q.0 ≡ a + (bits first + bits second)
   pub out : o' ≡ put_bits o a (list_bits first ++ list_bits second)
 
-pub two_some : {n a : ℕ} {o o' : List ℕ} {x y : Option Code} {r : Found} {q : BitPlace} → TwoPut n o a x y r o' → r ≡ Past q → TwoSome n a o o' x y q
+pub two_some : {n a : ℕ} {o o' : List ℕ} {x y : Option Code} {r : OrNone BitPlace} {q : BitPlace} → TwoPut n o a x y r o' → r ≡ Some q → TwoSome n a o o' x y q
 unfolding on
 two_some no_first e = clash (cc)
 two_some no_second e = clash (cc)
@@ -202,19 +201,20 @@ two_some {q = q} (two_put {x = x} {y = y} {a' = a'} b f g) e =
     record { first = x; second = y; is = refl; small = b; past = sym (ap (λ (x : BitPlace). x.0) z) ∙ f; out = g }
 
 module _ (ok : ℕ → ℕ → Bool) (s : List ℕ) (l : ℕ) (k : Bool) (p e a : ℕ) (o o₁ : List ℕ) (room : a + 8 * (e - p) + 5 ≤ 8 * length o) where
-  module _ (x : Arms) (head : HeadIs s l k p e (Split x)) (q : BitPlace) (code : o₁ ≡ put_bits o a (bits_of 5 3)) (at : q.0 ≡ a + 5) where
+  module _ (x : Arms) (head : HeadIs s l k p e (Some (Split x))) (q : BitPlace) (code : o₁ ≡ put_bits o a (bits_of 5 3)) (at : q.0 ≡ a + 5) where
     abbrev X : Option Code
     X = found ok (l - 1) x.closed (part (p + 3) x.mid s)
 
     abbrev Y : Option Code
     Y = found ok (l - 1) x.closed (part x.turn x.end s)
 
-    pub arms_none : {r : Found} {o₂ : List ℕ} → TwoPut (arms_size p x) o₁ q.0 X Y r o₂ → r ≡ Nothing → Steps ok s l k p e o a NoItem o₂
+    pub arms_none : {r : OrNone BitPlace} {o₂ : List ℕ} → TwoPut (arms_size p x) o₁ q.0 X Y r o₂ → r ≡ None → Steps ok s l k p e o a None o₂
     unfolding head_found head_item on
     arms_none t z = no_item (head.finds ok ∙ rw (two_none t z) refl)
 
-    pub arms_more : {r : Found} {o₂ : List ℕ} {q₂ : BitPlace} (c : Bool) → c ≡ (not x.closed && k) → TwoPut (arms_size p x) o₁ q.0 X Y r o₂ → r ≡ Past q₂
-        → Steps ok s l k p e o a (More (record { from = x.end; to = e; closed = c }) q₂) o₂
+    pub arms_more : {r : OrNone BitPlace} {o₂ : List ℕ} {q₂ : BitPlace} (c : Bool) → c ≡ (not x.closed && k) → TwoPut (arms_size p x) o₁ q.0 X Y r o₂
+        → r ≡ Some q₂
+        → Steps ok s l k p e o a (Some (record { from = x.end; to = e; closed = c }, q₂)) o₂
     unfolding head_found head_item head_rest on instr_bits bits_i
     arms_more {o₂ = o₂} {q₂ = q₂} c closed t z =
         let w = two_some t z in
@@ -226,22 +226,23 @@ module _ (ok : ℕ → ℕ → Bool) (s : List ℕ) (l : ℕ) (k : Bool) (p e a 
         (omega arith) (omega arith) (omega (arith, w.small)) (omega arith)
 
   -- ---- a make-cont
-  module _ (cut : ℕ) (head : HeadIs s l k p e (Save cut)) (o₂ : List ℕ) (q q₂ : BitPlace) (code : o₁ ≡ put_bits o a (bits_of 5 4)) (at : q.0 ≡ a + 5)
+  module _ (cut : ℕ) (head : HeadIs s l k p e (Some (Save cut))) (o₂ : List ℕ) (q q₂ : BitPlace) (code : o₁ ≡ put_bits o a (bits_of 5 4)) (at : q.0 ≡ a + 5)
       (count : o₂ ≡ put_bits o₁ q.0 (bits_of 8 (get_or s (p + 3) 0))) (at₂ : q₂.0 ≡ q.0 + 8) where
-    pub saved_none : {r : Found} {o₃ : List ℕ} → Puts (e - cut) o₂ q₂.0 (found ok (l - 1) k (part cut e s)) r o₃ → r ≡ Nothing
-        → Steps ok s l k p e o a NoItem o₃
+    pub saved_none : {r : OrNone BitPlace} {o₃ : List ℕ} → Puts (e - cut) o₂ q₂.0 (found ok (l - 1) k (part cut e s)) r o₃ → r ≡ None
+        → Steps ok s l k p e o a None o₃
     unfolding head_found head_item on
     saved_none t z = no_item (head.finds ok ∙ rw (puts_none t z) refl)
 
-    pub saved_more : {r : Found} {o₃ : List ℕ} {q₃ : BitPlace} → Puts (e - cut) o₂ q₂.0 (found ok (l - 1) k (part cut e s)) r o₃ → r ≡ Past q₃
-        → Steps ok s l k p e o a (More (record { from = p + 4; to = cut; closed = true }) q₃) o₃
+    pub saved_more : {r : OrNone BitPlace} {o₃ : List ℕ} {q₃ : BitPlace} → Puts (e - cut) o₂ q₂.0 (found ok (l - 1) k (part cut e s)) r o₃ → r ≡ Some q₃
+        → Steps ok s l k p e o a (Some (record { from = p + 4; to = cut; closed = true }, q₃)) o₃
     unfolding head_found head_item head_rest on instr_bits bits_i
     saved_more {o₃ = o₃} {q₃ = q₃} t z =
         let w = puts_some t z in
         let h = head.within in
         let n : List ℕ = bits_of 8 (get_or s (p + 3) 0) in
         let l₁ : length o₁ ≡ length o = ap length code ∙ put_length _ _ _ in
-        let there : (y : Code) → found ok (l - 1) k (part cut e s) ≡ some y → head_found ok s l k p e (Save cut) ≡ on (found ok l true (part (p + 4) cut s))
+        let there : (y : Code) → found ok (l - 1) k (part cut e s) ≡ some y
+        → head_found ok s l k p e (Some (Save cut)) ≡ on (found ok l true (part (p + 4) cut s))
         (λ c. some (put (cont_i (get_or s (p + 3) 0) y) c)) =
         λ y g. rw g refl in
         let tail : o₃ ≡ put_bits o₁ q.0 (n ++ list_bits w.code) =
@@ -254,17 +255,17 @@ module _ (ok : ℕ → ℕ → Bool) (s : List ℕ) (l : ℕ) (k : Bool) (p e a 
         (omega arith) (omega arith) (omega (arith, w.small)) (omega arith)
 
   -- ---- an instruction without lists
-  module _ (n : ℕ) (head : HeadIs s l k p e (Plain n)) where
+  module _ (n : ℕ) (head : HeadIs s l k p e (Some (Plain n))) where
     abbrev ns : List ℕ
     ns = part (p + 1) (p + 1 + n) s
 
-    pub plain_none : {o₂ : List ℕ} → plain_passes ok (get_or s p 0) ns ≡ false → Steps ok s l k p e o a NoItem o₂
+    pub plain_none : {o₂ : List ℕ} → plain_passes ok (get_or s p 0) ns ≡ false → Steps ok s l k p e o a None o₂
     unfolding head_found head_item plain_item on test
     plain_none f = no_item (head.finds ok ∙ rw f refl)
 
     pub plain_more : {o₂ : List ℕ} {q q₂ : BitPlace} (c : Bool) → e ≤ length s → plain_passes ok (get_or s p 0) ns ≡ true → c ≡ (leb 6 (get_or s p 0) && k)
         → o₁ ≡ put_bits o a (bits_of 5 (get_or s p 0)) → q.0 ≡ a + 5 → o₂ ≡ put_bits o₁ q.0 (bits_from s (8 * (p + 1)) (8 * n)) → q₂.0 ≡ q.0 + 8 * n
-        → Steps ok s l k p e o a (More (record { from = p + 1 + n; to = e; closed = c }) q₂) o₂
+        → Steps ok s l k p e o a (Some (record { from = p + 1 + n; to = e; closed = c }, q₂)) o₂
     unfolding head_found head_item head_rest plain_item on test
     plain_more {o₂} {q} {q₂} c le f closed code at ops at₂ =
         let h = head.within in
@@ -296,11 +297,12 @@ module _ (ok : ℕ → ℕ → Bool) (s : List ℕ) (p n : ℕ) where
       some_of (suc n) z = omega arith
 
 -- ---- the loop over a list
-pub head_as : {s : List ℕ} {l : ℕ} {k : Bool} {p e : ℕ} {h h' : Head} → HeadIs s l k p e h → h ≡ h' → HeadIs s l k p e h'
-head_as {s} {l} {k} {p} {e} i z = subst (λ (h : Head). HeadIs s l k p e h) z i
+pub head_as : {s : List ℕ} {l : ℕ} {k : Bool} {p e : ℕ} {h h' : OrNone Head} → HeadIs s l k p e h → h ≡ h' → HeadIs s l k p e h'
+head_as {s} {l} {k} {p} {e} i z = subst (λ (h : OrNone Head). HeadIs s l k p e h) z i
 
-pub head_none : (ok : ℕ → ℕ → Bool) (s : List ℕ) (l : ℕ) (k : Bool) (p e : ℕ) {h : Head} (o : List ℕ) (a : ℕ) {o' : List ℕ} → HeadIs s l k p e h → h ≡ NoHead
-    → Steps ok s l k p e o a NoItem o'
+pub head_none : (ok : ℕ → ℕ → Bool) (s : List ℕ) (l : ℕ) (k : Bool) (p e : ℕ) {h : OrNone Head} (o : List ℕ) (a : ℕ) {o' : List ℕ} → HeadIs s l k p e h
+    → h ≡ None
+    → Steps ok s l k p e o a None o'
 unfolding head_found head_item on
 head_none ok s l k p e o a i z = no_item ((head_as i z).finds ok)
 
@@ -309,23 +311,24 @@ module _ (ok : ℕ → ℕ → Bool) (s : List ℕ) (l : ℕ) (p₀ e₀ : ℕ) 
   going_begun h i j = record { ordered = h; inside = i; long = refl; room = j; rest = λ r o' x. x }
 
   module _ (p e : ℕ) (k : Bool) (a : ℕ) (o : List ℕ) (g : Going ok s l p₀ e₀ k₀ a₀ o₀ p e k a o) where
-    abbrev Done : Found → List ℕ → Type 0
+    abbrev Done : OrNone BitPlace → List ℕ → Type 0
     Done r o' = Puts (e₀ - p₀) o₀ a₀ (found ok l k₀ (part p₀ e₀ s)) r o'
 
     nothing_left : p ≡ e → part p e s ≡ []
     nothing_left z = ap (λ (x : ℕ). part x e s) z ∙ part_empty s e
 
-    pub going_no_end : {o' : List ℕ} → p ≡ e → k ≡ true → Done Nothing o'
-    going_no_end {o'} z f = g.rest Nothing o' (rw (nothing_left z, f, found_nothing ok l) none_put)
+    pub going_no_end : {o' : List ℕ} → p ≡ e → k ≡ true → Done None o'
+    going_no_end {o'} z f = g.rest None o' (rw (nothing_left z, f, found_nothing ok l) none_put)
 
-    pub going_end : {o' : List ℕ} {q : BitPlace} → p ≡ e → k ≡ false → q.0 ≡ a + 5 → o' ≡ put_bits o a (bits_of 5 0) → Done (Past q) o'
+    pub going_end : {o' : List ℕ} {q : BitPlace} → p ≡ e → k ≡ false → q.0 ≡ a + 5 → o' ≡ put_bits o a (bits_of 5 0) → Done (Some q) o'
     unfolding list_bits bits
-    going_end {o'} {q} z f at put = g.rest (Past q) o' (rw (nothing_left z, f, found_end ok l) (list_put {c = done} {a' = q.0} (omega arith) at put))
+    going_end {o'} {q} z f at put = g.rest (Some q) o' (rw (nothing_left z, f, found_end ok l) (list_put {c = done} {a' = q.0} (omega arith) at put))
 
-    pub going_none : {o' : List ℕ} → found ok l k (part p e s) ≡ none → Done Nothing o'
-    going_none {o'} z = g.rest Nothing o' (rw z none_put)
+    pub going_none : {o' : List ℕ} → found ok l k (part p e s) ≡ none → Done None o'
+    going_none {o'} z = g.rest None o' (rw z none_put)
 
-    pub going_on : {o' : List ℕ} {x : Left} {q : BitPlace} → length o' ≡ length o → StepOn (e - p) e a o o' (found ok l k (part p e s)) (left_found ok s l) x q
+    pub going_on : {o' : List ℕ} {x : Region} {q : BitPlace} → length o' ≡ length o
+        → StepOn (e - p) e a o o' (found ok l k (part p e s)) (left_found ok s l) x q
         → Going ok s l p₀ e₀ k₀ a₀ o₀ x.from x.to x.closed q.0 o'
     going_on {o'} z i =
         record {

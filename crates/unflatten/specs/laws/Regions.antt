@@ -1,10 +1,10 @@
 -- Regions: the first byte of one, and its parts; and the scan for a jump at its end. Assumes nothing.
-use Rattle.std.specs.Prelude.{ℕ, zero, suc, ◌+◌, ◌-◌, ◌≤◌, ◌<◌, ◌≡◌, Bool, false, List, [], ◌∷◌, get_or, take, drop, eqb}
+use Rattle.std.specs.Prelude.{ℕ, zero, suc, ◌+◌, ◌-◌, ◌≤◌, ◌<◌, ◌≡◌, false, List, [], ◌∷◌, get_or, take, drop, eqb}
 use Rattle.std.proofs.Common.{zero-add, add-one, sym, ◌∙◌, take-take}
 use native.Mathlib.Omega.{arith}
 use Rattle.std.proofs.Math.Path.{refl, ap}
 use Rattle.std.proofs.Math.ListN.{length}
-use Rattle.std.proofs.Math.Seq.{slice, slice_empty, slice-cons, length-slice, drop-drop, take-nil, get_or-drop, get_or-take}
+use Rattle.std.proofs.Math.Seq.{slice_empty, slice-cons, length-slice, drop-drop, take-nil, get_or-drop, get_or-take}
 use Rattle.back.specs.Unflat.{after, scan, ends_in_jump}
 use Rattle.back.proofs.theorems.Jumps.{scan_skip, scan_cut}
 use Rattle.unflatten.specs.Found.{part}

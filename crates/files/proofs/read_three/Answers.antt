@@ -1,0 +1,7 @@
+-- `files::read_three` meets its contract. Assumes nothing.
+use mathlib.Core.Path.{◌∙◌}
+use Rattle.files.specs.laws.EntriesSteps.{told_or}
+use Rattle.files.proofs.read_three.Goals as goal
+
+pub returns : goal.returns
+returns c = c.ok_or.ensures.value ∙ told_or _ _ _ c.read_three.ensures
