@@ -92,9 +92,8 @@ fn run_from(
 {
     let mut r = first;
     let mut c = from;
-    let mut left = budget;
-    while 0 < left {
-        let rest = left - 1;
+    for done in 0..budget {
+        let left = budget - done;
         match take_step(
             owner, file, links, table, globals, stack, store, frames, r, c,
         ) {
@@ -103,15 +102,14 @@ fn run_from(
                 c = k;
             }
             OneStep::Halted => {
-                return steps::ended(End::Halted(cells::value_of(r.v)), budget, rest, r, c);
+                return steps::ended(End::Halted(cells::value_of(r.v)), budget, left - 1, r, c);
             }
             OneStep::Wrong(wrong) => {
                 return steps::ended(End::Wrong(wrong.number()), budget, left, r, c);
             }
         }
-        left = rest;
     }
-    steps::ended(End::OutOfBudget, budget, left, r, c)
+    steps::ended(End::OutOfBudget, budget, 0, r, c)
 }
 
 // At most `budget` steps from the start of a basic file with its links and its table.

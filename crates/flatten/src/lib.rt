@@ -13,6 +13,7 @@ ghost use Rattle.flatten.specs.ToFlatten.{TemplateToWrite, TemplatesToWrite, Tem
 use cells::BitPlace;
 use files::{Outcome, Refusal};
 use lists::Keep;
+use tree::Tier;
 
 // The place past a template, and how many bytes of the linear file are written.
 #[derive(Clone, Copy)]
@@ -134,14 +135,15 @@ fn flatten_sized<const CELLS: usize, const MARKS: usize>(s: &[u8], out: &mut [u8
 }
 
 // Flattens a tree file into an output, with tables for the file's size.
+#[tactic(auto, unfolding(tree::specs::Tiers::InTier))]
 pub fn flatten(s: &[u8], out: &mut [u8]) -> Outcome
     ensures value { result ≡ answered (flattened s.now (length out.old)) }
     ensures out_after { out.new ≡ written out.old (flattened s.now (length out.old)) }
 {
     match tree::tier_of(s) {
-        1 => flatten_sized::<1024, 820>(s, out),
-        2 => flatten_sized::<4096, 6554>(s, out),
-        3 => flatten_sized::<16384, 6554>(s, out),
-        _ => flatten_sized::<16384, 104858>(s, out),
+        Tier::Small => flatten_sized::<1024, 820>(s, out),
+        Tier::Middle => flatten_sized::<4096, 6554>(s, out),
+        Tier::Many => flatten_sized::<16384, 6554>(s, out),
+        Tier::Large => flatten_sized::<16384, 104858>(s, out),
     }
 }

@@ -318,9 +318,8 @@ fn run_from(
     let mut at = begin;
     let mut fr: usize = 0;
     let mut code = code_at(table, template);
-    let mut left = budget;
-    while 0 < left {
-        let rest = left - 1;
+    for done in 0..budget {
+        let left = budget - done;
         let r = Regs { v, env, sp, st };
         let c = Control {
             template,
@@ -342,26 +341,19 @@ fn run_from(
                 fr = k.fr;
             }
             OneStep::Halted => {
-                return steps::ended(End::Halted(cells::value_of(r.v)), budget, rest, r, c);
+                return steps::ended(End::Halted(cells::value_of(r.v)), budget, left - 1, r, c);
             }
             OneStep::Wrong(wrong) => {
                 return steps::ended(End::Wrong(wrong.number()), budget, left, r, c);
             }
         }
-        left = rest;
     }
     let last = Control {
         template,
         place: CodePlace::Linear(at),
         fr,
     };
-    steps::ended(
-        End::OutOfBudget,
-        budget,
-        left,
-        Regs { v, env, sp, st },
-        last,
-    )
+    steps::ended(End::OutOfBudget, budget, 0, Regs { v, env, sp, st }, last)
 }
 
 // At most `budget` steps from the start of a linear file with its table.

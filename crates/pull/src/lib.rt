@@ -148,8 +148,8 @@ fn put_line(list: &mut [u8], at: usize, k: usize, clip: &[i32], found: Found) ->
 // ---- a clip's run
 
 // The clip's first six words, and no word that an earlier clip's rule left.
-fn set_globals(clip: &[i32], globals: &mut [u64])
-    requires { (8 ≤ length clip.now) × (length globals.old ≡ 256) }
+fn set_globals(clip: &[i32], globals: &mut [u64; 256])
+    requires { 8 ≤ length clip.now }
     ensures globals_after { globals.new ≡ clip_globals clip.now }
     ensures all_fit { AllFit globals.new }
 {
@@ -159,19 +159,18 @@ fn set_globals(clip: &[i32], globals: &mut [u64])
     }
 }
 
-// The rule is run here, as the house, and nowhere else. The file was read: `table` is its table. What the four slices held is not seen by the run.
+// The rule is run here, as the house, and nowhere else. The file was read: `table` is its table. What the four arrays held is not seen by the run.
 fn run_clip(
     clip: &[i32],
     file: &[u8],
     table: &[u64],
     budget: u64,
-    globals: &mut [u64],
-    stack: &mut [u64],
-    store: &mut [u64],
-    frames: &mut [u64],
+    globals: &mut [u64; 256],
+    stack: &mut [u64; 256],
+    store: &mut [u64; 2048],
+    frames: &mut [u64; 2048],
 ) -> Found
-    requires in_bounds { (8 ≤ length clip.now) × TableOf file.now table.now × (budget ≤ 2000000) }
-    requires globals_len { (length globals.old ≡ 256) × (length stack.old ≡ 256) × (length store.old ≡ 2048) × (length frames.old ≡ 2048) }
+    requires { (8 ≤ length clip.now) × TableOf file.now table.now × (budget ≤ 2000000) }
     ensures { result ≡ clip_run clip.now file.now budget }
 {
     set_globals(clip, globals);
@@ -191,15 +190,14 @@ fn pull_clip(
     file: &[u8],
     table: &[u64],
     budget: u64,
-    globals: &mut [u64],
-    stack: &mut [u64],
-    store: &mut [u64],
-    frames: &mut [u64],
+    globals: &mut [u64; 256],
+    stack: &mut [u64; 256],
+    store: &mut [u64; 2048],
+    frames: &mut [u64; 2048],
     list: &mut [u8],
     at: usize,
 ) -> usize
     requires k_bound { (k < 256) × (8 * k + 8 ≤ length clips.now) × TableOf file.now table.now × (budget ≤ 2000000) }
-    requires globals_len { (length globals.old ≡ 256) × (length stack.old ≡ 256) × (length store.old ≡ 2048) × (length frames.old ≡ 2048) }
     requires at_in_bounds { at + 48 ≤ length list.old }
     ensures put { Put list.old at list.new result (pull_line k (clip_at clips.now k) file.now budget) }
     ensures upper_bound { result ≤ at + 44 }
@@ -210,21 +208,20 @@ fn pull_clip(
     put_line(list, at, k, clip, found)
 }
 
-// The lines of all clips. The four slices are used again for each clip.
+// The lines of all clips. The four arrays are used again for each clip.
 fn pull_clips(
     clips: &[i32],
     file: &[u8],
     table: &[u64],
     budget: u64,
-    globals: &mut [u64],
-    stack: &mut [u64],
-    store: &mut [u64],
-    frames: &mut [u64],
+    globals: &mut [u64; 256],
+    stack: &mut [u64; 256],
+    store: &mut [u64; 2048],
+    frames: &mut [u64; 2048],
     list: &mut [u8],
 ) -> usize
-    requires clips_len_bound { (length clips.now / 8 ≤ 256) × (48 * (length clips.now / 8) ≤ length list.old) × TableOf file.now table.now
+    requires { (length clips.now / 8 ≤ 256) × (48 * (length clips.now / 8) ≤ length list.old) × TableOf file.now table.now
         × (budget ≤ 2000000) }
-    requires globals_len { (length globals.old ≡ 256) × (length stack.old ≡ 256) × (length store.old ≡ 2048) × (length frames.old ≡ 2048) }
     ensures put { Put list.old 0 list.new result (pull_list clips.now file.now budget) }
     ensures upper_bound { result ≤ 44 * (length clips.now / 8) }
 {

@@ -40,6 +40,15 @@ pub struct Summary {
     pub closes: u64,
 }
 
+// Four sizes of tree files: at most 4 templates and 512 bytes; 16 and 4,096; 64 and 4,096; any.
+#[derive(Clone, Copy)]
+pub enum Tier {
+    Small,
+    Middle,
+    Many,
+    Large,
+}
+
 // The report of a template whose entries take so many bits, and whose list has these facts.
 fn report_by(facts: Facts, bits: usize) -> Report
     requires { (facts.size ≤ 1048576) × (bits ≤ 524288) }
@@ -222,24 +231,25 @@ pub fn read_accepted(
     Ok(sum)
 }
 
-// The size of a tree file, 1 to 4, by its bytes and its number of templates.
-pub fn tier_of(s: &[u8]) -> usize
-    ensures { (1 ≤ result) × InTier s.now result }
+// The size of a tree file, by its bytes and its number of templates.
+#[tactic(auto, unfolding(crate::specs::Tiers::InTier))]
+pub fn tier_of(s: &[u8]) -> Tier
+    ensures { InTier s.now result }
 {
     let count = files::count_of(s);
     if 4096 < s.len() {
-        return 4;
+        return Tier::Large;
     }
     if 16 < count {
-        return 3;
+        return Tier::Many;
     }
     if 4 < count {
-        return 2;
+        return Tier::Middle;
     }
     if 512 < s.len() {
-        return 2;
+        return Tier::Middle;
     }
-    1
+    Tier::Small
 }
 
 // 1 to 7 and 24: what the tree machine says of a file.

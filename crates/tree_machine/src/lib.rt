@@ -13,6 +13,7 @@ use files::Refusal;
 use lists::Keep;
 use machines::Run;
 use owners::Owner;
+use tree::Tier;
 
 // The run of a file that is accepted, where the table is its table and has `count` templates, and the links are what reading kept of its lists.
 fn run_linked(
@@ -98,6 +99,7 @@ fn run_sized<const CELLS: usize, const LINKS: usize>(
 }
 
 // The run of a file, with tables for its size.
+#[tactic(auto, unfolding(tree::specs::Tiers::InTier))]
 fn run_tier(
     file: &[u8],
     budget: u64,
@@ -111,10 +113,12 @@ fn run_tier(
         ≡ on_tree owner budget (lent globals.entry stack.entry store.entry frames.entry) (tree_accepted file.now) }
 {
     match tree::tier_of(file) {
-        1 => run_sized::<1024, 820>(file, budget, owner, globals, stack, store, frames),
-        2 => run_sized::<4096, 6554>(file, budget, owner, globals, stack, store, frames),
-        3 => run_sized::<16384, 6554>(file, budget, owner, globals, stack, store, frames),
-        _ => run_sized::<16384, 104858>(file, budget, owner, globals, stack, store, frames),
+        Tier::Small => run_sized::<1024, 820>(file, budget, owner, globals, stack, store, frames),
+        Tier::Middle => run_sized::<4096, 6554>(file, budget, owner, globals, stack, store, frames),
+        Tier::Many => run_sized::<16384, 6554>(file, budget, owner, globals, stack, store, frames),
+        Tier::Large => run_sized::<16384, 104858>(
+            file, budget, owner, globals, stack, store, frames,
+        ),
     }
 }
 

@@ -245,9 +245,8 @@ fn run_from(
     let mut template: u8 = 0;
     let mut at = first;
     let mut fr: usize = 0;
-    let mut left = budget;
-    while 0 < left {
-        let rest = left - 1;
+    for done in 0..budget {
+        let left = budget - done;
         let r = Regs { v, env, sp, st };
         let c = Control {
             template,
@@ -268,13 +267,12 @@ fn run_from(
                 fr = k.fr;
             }
             OneStep::Halted => {
-                return steps::ended(End::Halted(cells::value_of(r.v)), budget, rest, r, c);
+                return steps::ended(End::Halted(cells::value_of(r.v)), budget, left - 1, r, c);
             }
             OneStep::Wrong(wrong) => {
                 return steps::ended(End::Wrong(wrong.number()), budget, left, r, c);
             }
         }
-        left = rest;
     }
     let r = Regs { v, env, sp, st };
     let c = Control {
@@ -282,7 +280,7 @@ fn run_from(
         place: CodePlace::Tree(at),
         fr,
     };
-    steps::ended(End::OutOfBudget, budget, left, r, c)
+    steps::ended(End::OutOfBudget, budget, 0, r, c)
 }
 
 // At most `budget` steps from the start of a tree file with its links and its table, where template 0's code begins at `first`.

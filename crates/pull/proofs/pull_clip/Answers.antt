@@ -7,7 +7,7 @@ pub run_clip-found-requires : goal.run_clip-found-requires
 run_clip-found-requires c =
     let p = c.requires in
     let l = c.clip-1.given in
-    record { in_bounds = (omega (arith, l), p.k_bound.2, p.k_bound.3); globals_len = p.globals_len }
+    (omega (arith, l), p.k_bound.2, p.k_bound.3)
 
 pub returns : goal.returns
 returns c =

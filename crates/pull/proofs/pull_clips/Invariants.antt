@@ -7,5 +7,4 @@ use Rattle.pull.specs.Pull.{pull_lines}
 use Rattle.pull.proofs.pull_clips.Given as goal
 
 abbrev pub invariant-loop-k : goal.invariant-loop-k
-invariant-loop-k l = (length l.globals ≡ 256) × (length l.stack ≡ 256) × (length l.store ≡ 2048) × (length l.frames ≡ 2048)
-    × (length l.list ≡ length l.initial.list) × (l.at ≤ 44 * l.k) × Put l.initial.list 0 l.list l.at (pull_lines l.clips l.file l.budget l.k)
+invariant-loop-k l = (length l.list ≡ length l.initial.list) × (l.at ≤ 44 * l.k) × Put l.initial.list 0 l.list l.at (pull_lines l.clips l.file l.budget l.k)

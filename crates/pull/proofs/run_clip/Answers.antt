@@ -8,13 +8,12 @@ use Rattle.pull.proofs.run_clip.Goals as goal
 pub run_again-run-requires : goal.run_again-run-requires
 run_again-run-requires c =
     let p = c.requires in record {
-      table_of = p.in_bounds.1;
-      frames_value = may_run _ 0 _ _ _ _ (omega (arith, c.set_globals.auto.globals, p.globals_len.0)) p.globals_len.1 p.globals_len.2 p.globals_len.3 p.in_bounds.2 (omega arith)
+      table_of = p.1;
+      frames_value = may_run _ 0 _ _ _ _ c.set_globals.array_long c.told-stack c.told-store c.told-frames p.2 (omega arith)
           c.set_globals.ensures.all_fit;
     }
 
 pub returns : goal.returns
 unfolding found_of
 returns c =
-    let p = c.requires.globals_len in
-    run_found _ _ _ _ _ _ _ _ c.set_globals.ensures.globals_after p.1 p.2 p.3 c.run_again-run.ensures
+    run_found _ _ _ _ _ _ _ _ c.set_globals.ensures.globals_after c.told-stack c.told-store c.told-frames c.run_again-run.ensures

@@ -7,7 +7,7 @@ use Rattle.pull.proofs.set_globals.Goals as goal
 
 pub loop-n-init : goal.loop-n-init
 loop-n-init c =
-    let all = c.fill.ensures.after (λ y e. e) ∙ ap (λ n. replicate n undefined_cell) c.requires.1 in
+    let all = c.fill.ensures.after (λ y e. e) ∙ ap (λ n. replicate n undefined_cell) c.told-globals in
     rw all (length-replicate 256 undefined_cell, refl, undefined_fit 256)
 
 pub loop-n-preserved : goal.loop-n-preserved

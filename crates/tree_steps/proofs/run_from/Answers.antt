@@ -1,49 +1,60 @@
 -- `tree_steps::run_from` meets its contract. Assumes nothing.
-use mathlib.Core.Path.{refl}
+use Prim.Native.Nat.{◌+◌, ◌-◌}
+use mathlib.Core.Path.{◌≡◌, refl}
 use native.Mathlib.Omega.{arith}
 use Rattle.rules.specs.State.{regs}
 use Rattle.machines.specs.Instruction.{form_of}
 use Rattle.machines.specs.declared.CodePlace.TheVariants.{Tree}
 use Rattle.steps.specs.Step.{control}
-use Rattle.steps.proofs.RunLaws.{at_first, next_ready, next_place, next_turn, halted_turn, wrong_turn, spent_turn}
+use Rattle.steps.proofs.RunLaws.{next_ready, next_place, next_turn, halted_turn, wrong_turn, spent_turn}
 use Rattle.tree_steps.proofs.StepLaws.{ready_apart, turn_apart}
-use borrow.Author.Rules.{rules}
 use Rattle.tree_steps.proofs.run_from.Goals as goal
-
-pub loop-left-init : goal.loop-left-init
-loop-left-init c = (search rules, search rules, at_first _ _ _ _)
 
 pub take_step-requires : goal.take_step-requires
 unfolding form_of
-take_step-requires c = (refl, c.loop-left.invariant.0)
+take_step-requires c = (refl, c.loop-done.invariant.0)
 
 pub bit_place-at-requires : goal.bit_place-at-requires
-bit_place-at-requires c = next_place _ _ _ c.loop-left.left c.args.budget _ _ (regs c.loop-left.v c.loop-left.env c.loop-left.sp c.loop-left.st) (control c.loop-left.template (Tree c.loop-left.at) c.loop-left.fr) _ c.loop-left-test.true c.loop-left.invariant.1 c.take_step.ensures c.loop-left.invariant.2 _ _ c.in-Next.is
+bit_place-at-requires c =
+    let r = regs c.loop-done.v c.loop-done.env c.loop-done.sp c.loop-done.st in
+    let k = control c.loop-done.template (Tree c.loop-done.at) c.loop-done.fr in
+    next_place _ _ _ (c.args.budget - c.loop-done.done) c.args.budget _ _ r k _ (omega (arith, c.loop-done-test.true)) (omega arith) c.take_step.ensures refl _ _ c.in-Next.is
 
 pub returns-in-Halted : goal.returns-in-Halted
 returns-in-Halted c =
-    halted_turn _ _ _ c.loop-left.left c.args.budget _ _ (regs c.loop-left.v c.loop-left.env c.loop-left.sp c.loop-left.st) (control c.loop-left.template (Tree c.loop-left.at) c.loop-left.fr) _ c.loop-left-test.true c.loop-left.invariant.1 c.take_step.ensures c.loop-left.invariant.2 _ _ c.in-Halted.is c.value_of.ensures
-    c.ended.ensures
+    let r = regs c.loop-done.v c.loop-done.env c.loop-done.sp c.loop-done.st in
+    let k = control c.loop-done.template (Tree c.loop-done.at) c.loop-done.fr in
+    let past : c.args.budget - (c.args.budget - c.loop-done.done) ≡ c.loop-done.done = omega (arith, c.loop-done-test.true) in
+    halted_turn _ _ _ (c.args.budget - c.loop-done.done) c.args.budget _ _ r k _ (omega (arith, c.loop-done-test.true)) (omega arith) c.take_step.ensures (rw past c.loop-done.invariant.1) _ _
+    c.in-Halted.is c.value_of.ensures c.ended.ensures
 
 pub returns-in-Wrong : goal.returns-in-Wrong
-returns-in-Wrong c = wrong_turn _ _ _ c.loop-left.left c.args.budget _ _ (regs c.loop-left.v c.loop-left.env c.loop-left.sp c.loop-left.st) (control c.loop-left.template (Tree c.loop-left.at) c.loop-left.fr) _ c.loop-left-test.true c.loop-left.invariant.1 c.take_step.ensures c.loop-left.invariant.2 _ _ _ c.in-Wrong.is c.number.ensures c.ended-in-Wrong.ensures
+returns-in-Wrong c =
+    let r = regs c.loop-done.v c.loop-done.env c.loop-done.sp c.loop-done.st in
+    let k = control c.loop-done.template (Tree c.loop-done.at) c.loop-done.fr in
+    let past : c.args.budget - (c.args.budget - c.loop-done.done) ≡ c.loop-done.done = omega (arith, c.loop-done-test.true) in
+    wrong_turn _ _ _ (c.args.budget - c.loop-done.done) c.args.budget _ _ r k _ (omega (arith, c.loop-done-test.true)) (omega arith) c.take_step.ensures (rw past c.loop-done.invariant.1) _ _ _
+    c.in-Wrong.is c.number.ensures c.ended-in-Wrong.ensures
 
-pub loop-left-smaller : goal.loop-left-smaller
-loop-left-smaller c = omega (arith, c.loop-left-test.true)
-
-pub loop-left-preserved : goal.loop-left-preserved
+pub loop-done-preserved : goal.loop-done-preserved
 unfolding form_of
-loop-left-preserved c =
-    let q = c.in-Next.is in
-    let step = c.take_step.ensures in
-    let at = c.bit_place-at.ensures in (
-      ready_apart _ _ at _ _ _
-          (next_ready _ _ _ c.loop-left.left c.args.budget _ _ (regs c.loop-left.v c.loop-left.env c.loop-left.sp c.loop-left.st) (control c.loop-left.template (Tree c.loop-left.at) c.loop-left.fr) _ c.loop-left-test.true c.loop-left.invariant.1 step c.loop-left.invariant.2 _ _ _ _ q refl c.loop-left.invariant.0),
-      search rules,
-      turn_apart _ _ at _ _ _ _ _ _ (next_turn _ _ _ c.loop-left.left c.args.budget _ _ (regs c.loop-left.v c.loop-left.env c.loop-left.sp c.loop-left.st) (control c.loop-left.template (Tree c.loop-left.at) c.loop-left.fr) _ c.loop-left-test.true c.loop-left.invariant.1 step c.loop-left.invariant.2 _ _ q),
+loop-done-preserved c =
+    let r = regs c.loop-done.v c.loop-done.env c.loop-done.sp c.loop-done.st in
+    let k = control c.loop-done.template (Tree c.loop-done.at) c.loop-done.fr in
+    let left = c.args.budget - c.loop-done.done in
+    let past : c.args.budget - left ≡ c.loop-done.done = omega (arith, c.loop-done-test.true) in
+    let rest : c.args.budget - (c.loop-done.done + 1) ≡ left - 1 = omega arith in
+    let on : c.loop-done.done + 1 ≡ c.args.budget - (left - 1) = omega (arith, c.loop-done-test.true) in (
+      ready_apart _ _ c.bit_place-at.ensures _ _ _
+          (next_ready _ _ _ left c.args.budget _ _ r k _ (omega (arith, c.loop-done-test.true)) (omega arith) c.take_step.ensures refl _ _ _ _ c.in-Next.is refl c.loop-done.invariant.0),
+      rw (rest, on) (turn_apart _ _ c.bit_place-at.ensures _ _ _ _ _ _
+          (next_turn _ _ _ left c.args.budget _ _ r k _ (omega (arith, c.loop-done-test.true)) (omega arith) c.take_step.ensures (rw past c.loop-done.invariant.1) _ _ c.in-Next.is)),
     )
 
 pub returns : goal.returns
 returns c =
-    spent_turn _ _ c.loop-left.left c.args.budget _ (regs c.loop-left.v c.loop-left.env c.loop-left.sp c.loop-left.st) (control c.loop-left.template (Tree c.loop-left.at) c.loop-left.fr) _ c.loop-left-test.false
-    c.loop-left.invariant.2 c.ended-2.ensures
+    let r = regs c.loop-done.v c.loop-done.env c.loop-done.sp c.loop-done.st in
+    let k = control c.loop-done.template (Tree c.loop-done.at) c.loop-done.fr in
+    let none : c.args.budget - c.loop-done.done ≡ 0 = omega (arith, c.loop-done-test.false) in
+    let all : c.loop-done.done ≡ c.args.budget - 0 = omega (arith, c.loop-done-test.false, c.loop-done.auto.done-end) in
+    spent_turn _ _ 0 c.args.budget _ r k _ (omega arith) (rw (none, all) at c.loop-done.invariant.1) c.ended-2.ensures
