@@ -12,8 +12,8 @@ use lib.Signed.{mag}
 use mir.Syntax.{w64}
 use mir.Val.{SFits, to_z, of_z}
 use mir.Facts.{to_z-of_z}
-use lib.ListN.{length, get_or, drop, drop_of_length-le}
-use lib.Seq.{drop-cons}
+use lib.ListN.{length, get_or}
+use lib.Seq.{slice, slice-cons, slice_empty}
 use Rattle.cells.specs.Cells.{half, tag_of, int_of}
 use Rattle.integers.specs.Integers.{signed, all_integers, total_of}
 use Rattle.integers.specs.Answers.{ranged_of, sum_of, not_integers}
@@ -27,20 +27,20 @@ pub sum_start : (cs : List ℕ) → sum_from (pos 0) cs ≡ sum_of cs
 unfolding sum_from sum_of
 sum_start cs = rw (+ℤ_idl (total_of cs))
 
-module _ (total : ℤ) (cs : List ℕ) (i : ℕ) where
-  pub sum_on : i < length cs → tag_of (get_or cs i 0) ≡ 6
-      → sum_from total (drop i cs) ≡ sum_from (total +ℤ signed (int_of (get_or cs i 0))) (drop (i + 1) cs)
+module _ (total : ℤ) (s : List ℕ) (i n : ℕ) where
+  pub sum_on : i < n → n ≤ length s → tag_of (get_or s i 0) ≡ 6
+      → sum_from total (slice i n s) ≡ sum_from (total +ℤ signed (int_of (get_or s i 0))) (slice (i + 1) n s)
   unfolding sum_from all_integers total_of
-  sum_on h e =
-      rw (drop-cons cs i 0 h, eq-eqb (tag_of (get_or cs i 0)) 6 e, add-one i, +ℤ_assoc total (signed (int_of (get_or cs i 0))))
+  sum_on h l e =
+      rw (slice-cons i n s 0 h l, eq-eqb (tag_of (get_or s i 0)) 6 e, add-one i, +ℤ_assoc total (signed (int_of (get_or s i 0))))
 
-  pub sum_other : i < length cs → (tag_of (get_or cs i 0) ≡ 6 → ⊥) → sum_from total (drop i cs) ≡ Err not_integers
+  pub sum_other : i < n → n ≤ length s → (tag_of (get_or s i 0) ≡ 6 → ⊥) → sum_from total (slice i n s) ≡ Err not_integers
   unfolding sum_from all_integers
-  sum_other h e = rw (drop-cons cs i 0 h, ne_eqb (tag_of (get_or cs i 0)) 6 e)
+  sum_other h l e = rw (slice-cons i n s 0 h l, ne_eqb (tag_of (get_or s i 0)) 6 e)
 
-  pub sum_done : length cs ≤ i → sum_from total (drop i cs) ≡ Ok (ranged_of total)
+  pub sum_done : i ≤ n → n ≤ i → sum_from total (slice i n s) ≡ Ok (ranged_of total)
   unfolding sum_from all_integers total_of
-  sum_done h = rw (drop_of_length-le cs h, +ℤ_idr total)
+  sum_done h l = let e : i ≡ n = omega arith in rw (e, slice_empty n s, +ℤ_idr total)
 
 -- ---- no i64 overflows
 -- t is what i integers can sum up to

@@ -89,7 +89,8 @@ pub fn sum_up(s: &[u64], n: usize) -> Result<Option<u64>, NotIntegers>
     ensures { result ≡ sum_of (take n s.now) }
 {
     let mut total: i64 = 0;
-    for &c in &s[..n] {
+    for i in 0..n {
+        let c = s[i];
         if cells::tag_of(c) != 6 {
             return Err(NotIntegers);
         }

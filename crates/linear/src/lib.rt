@@ -84,6 +84,8 @@ pub fn check_linear(s: &[u8]) -> Result<(), Refusal<usize>>
     ensures { result ≡ checked_told (linear_read s.now) }
 {
     let mut table = [0u64; 16384];
-    read_linear(s, &mut table)?;
-    Ok(())
+    match read_linear(s, &mut table) {
+        Ok(_) => Ok(()),
+        Err(Refusal(number, place)) => Err(Refusal(number, place.number())),
+    }
 }

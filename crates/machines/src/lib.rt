@@ -38,9 +38,12 @@ pub struct Run {
 fn first_unfit(globals: &[u64]) -> Option<usize>
     ensures { result ≡ position (λ c. not (starting_global c)) globals.now }
 {
-    globals
-        .iter()
-        .position(|global| !cells::starting_global(*global))
+    for at in 0..globals.len() {
+        if !cells::starting_global(globals[at]) {
+            return Some(at);
+        }
+    }
+    None
 }
 
 // 22: for the lowest global that is not one to start with.

@@ -2,7 +2,7 @@
 #![tactic(auto)]
 
 ghost use Rattle.std.specs.Prelude.{◌≡◌};
-ghost use Rattle.owners.specs.Owners.{may_read, may_set, owner_of, owner_told};
+ghost use Rattle.owners.specs.Owners.{may_read, may_set, is_owner, owner_of, owner_told};
 
 #[derive(Clone, Copy)]
 pub enum Owner {
@@ -28,6 +28,14 @@ pub fn may_set(owner: Owner, g: u8) -> bool
         Owner::House => g < 64,
         Owner::Vendor => g >= 64,
     }
+}
+
+// Whether the number is an owner's: 0 or 1.
+#[tactic(auto, unfolding(crate::specs::Owners::is_owner))]
+pub fn is_owner(n: u64) -> bool
+    ensures { result ≡ is_owner n }
+{
+    n <= 1
 }
 
 impl Owner {

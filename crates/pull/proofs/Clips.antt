@@ -1,14 +1,14 @@
 -- A clip's globals and its run, clip by clip. Assumes nothing.
-use Prim.Native.Nat.{ℕ, zero, suc, ◌+◌, ◌-◌, ◌*◌, ◌<◌}
+use Prim.Native.Nat.{ℕ, zero, suc, ◌+◌, ◌-◌, ◌*◌, ◌≤◌, ◌<◌}
 use native.Mathlib.Numerals.{add-one}
 use native.Mathlib.Omega.{arith}
 use mathlib.Core.Path.{◌≡◌, refl, sym, ap, ◌∙◌}
 use mathlib.Core.Bool.{true}
-use mathlib.Core.List.{List, [], ◌∷◌}
+use mathlib.Core.List.{List, [], ◌∷◌, append-nil}
 use borrow.Author.Tests.{eq-eqb}
 use lib.IntN.{ℤ, pos}
-use lib.ListN.{length, set, get_or, take, drop, replicate, length-replicate}
-use lib.Seq.{sets, get_or-take, get_or-drop}
+use lib.ListN.{length, set, get_or, take, drop, replicate, length-replicate, drop_of_length-le}
+use lib.Seq.{sets, sets-eq, get_or-take, get_or-drop}
 use Rattle.cells.specs.Cells.{full, undefined_cell, int_cell, tag_of, int_of, starting_global}
 use Rattle.machines.specs.Runs.{memory, Ran, ran, linear_run}
 use Rattle.linear_machine.specs.Again.{AllFit}
@@ -16,6 +16,19 @@ use Rattle.linear_machine.specs.laws.Again.{Alike, run_alike}
 use Rattle.text.specs.Put.{Put}
 use Rattle.text.specs.laws.Laws.{put_then}
 use Rattle.pull.specs.Pull.{clip_count, clip_at, word, word_cell, clip_globals, clip_memory, found_of, clip_run, found_line, pull_line, pull_lines, pull_list}
+
+-- ---- the loop that fills all n places with x, at place i: what is left, filled, gives a list of x
+module _ (g : List ℕ) (i n x : ℕ) where
+  pub fill_on : i < n → sets (set g i x) (i + 1) (replicate (n - (i + 1)) x) ≡ sets g i (replicate (n - i) x)
+  fill_on h = let e : n - i ≡ suc (n - (i + 1)) = omega arith in rw (e, add-one i)
+
+  pub fill_done : n ≤ i → sets g i (replicate (n - i) x) ≡ g
+  fill_done h = let e : n - i ≡ 0 = omega arith in rw e
+
+pub fill_all : (g : List ℕ) (n x : ℕ) → length g ≡ n → sets g 0 (replicate n x) ≡ replicate n x
+fill_all g n x h =
+    let l : 0 + length (replicate n x) ≡ n = rw (length-replicate n x) (omega arith) in
+    sets-eq (replicate n x) g 0 (omega arith) ∙ rw (l, drop_of_length-le g {i = n} (omega arith)) (append-nil (replicate n x))
 
 -- ---- six stores into the globals
 abbrev pub six_words : List ℤ → List ℕ

@@ -147,13 +147,22 @@ fn put_line(list: &mut [u8], at: usize, k: usize, clip: &[i32], found: Found) ->
 
 // ---- a clip's run
 
+// All globals undefined, whatever an earlier clip's rule left in them.
+fn undefine(globals: &mut [u64; 256])
+    ensures { globals.new ≡ replicate 256 undefined_cell }
+{
+    for g in 0..256 {
+        globals[g] = cells::UNDEFINED;
+    }
+}
+
 // The clip's first six words, and no word that an earlier clip's rule left.
 fn set_globals(clip: &[i32], globals: &mut [u64; 256])
     requires { 8 ≤ length clip.now }
     ensures globals_after { globals.new ≡ clip_globals clip.now }
     ensures all_fit { AllFit globals.new }
 {
-    globals.fill(cells::UNDEFINED);
+    undefine(globals);
     for n in 0..6 {
         globals[n] = word_cell(clip, n);
     }

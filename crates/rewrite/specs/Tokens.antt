@@ -1,6 +1,8 @@
 -- Code of a tree file as codes and operand bytes one after the other, whatever lists they stand in; and with new indices.
 use Rattle.std.specs.Prelude.{ℕ, ◌<◌, ◌≡◌, cond, ◌||◌, List, [], ◌∷◌, ◌++◌, length, get_or, eqb, ltb}
 use Rattle.files.specs.Codes.{shape_of}
+use Rattle.lists.specs.declared.Shape.{Shape}
+use Rattle.lists.specs.declared.Shape.TheVariants.{End, Plain, Branch, Save, NoCode}
 use Rattle.files.specs.Code.{Code, done, neutral, return, call, unless_false, make_cont}
 use Rattle.files.specs.Valid.{Bytes}
 use Rattle.files.specs.Linear.{bits_of}
@@ -47,6 +49,14 @@ tokens_bits (t ∷ ts) = token_bits t ++ tokens_bits ts
 -- how many operand bytes follow a code of a shape in a tree
 unfoldable pub operand_count : ℕ → ℕ
 operand_count k = cond (eqb k 2 || eqb k 5) 1 (cond (eqb k 3) 2 0)
+
+-- how many follow a code of this shape: as many as a Plain one says, and the one of a Save
+unfoldable pub operands_told : Shape → ℕ
+operands_told End = 0
+operands_told (Plain n) = n
+operands_told Branch = 0
+operands_told Save = 1
+operands_told NoCode = 0
 
 -- what a token of a list that was read is like
 pub record TokenOk (t : Token) : Type 0 where

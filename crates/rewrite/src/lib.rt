@@ -8,15 +8,16 @@ ghost use Rattle.bit_writer.specs.Put.{put_bits};
 ghost use Rattle.tree_file.specs.File.{operands_bits};
 ghost use Rattle.lists.specs.Shapes.{Numbered};
 ghost use Rattle.lists.specs.Pass.{operands_at};
-ghost use Rattle.rewrite.specs.Tokens.{operand_count, index_in, new_operand, new_operands, tokens_bits, renewed, TokensAt};
+ghost use Rattle.rewrite.specs.Tokens.{operand_count, operands_told, index_in, new_operand, new_operands, tokens_bits, renewed, TokensAt};
 
 use cells::BitPlace;
 use lists::Shape;
 
 // How many operand bytes follow a code of this shape.
-#[tactic(auto, unfolding(crate::specs::Tokens::operand_count, lists::specs::Shapes::Numbered))]
+#[tactic(auto, unfolding(crate::specs::Tokens::operands_told, crate::specs::Tokens::operand_count, lists::specs::Shapes::Numbered))]
 pub fn operand_count(shape: Shape) -> usize
-    ensures { (k : ℕ) → Numbered shape k → result ≡ operand_count k }
+    ensures told { result ≡ operands_told shape }
+    ensures by_number { (k : ℕ) → Numbered shape k → result ≡ operand_count k }
 {
     match shape {
         Shape::Plain(operands) => operands,

@@ -7,7 +7,7 @@ use mathlib.Core.List.{List}
 use mathlib.Core.Option.{Option, none, some}
 use Prim.Native.Nat.{ℕ, zero, suc, ◌+◌, ◌-◌, ◌<◌, ◌≤◌}
 use native.Mathlib.Omega.{arith}
-use lib.Dec.{eqb, ltb}
+use lib.Dec.{eqb}
 use lib.IntN.{ℤ}
 use lib.ListN.{get_or, take}
 use borrow.Author.Tests.{lt-ltb, le-ltb, eq-eqb, ne_eqb}
@@ -24,7 +24,7 @@ use Rattle.rules.specs.laws.Clean.{plain_fit}
 use Rattle.rules.specs.laws.Lists.{by_lt}
 use Rattle.rules.specs.Rules.{walk, found, top, under, emptied, integer_rule, add_rule, two_integers, divided, plain_rule}
 use Rattle.rules.specs.Owned.{may_do, owned_rule, without_right, by_right, owned_ok}
-use Rattle.rules.specs.Answers.{found_at, layer_of, integer_by, RangedFits, operands_of}
+use Rattle.rules.specs.Answers.{found_at, integer_by, RangedFits, operands_of}
 use Rattle.rules.specs.declared.Regs.{Regs}
 use Rattle.rules.specs.declared.Plain.{Plain}
 use Rattle.rules.specs.declared.Wrong.{Wrong}
@@ -37,46 +37,27 @@ passed (Ok x) w h = absurd h.1
 passed (Err x) w h = let e : x ≡ w = h.1 in rw e
 
 -- ---- the walk out through the layers
+pub walk_none : (s : List ℕ) (e n p : ℕ) → e ≡ 0 → walk s e n p ≡ none
+unfolding walk
+walk_none s e zero p h = rw (eq-eqb e 0 h)
+walk_none s e (suc n) p h = rw (eq-eqb e 0 h)
+
+pub walk_here : (s : List ℕ) (e n p : ℕ) → (e ≡ 0 → ⊥) → n ≡ 0 → p < layer_count (get_or s (e - 1) 0) → walk s e n p ≡ some (e + p)
+unfolding walk
+walk_here s e n p h k l = rw (k, ne_eqb e 0 h, lt-ltb p _ l)
+
+pub walk_over : (s : List ℕ) (e n p : ℕ) → (e ≡ 0 → ⊥) → n ≡ 0 → layer_count (get_or s (e - 1) 0) ≤ p → walk s e n p ≡ none
+unfolding walk
+walk_over s e n p h k l = rw (k, ne_eqb e 0 h, le-ltb p _ l)
+
+pub walk_out : (s : List ℕ) (e n p : ℕ) → (e ≡ 0 → ⊥) → (n ≡ 0 → ⊥) → walk s (layer_parent (get_or s (e - 1) 0)) (n - 1) p ≡ walk s e n p
+unfolding walk
+walk_out s e n p h k = let a : n ≡ suc (n - 1) = omega arith in sym (ap (λ (x : ℕ). walk s e x p) a ∙ rw (ne_eqb e 0 h))
+
+-- ---- on by what was found
 absurd_answer : {A : Type 0} {B : Type 0} {x : A} {w : Wrong} → ◌≡◌ {A = Result A Wrong} (Ok x) (Err w) → B
 absurd_answer e = let z : ◌≡◌ {A = ℕ} 0 1 = cc in absurd (omega arith)
 
-named : (s : List ℕ) (e c : ℕ) → layer_of s e ≡ Ok c → (eqb e 0 ≡ false) × (get_or s (e - 1) 0 ≡ c)
-unfolding layer_of
-named s e c = pick (eqb e 0)
-  where
-    pick : (b : Bool) → cond b (Err BeyondLayers) (Ok (get_or s (e - 1) 0)) ≡ Ok c → (b ≡ false) × (get_or s (e - 1) 0 ≡ c)
-    pick true h = absurd_answer (sym h)
-    pick false h = (refl, cc)
-
-pub walk_none : (s : List ℕ) (e n p : ℕ) (w : Wrong) → layer_of s e ≡ Err w → found_at (walk s e n p) ≡ Err w
-unfolding layer_of found_at walk
-walk_none s e zero p w = pick (eqb e 0)
-  where
-    pick : (b : Bool) → cond b (Err BeyondLayers) (Ok (get_or s (e - 1) 0)) ≡ Err w
-        → found_at (cond b none (cond (ltb p (layer_count (get_or s (e - 1) 0))) (some (e + p)) none)) ≡ Err w
-    pick true h = h
-    pick false h = absurd_answer h
-walk_none s e (suc n) p w = pick (eqb e 0)
-  where
-    pick : (b : Bool) → cond b (Err BeyondLayers) (Ok (get_or s (e - 1) 0)) ≡ Err w
-        → found_at (cond b none (walk s (layer_parent (get_or s (e - 1) 0)) n p)) ≡ Err w
-    pick true h = h
-    pick false h = absurd_answer h
-
-module _ (s : List ℕ) (e n p c : ℕ) (h : layer_of s e ≡ Ok c) where
-  pub walk_here : n ≡ 0 → p < layer_count c → found_at (walk s e n p) ≡ Ok (e + p)
-  unfolding found_at walk
-  walk_here k l = let q = named s e c h in rw (k, q.0, q.1, lt-ltb p _ l)
-
-  pub walk_over : n ≡ 0 → layer_count c ≤ p → found_at (walk s e n p) ≡ Err BeyondLayers
-  unfolding found_at walk
-  walk_over k l = let q = named s e c h in rw (k, q.0, q.1, le-ltb p _ l)
-
-  pub walk_out : (n ≡ 0 → ⊥) → walk s (layer_parent c) (n - 1) p ≡ walk s e n p
-  unfolding walk
-  walk_out k = let q = named s e c h in let a : n ≡ suc (n - 1) = omega arith in sym (ap (λ (x : ℕ). walk s e x p) a ∙ rw (q.0, q.1))
-
--- ---- on by what was found
 pub found_beyond : (o : Option ℕ) (w : Wrong) (f : ℕ → Res Held) → found_at o ≡ Err w → found o f ≡ wrong (wrong_number w)
 unfolding found_at
 found_beyond none w f e = let k : BeyondLayers ≡ w = cc in rw (← k)

@@ -1,5 +1,5 @@
 -- What the functions answer.
-use Rattle.std.specs.Prelude.{cond, ◌&&◌, List, ℕ, ◌+◌, ◌-◌, ◌<◌, get_or, eqb, Result, Ok, Err}
+use Rattle.std.specs.Prelude.{cond, ◌&&◌, ℕ, ◌<◌, eqb, Result, Ok, Err}
 use Rattle.std.specs.Prelude as std
 use Rattle.std.proofs.Math.Option.{Option, none, some}
 use Rattle.cells.specs.Cells.{full, tag_of, int_cell, int_of}
@@ -13,10 +13,6 @@ use Rattle.cells.specs.Numbers.{out_of_range}
 -- how a rule ends that begins with the cells m and the registers r
 abbrev pub ends : (Mem → Regs → Res Held) → Mem → Regs → Out
 ends rule m r = told m (rule m r)
-
--- the cell of the layer that environment e names; 13 where it names none
-unfoldable pub layer_of : List ℕ → ℕ → Result ℕ Wrong
-layer_of s e = cond (eqb e 0) (Err BeyondLayers) (Ok (get_or s (e - 1) 0))
 
 -- where a place is held, or wrong 13 beyond
 unfoldable pub found_at : Option ℕ → Result ℕ Wrong

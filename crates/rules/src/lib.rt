@@ -7,7 +7,7 @@ ghost use Rattle.rules.specs.WrongNumber.{wrong_number};
 ghost use Rattle.rules.specs.declared.Wrong.TheVariants.{Kind};
 ghost use Rattle.rules.specs.State.{Mem, mem, regs, answered, out};
 ghost use Rattle.rules.specs.Fit.{Fit, EndFit, CallFit};
-ghost use Rattle.rules.specs.Answers.{ends, found_at, layer_of, integer_by, RangedFits, operands_of, OperandsFit};
+ghost use Rattle.rules.specs.Answers.{ends, found_at, integer_by, RangedFits, operands_of, OperandsFit};
 ghost use Rattle.rules.specs.Rules.{literal_rule, closure_rule, held_rule, walk, local_rule, set_local_rule};
 ghost use Rattle.rules.specs.Rules.{push_rule, make_env_rule, check_args_rule, cons_rule, top, part_rule, car_rule, cdr_rule, eqv_rule, add_rule, sub_rule};
 ghost use Rattle.rules.specs.Rules.{less_rule};
@@ -175,30 +175,27 @@ fn set_global(owner: Owner, globals: &mut [u64; 256], g: u8, r: Regs) -> Result<
 
 // ---- local, set-local!
 
-// The cell of the layer that environment e names.
-fn layer(store: &[u64; 2048], e: u16) -> Result<u64, Wrong>
-    ensures { result ≡ layer_of store.now e }
-{
-    if e == 0 {
-        Err(Wrong::BeyondLayers)
-    } else {
-        Ok(fetch(store, e as usize - 1))
-    }
-}
-
 // Where a local is held.
 fn find_local(store: &[u64; 2048], env: u16, layers: u8, place: u8) -> Result<usize, Wrong>
     ensures { result ≡ found_at (walk store.now env layers place) }
 {
     let mut e = env;
-    for _ in 0..layers {
-        e = cells::layer_parent(layer(store, e)?);
-    }
-    if place < cells::layer_count(layer(store, e)?) {
-        Ok(e as usize + place as usize)
-    } else {
-        Err(Wrong::BeyondLayers)
-    }
+    let mut left = layers;
+    let found = loop {
+        if e == 0 {
+            break Err(Wrong::BeyondLayers);
+        }
+        let layer = fetch(store, e as usize - 1);
+        if left == 0 {
+            if place < cells::layer_count(layer) {
+                break Ok(e as usize + place as usize);
+            }
+            break Err(Wrong::BeyondLayers);
+        }
+        e = cells::layer_parent(layer);
+        left = left - 1;
+    };
+    found
 }
 
 fn local(store: &[u64; 2048], a: u8, b: u8, r: Regs) -> Result<Regs, Wrong>

@@ -83,7 +83,7 @@ module _ (own : Owner) (P : Program) (g s t g' s' t' f : List ℕ) (i : Plain) (
       → Taken (form_of p) (Wrong w) (memory g s t f) (memory g' s' t' f) (act own P (plain i (number p)) (state_of r c (memory g s t f)))
   unfolding act bind
   plain_stops w h =
-      let a = told_wrong (mem g s t) (mem g' s' t') w (owned_rule own i (mem g s t) r) (rw h at e) in
+      let a = told_wrong (mem g s t) (mem g' s' t') (wrong_number w) (owned_rule own i (mem g s t) r) (rw h at e) in
       rw a.0 (stops _ w _ _ _ refl (ap (λ (m : Mem). memory m.globals m.stack m.store f) a.1))
 
 -- ---- call
@@ -98,7 +98,7 @@ module _ (own : Owner) (P : Program) (m : Memory) (n : ℕ) (r : Regs) (c : Cont
 
   pub call_stops : (w : What) → y ≡ Err w → Taken (form_of c.place) (Wrong w) m m (act own P (calls n) (state_of r c m))
   unfolding act bind
-  call_stops w h = rw (called_wrong w (call_rule n r) (rw h at e)) (stops _ w m m _ refl refl)
+  call_stops w h = rw (called_wrong (wrong_number w) (call_rule n r) (rw h at e)) (stops _ w m m _ refl refl)
 
 -- ---- the conditional, and a jump
 module _ (own : Owner) (P : Program) (m : Memory) (r : Regs) (c : Control) (fit : Fit r) (l : c.fr ≤ 2048) (p : CodePlace) (x : OneStep) where
@@ -142,7 +142,7 @@ module _ (own : Owner) (P : Program) (g s t f s' f' : List ℕ) (n : ℕ) (p u :
       → Taken (form_of u) (Wrong w) (memory g s t f) (memory g s' t f') (act own P (saves n (number p) (number u)) (state_of r c (memory g s t f)))
   unfolding act bind
   save_stops w h =
-      let a = kept_wrong before_save (mem g s' t) f' w _ (rw h at e) in
+      let a = kept_wrong before_save (mem g s' t) f' (wrong_number w) _ (rw h at e) in
       let b : s' ≡ s = ap (λ (m : Mem). m.stack) a.1 in
       rw (← rule_is, a.0) (stops _ w _ _ _ refl (rw (b, a.2)))
 

@@ -5,6 +5,7 @@ use Rattle.files.specs.Reading.{got, refused}
 use Rattle.cells.specs.declared.BitPlace.{BitPlace}
 use Rattle.cells.specs.laws.Laws.{clash}
 use Rattle.files.specs.laws.AllGot.{got_all}
+use Rattle.owners.specs.Owners.{owner_of}
 use Rattle.owners.specs.declared.Owner.{Owner}
 use Rattle.machines.specs.Runs.{Memory, Ran, ran, refused_run, start_state}
 use Rattle.machines.specs.Start.{zeros, refusal, start_refusal}
@@ -60,6 +61,11 @@ pub file_refused : (s : List ℕ) (x : Result (BitPlace × ℕ × ℕ) (Refusal 
     → CheckedIs s x → x ≡ Err (why n p) → r ≡ refusal n p → ran r m ≡ on_basic o b m (basic_checked s)
 unfolding on_basic refused_run
 file_refused s x o b m n p r k h e = rw (e, file_judged s x k n p h)
+
+-- ---- the owner of that number
+file_owned : (s : List ℕ) (n : ℕ) (o : Owner) (b : ℕ) (m : Memory) (r : Ran) → o ≡ owner_of n → r ≡ on_basic o b m (basic_checked s)
+    → r ≡ on_basic (owner_of n) b m (basic_checked s)
+file_owned s n o b m r e h = rw e at h
 
 -- ---- a start
 module _ (s : List ℕ) (b n : ℕ) (m : Memory) (x : Result Owner (Refusal ℕ)) (asked : x ≡ start_refusal 1000000 b n m) where

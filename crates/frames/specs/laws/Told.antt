@@ -1,5 +1,5 @@
 -- From what a function answers to how its rule ends. Assumes nothing.
-use Rattle.std.specs.Prelude.{◌≡◌, refl, Bool, cond, List, ℕ, eqb, Some, None, Ok, Err}
+use Rattle.std.specs.Prelude.{◌≡◌, refl, Bool, cond, List, ℕ, eqb, Some, None, Ok}
 use Rattle.std.proofs.Common.{ap, ◌∙◌}
 use Rattle.std.proofs.Math.Bool.{true, false}
 use Rattle.cells.specs.laws.Laws.{clash}
@@ -7,9 +7,7 @@ use Rattle.cells.specs.Cells.{frame_cell, frame_template, frame_place}
 use Rattle.rules.specs.State.{Mem, Res, ok, wrong}
 use Rattle.rules.specs.Rules.{Data, Back, no_frame, back_to, last_frame, without_frame, keep_rule, make_cont_rule, return_rule}
 use Rattle.rules.specs.declared.Regs.{Regs}
-use Rattle.rules.specs.WrongNumber.{wrong_number}
-use Rattle.rules.specs.declared.Wrong.{Wrong}
-use Rattle.frames.specs.Ends.{state, Left, Kept, kept, back, told_kept, told_back}
+use Rattle.frames.specs.Ends.{state, Left, left, Kept, kept, back, told_kept, told_back}
 
 pub keep_is : (n t p x : ℕ) (d : Data) → x ≡ frame_cell n t d.regs.env p → keep_rule n x d ≡ make_cont_rule n t p d
 unfolding make_cont_rule
@@ -32,10 +30,11 @@ module _ (d : Data) (m : Mem) (f : List ℕ) where
       rw (a, b, c, g)
   kept_on r k (wrong n) h = clash (cc)
 
-  pub kept_wrong : (w : Wrong) (x : Res Data) → kept (Err w) m f ≡ told_kept d x → (x ≡ wrong (wrong_number w)) × (m ≡ d.mem) × (f ≡ d.frames)
+  -- of any number; `kept (Err w)` leaves `wrong (wrong_number w)`
+  pub kept_wrong : (n : ℕ) (x : Res Data) → left (wrong n) m f ≡ told_kept d x → (x ≡ wrong n) × (m ≡ d.mem) × (f ≡ d.frames)
   unfolding told_kept
-  kept_wrong w (ok e) h = clash (cc)
-  kept_wrong w (wrong k) h = let a : wrong_number w ≡ k = cc in let b : m ≡ d.mem = cc in let c : f ≡ d.frames = cc in (rw a, b, c)
+  kept_wrong n (ok e) h = clash (cc)
+  kept_wrong n (wrong k) h = let a : n ≡ k = cc in let b : m ≡ d.mem = cc in let c : f ≡ d.frames = cc in (rw a, b, c)
 
   back_by : (b : Bool) (r : Regs) (k c : ℕ)
       → back (Some (r, k, c)) m f ≡ told_back d (cond b no_frame (back_to (frame_template (last_frame d)) (frame_place (last_frame d)) (without_frame d)))

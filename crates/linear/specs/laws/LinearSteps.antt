@@ -192,7 +192,8 @@ unfolding linear_told checked_told
 checked_read (got ts q) h = refl
 checked_read (refused n p) h = clash (cc)
 
-pub checked_refused : (g : Got (List Linear)) {n : ℕ} {p : BitPlace} → linear_told g ≡ Err (refusal n p) → Err (refusal n p.0) ≡ checked_told g
+pub checked_refused : (g : Got (List Linear)) {n number place : ℕ} {p : BitPlace} → linear_told g ≡ Err (refusal n p) → number ≡ n → place ≡ p.0
+    → Err (refusal number place) ≡ checked_told g
 unfolding linear_told checked_told
-checked_refused (got ts q) h = clash (cc)
-checked_refused (refused m z) {n} {p} h = rw (err_number h, ← (err_place h))
+checked_refused (got ts q) h e f = clash (cc)
+checked_refused (refused m z) h e f = rw (e, f, err_number h, ← (err_place h))

@@ -1,5 +1,5 @@
 -- `pull::set_globals` meets its contract: all undefined, then the first n words stored. Assumes nothing.
-use Rattle.std.proofs.Common.{◌≡◌, refl, ◌∙◌, ap, arith, length-set, replicate}
+use Rattle.std.proofs.Common.{◌≡◌, refl, arith, length-set}
 use Rattle.std.proofs.lemmas.List.{length-replicate}
 use Rattle.cells.specs.Cells.{undefined_cell}
 use Rattle.pull.proofs.Clips.{store_next, all_stored, undefined_fit, fit_set}
@@ -7,8 +7,7 @@ use Rattle.pull.proofs.set_globals.Goals as goal
 
 pub loop-n-init : goal.loop-n-init
 loop-n-init c =
-    let all = c.fill.ensures.after (λ y e. e) ∙ ap (λ n. replicate n undefined_cell) c.told-globals in
-    rw all (length-replicate 256 undefined_cell, refl, undefined_fit 256)
+    rw c.undefine.ensures (length-replicate 256 undefined_cell, refl, undefined_fit 256)
 
 pub loop-n-preserved : goal.loop-n-preserved
 loop-n-preserved c =

@@ -35,7 +35,7 @@ put_code-there-requires c =
     let v = c.loop-left.invariant in
     let l = v.2 p.tokens_at in
     let k = left_code _ _ _ _ l c.loop-left-test.true in
-    let counted = c.operand_count-count.ensures _ c.shape_of.ensures in
+    let counted = c.operand_count-count.ensures.by_number _ c.shape_of.ensures in
     let m = left_operands _ _ _ _ l c.loop-left-test.true _ _ c.bits_at-code.ensures.0 counted in
     let e = c.put_field-there.ensures in
     let g = ap length e.1 ∙ put_length _ _ _ in record { s_len_bound = (p.s_len_bound.0, omega (arith, g, v.0, p.s_len_bound.1), left_small _ _ _ _ l c.loop-left-test.true _ 0 c.bits_at-code.ensures.0, m.1); count_bound = (omega (arith, k, m), omega (arith, m, v.0, v.1, g, e.0, p.s_len_bound.2)) }
@@ -46,7 +46,7 @@ past-here-requires c =
     let v = c.loop-left.invariant in
     let l = v.2 p.tokens_at in
     let k = left_code _ _ _ _ l c.loop-left-test.true in
-    let counted = c.operand_count-count.ensures _ c.shape_of.ensures in
+    let counted = c.operand_count-count.ensures.by_number _ c.shape_of.ensures in
     let m = left_operands _ _ _ _ l c.loop-left-test.true _ _ c.bits_at-code.ensures.0 counted in
     omega (arith, k, m, p.s_len_bound.0)
 
@@ -56,7 +56,7 @@ overflow_sub-left c =
     let v = c.loop-left.invariant in
     let l = v.2 p.tokens_at in
     let k = left_code _ _ _ _ l c.loop-left-test.true in
-    let counted = c.operand_count-count.ensures _ c.shape_of.ensures in
+    let counted = c.operand_count-count.ensures.by_number _ c.shape_of.ensures in
     let m = left_operands _ _ _ _ l c.loop-left-test.true _ _ c.bits_at-code.ensures.0 counted in
     omega (arith, k, m, p.s_len_bound.0)
 
@@ -66,7 +66,7 @@ loop-left-preserved c =
     let v = c.loop-left.invariant in
     let l = v.2 p.tokens_at in
     let k = left_code _ _ _ _ l c.loop-left-test.true in
-    let counted = c.operand_count-count.ensures _ c.shape_of.ensures in
+    let counted = c.operand_count-count.ensures.by_number _ c.shape_of.ensures in
     let m = left_operands _ _ _ _ l c.loop-left-test.true _ _ c.bits_at-code.ensures.0 counted in
     let e = c.put_field-there.ensures in
     let g = ap length e.1 ∙ put_length _ _ _ in

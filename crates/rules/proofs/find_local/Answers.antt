@@ -1,27 +1,34 @@
--- `rules::find_local` meets its contract. Assumes nothing.
-use mathlib.Core.Path.{◌≡◌, sym, ◌∙◌}
-use Prim.Native.Nat.{◌-◌, ◌+◌}
+-- `rules::find_local` meets its contract. The invariant: the walk from here finds what the walk from the start finds. Assumes nothing.
 use native.Mathlib.Omega.{arith}
-use Rattle.rules.proofs.Laws.{passed, walk_none, walk_here, walk_over, walk_out}
+use Rattle.rules.specs.Answers.{found_at}
+use Rattle.rules.proofs.Laws.{walk_none, walk_here, walk_over, walk_out}
 use Rattle.rules.proofs.find_local.Goals as goal
 
-pub returns-in_err-layer : goal.returns-in_err-layer
-returns-in_err-layer c =
-    rw (passed _ _ c.from_residual.ensures, ← c.loop.invariant, walk_none _ _ _ _ _ (sym c.layer.ensures ∙ c.in_err-layer.was))
+pub loop-e-preserved : goal.loop-e-preserved
+loop-e-preserved c = (
+  omega (arith, c.layer_parent-e.ensures),
+  omega arith,
+  cc (walk_out c.args.store.now c.loop-e.e c.loop-e.left c.args.place c.if-e-eq0.false c.if-left-eq0.false),
+)
 
-pub loop-preserved : goal.loop-preserved
-loop-preserved c =
-    let rest : c.args.layers - (c.loop.counter + 1) ≡ c.args.layers - c.loop.counter - 1 = omega arith in
-    rw (c.layer_parent-e.ensures, rest, walk_out _ _ (c.args.layers - c.loop.counter) _ _ (sym c.layer.ensures ∙ c.in_ok-layer.was) (λ e. omega arith)) c.loop.invariant
+pub returns-then-e-eq0 : goal.returns-then-e-eq0
+unfolding found_at
+returns-then-e-eq0 c = rw (← c.loop-e.invariant.2, walk_none _ _ _ _ c.if-e-eq0.true)
 
-pub returns-in_err-layer-2 : goal.returns-in_err-layer-2
-returns-in_err-layer-2 c =
-    rw (passed _ _ c.from_residual-in_err-layer-2.ensures, ← c.loop.invariant, walk_none _ _ _ _ _ (sym c.layer-2.ensures ∙ c.in_err-layer-2.was))
+pub returns-then-place-layer_count : goal.returns-then-place-layer_count
+unfolding found_at
+returns-then-place-layer_count c =
+    rw (
+      ← c.loop-e.invariant.2,
+      walk_here c.args.store.now c.loop-e.e c.loop-e.left c.args.place c.if-e-eq0.false
+          c.if-left-eq0.true (omega arith),
+    )
 
-pub returns-then-layer_count : goal.returns-then-layer_count
-returns-then-layer_count c =
-    rw (← c.loop.invariant, walk_here _ _ (c.args.layers - c.loop.counter) _ _ (sym c.layer-2.ensures ∙ c.in_ok-layer-2.was) (omega arith) (rw c.layer_count.ensures at c.if-layer_count.true))
-
-pub returns-else-layer_count : goal.returns-else-layer_count
-returns-else-layer_count c =
-    rw (← c.loop.invariant, walk_over _ _ (c.args.layers - c.loop.counter) _ _ (sym c.layer-2.ensures ∙ c.in_ok-layer-2.was) (omega arith) (rw c.layer_count.ensures at c.if-layer_count.false))
+pub returns-else-place-layer_count : goal.returns-else-place-layer_count
+unfolding found_at
+returns-else-place-layer_count c =
+    rw (
+      ← c.loop-e.invariant.2,
+      walk_over c.args.store.now c.loop-e.e c.loop-e.left c.args.place c.if-e-eq0.false
+          c.if-left-eq0.true (omega arith),
+    )

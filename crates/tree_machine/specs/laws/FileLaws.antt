@@ -16,6 +16,7 @@ use Rattle.lists.specs.declared.Keep.TheVariants.{Pasts}
 use Rattle.tree.specs.Marked.{marked_all, templates_marked}
 use Rattle.tree.specs.laws.Laid.{short, template_has}
 use Rattle.links.specs.TreeSteps.{linked_from, FileReady, FileMarked}
+use Rattle.owners.specs.Owners.{owner_of}
 use Rattle.owners.specs.declared.Owner.{Owner}
 use Rattle.machines.specs.Runs.{Memory, Ran, ran, refused_run, start_state, on_tree}
 use Rattle.machines.specs.Slots.{slot_at}
@@ -79,3 +80,8 @@ pub file_refused : (s : List ℕ) (x : Result Summary (Refusal ℕ)) (o : Owner)
     → ran r m ≡ on_tree o b m (tree_accepted s)
 unfolding on_tree refused_run
 file_refused s x o b m n p r e h k = rw (k, judged_refused (tree_accepted s) (sym e ∙ h))
+
+-- ---- the owner of that number
+pub file_owned : (s : List ℕ) (n : ℕ) (o : Owner) (b : ℕ) (m : Memory) (r : Ran) → o ≡ owner_of n → r ≡ on_tree o b m (tree_accepted s)
+    → r ≡ on_tree (owner_of n) b m (tree_accepted s)
+file_owned s n o b m r e h = rw e at h

@@ -29,7 +29,7 @@ mark_code-requires c =
     let l = v p.1 in
     let t = c.loop-left-test.true in
     let k = marking_code l t in
-    let counted = c.operand_count-count.ensures _ c.shape_of.ensures in
+    let counted = c.operand_count-count.ensures.by_number _ c.shape_of.ensures in
     let m = marking_operands l t _ _ c.bits_at-code.ensures.0 counted in
     (p.0, marking_index l t _ _ c.bits_at-code.ensures.0 counted)
 
@@ -40,7 +40,7 @@ overflow_mul-count c =
     let l = v p.1 in
     let t = c.loop-left-test.true in
     let k = marking_code l t in
-    let counted = c.operand_count-count.ensures _ c.shape_of.ensures in
+    let counted = c.operand_count-count.ensures.by_number _ c.shape_of.ensures in
     let m = marking_operands l t _ _ c.bits_at-code.ensures.0 counted in omega (arith, k, m, p.0)
 
 pub overflow_add-count : goal.overflow_add-count
@@ -50,7 +50,7 @@ overflow_add-count c =
     let l = v p.1 in
     let t = c.loop-left-test.true in
     let k = marking_code l t in
-    let counted = c.operand_count-count.ensures _ c.shape_of.ensures in
+    let counted = c.operand_count-count.ensures.by_number _ c.shape_of.ensures in
     let m = marking_operands l t _ _ c.bits_at-code.ensures.0 counted in omega (arith, k, m, p.0)
 
 pub past-here-requires : goal.past-here-requires
@@ -60,7 +60,7 @@ past-here-requires c =
     let l = v p.1 in
     let t = c.loop-left-test.true in
     let k = marking_code l t in
-    let counted = c.operand_count-count.ensures _ c.shape_of.ensures in
+    let counted = c.operand_count-count.ensures.by_number _ c.shape_of.ensures in
     let m = marking_operands l t _ _ c.bits_at-code.ensures.0 counted in omega (arith, k, m, p.0)
 
 pub overflow_sub-left : goal.overflow_sub-left
@@ -70,7 +70,7 @@ overflow_sub-left c =
     let l = v p.1 in
     let t = c.loop-left-test.true in
     let k = marking_code l t in
-    let counted = c.operand_count-count.ensures _ c.shape_of.ensures in
+    let counted = c.operand_count-count.ensures.by_number _ c.shape_of.ensures in
     let m = marking_operands l t _ _ c.bits_at-code.ensures.0 counted in
     omega (arith, k, m, p.0)
 
@@ -81,7 +81,7 @@ loop-left-preserved c =
     let l = v p.1 in
     let t = c.loop-left-test.true in
     let k = marking_code l t in
-    let counted = c.operand_count-count.ensures _ c.shape_of.ensures in
+    let counted = c.operand_count-count.ensures.by_number _ c.shape_of.ensures in
     let m = marking_operands l t _ _ c.bits_at-code.ensures.0 counted in
     let e = c.mark_code.ensures in
     λ w. rw c.past-here.ensures (marking_on (v w) t _ _ c.bits_at-code.ensures.0 counted _ e)
